@@ -1,0 +1,62 @@
+-- The columns of a line, and where they stand in it.
+use Prim.Native.Nat.{ℕ, suc, _+_}
+use mathlib.Core.Path.{_≡_, refl}
+use mathlib.Core.List.{List, [], _∷_, _++_, map}
+use mathlib.Core.Bool.{Bool, cond}
+use lib.Dec.{eqb}
+use lib.ListN.{length, getD, take, replicate}
+use Rattle.laws.specs.Text.{ascii}
+use Rattle.lines.specs.declared.columns.Columns.{Columns}
+
+-- the byte TAB
+abbrev pub tab : ℕ
+tab = 9
+
+-- the columns of a line that goes on with these bytes, after the bytes c of its first column
+unfoldable pub columnsFrom : List ℕ → List ℕ → List (List ℕ)
+columnsFrom c [] = c ∷ []
+columnsFrom c (b ∷ bs) = cond (eqb b tab) (c ∷ columnsFrom [] bs) (columnsFrom (c ++ b ∷ []) bs)
+
+-- 01: "Columns are divided by TAB"
+unfoldable pub columnsOf : List ℕ → List (List ℕ)
+columnsOf line = columnsFrom [] line
+
+-- column k, from 0; one that isn't there reads as empty
+abbrev pub columnAt : List (List ℕ) → ℕ → List ℕ
+columnAt columns k = getD columns k []
+
+-- where a column starts, and one past its last byte
+pub record Place : Type 0 where
+  pub start : ℕ
+  pub end : ℕ
+
+-- the places of columns of which the first starts at a: each next one starts after the TAB that ends it
+unfoldable pub placesFrom : ℕ → List (List ℕ) → List Place
+placesFrom a [] = []
+placesFrom a (c ∷ cs) = record { start = a; end = a + length c } ∷ placesFrom (a + length c + 1) cs
+
+unfoldable pub placesOf : List ℕ → List Place
+placesOf line = placesFrom 0 (columnsOf line)
+
+-- the first n numbers of a list, and 0 for each that is missing
+unfoldable pub firsts : ℕ → List ℕ → List ℕ
+firsts n l = take n (l ++ replicate n 0)
+
+-- the places of a line's columns as they are handed on: of the first 24, and the number of all
+unfoldable pub divided : List ℕ → Columns
+divided line =
+    record {
+      starts = firsts 24 (map (λ p. p .start) (placesOf line));
+      ends = firsts 24 (map (λ p. p .end) (placesOf line));
+      count = length (columnsOf line);
+    }
+
+pub record Examples : Type 0 where
+  pub columns : columnsOf (65 ∷ 66 ∷ 9 ∷ 9 ∷ 67 ∷ []) ≡ ascii "AB" ∷ [] ∷ ascii "C" ∷ []
+  pub places : placesOf (65 ∷ 66 ∷ 9 ∷ 9 ∷ 67 ∷ [])
+      ≡ record { start = 0; end = 2 } ∷ record { start = 3; end = 3 } ∷ record { start = 4; end = 5 } ∷ []
+  pub empty-line : columnsOf [] ≡ [] ∷ []
+
+pub examples : Examples
+unfolding columnsOf columnsFrom placesOf placesFrom
+examples = record { columns = refl; places = refl; empty-line = refl }
