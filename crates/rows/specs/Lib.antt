@@ -1,0 +1,5 @@
+pub mod Values
+pub mod Records
+pub mod Width
+pub mod Contradictions
+pub mod Formed

@@ -1,0 +1,57 @@
+-- The reasons of a column, case by case as the code tells them apart. Assumes nothing.
+use mathlib.Core.Path.{_≡_, refl, ap, sym, _∙_}
+use mathlib.Core.List.{List, [], _∷_}
+use mathlib.Core.Bool.{Bool, true, false, cond, _&&_}
+use mathlib.Core.Option.{Option, some, none}
+use Prim.Native.Nat.{ℕ, _≤_, _<_}
+use native.Mathlib.Omega.{arith}
+use lib.Dec.{eqb, ltb, lit≤}
+use lib.ListN.{length, getD}
+use lib.IntN.{ℤ}
+use lib.Signed.{leZ}
+use Rattle.laws.proofs.Cases.{cond-cases}
+use Rattle.numbers.specs.Number.{numberOf}
+use Rattle.schemas.specs.Schema.{Kind, anyText, aNumber, aLetter, Column}
+use Rattle.schemas.specs.Reasons.{isIn, listed, numberReason, kindReason, columnReason}
+
+pub listed-one : (letters text : List ℕ) → length text ≡ 1 → listed letters text ≡ isIn (getD text 0 0) letters
+unfolding listed
+listed-one letters [] h = absurd (omega arith)
+listed-one letters (b ∷ []) h = refl
+listed-one letters (b ∷ x ∷ bs) h = absurd (omega arith)
+
+pub listed-not-one : (letters text : List ℕ) → (length text ≡ 1 → ⊥) → listed letters text ≡ false
+unfolding listed
+listed-not-one letters [] h = refl
+listed-not-one letters (b ∷ []) h = absurd (h refl)
+listed-not-one letters (b ∷ x ∷ bs) h = refl
+
+-- an empty column, and one that isn't
+pub empty-reason : (column : Column) (text : List ℕ) → length text ≡ 0 → columnReason column text ≡ cond (column .mandatory) 4 0
+unfolding columnReason
+empty-reason column [] h = refl
+empty-reason column (b ∷ bs) h = absurd (omega arith)
+
+pub full-reason : (column : Column) (text : List ℕ) → (length text ≡ 0 → ⊥)
+    → columnReason column text ≡ cond (ltb (column .width) (length text)) 5 (kindReason (column .kind) text)
+unfolding columnReason
+full-reason column [] h = absurd (h refl)
+full-reason column (b ∷ bs) h = refl
+
+-- no reason of a column is above 7
+number-small : (lowest highest : ℤ) (n : Option ℤ) → numberReason lowest highest n ≤ 7
+unfolding numberReason
+number-small lowest highest none = lit≤ tt
+number-small lowest highest (some v) = cond-cases (λ (x : ℕ). x ≤ 7) (leZ lowest v && leZ v highest) (λ _. lit≤ tt) (λ _. lit≤ tt)
+
+kind-small : (k : Kind) (text : List ℕ) → kindReason k text ≤ 7
+unfolding kindReason
+kind-small anyText text = lit≤ tt
+kind-small (aNumber lowest highest) text = number-small lowest highest (numberOf text)
+kind-small (aLetter letters) text = cond-cases (λ (x : ℕ). x ≤ 7) (listed letters text) (λ _. lit≤ tt) (λ _. lit≤ tt)
+
+pub reason-small : (column : Column) (text : List ℕ) → columnReason column text ≤ 7
+unfolding columnReason
+reason-small column [] = cond-cases (λ (x : ℕ). x ≤ 7) (column .mandatory) (λ _. lit≤ tt) (λ _. lit≤ tt)
+reason-small column (b ∷ bs) =
+    cond-cases (λ (x : ℕ). x ≤ 7) (ltb (column .width) (length (b ∷ bs))) (λ _. lit≤ tt) (λ _. kind-small (column .kind) (b ∷ bs))

@@ -1,0 +1,49 @@
+-- The schema of a table as constants keep it: a width, a mark and the number of a kind for each column.
+use Prim.Native.Nat.{ℕ}
+use mathlib.Core.List.{List, [], _∷_}
+use mathlib.Core.Bool.{Bool, cond}
+use lib.Dec.{eqb, ltb}
+use lib.ListN.{getD}
+use lib.IntN.{ℤ, pos, negℤ}
+use Rattle.laws.specs.Text.{ascii}
+use Rattle.schemas.specs.Schema.{Kind, anyText, aNumber, aLetter, Column}
+
+-- the ranges that 01 prints, by the number of their kind; kind 0 is any text
+unfoldable pub lowests : List ℤ
+lowests =
+    pos 0 ∷ pos 0 ∷ pos 0 ∷ pos 0 ∷ pos 1 ∷ negℤ (pos 1) ∷ pos 0 ∷ pos 0 ∷ pos 0 ∷ pos 1 ∷ pos 0 ∷ pos 0 ∷ negℤ (pos 9999) ∷ pos 2 ∷ negℤ (pos 1073741824)
+    ∷ pos 1 ∷ negℤ (pos 2147483648) ∷ pos 1 ∷ pos 1 ∷ []
+
+unfoldable pub highests : List ℤ
+highests =
+    pos 0 ∷ pos 255 ∷ pos 65535 ∷ pos 2147483647 ∷ pos 4294967295 ∷ pos 8191 ∷ pos 32 ∷ pos 8191 ∷ pos 7 ∷ pos 9999 ∷ pos 32767 ∷ pos 99 ∷ pos 65535 ∷ pos 100
+    ∷ pos 1073741823 ∷ pos 999 ∷ pos 4294967295 ∷ pos 99 ∷ pos 16 ∷ []
+
+-- the lists of letters, from kind 19 on
+unfoldable pub lettersAt : ℕ → List ℕ
+lettersAt k =
+    cond (eqb k 19) (ascii "YN")
+    (cond (eqb k 20) (ascii "NST")
+    (cond (eqb k 21) (ascii "RDPHSC")
+    (cond (eqb k 22) (ascii "PF")
+    (cond (eqb k 23) (ascii "IUR")
+    (cond (eqb k 24) (ascii "DHO")
+    (cond (eqb k 25) (ascii "UC")
+    (cond (eqb k 26) (ascii "RAI")
+    (cond (eqb k 27) (ascii "SHDCE") []))))))))
+
+unfoldable pub kindAt : ℕ → Kind
+kindAt k =
+    cond (eqb k 0) anyText
+    (cond (ltb k 19) (aNumber (getD lowests k (pos 0)) (getD highests k (pos 0)))
+    (aLetter (lettersAt k)))
+
+-- a column by its width, its mark, 1 where it is mandatory, and the number of its kind
+abbrev pub columnFrom : ℕ → ℕ → ℕ → Column
+columnFrom width mark kind = record { width = width; mandatory = eqb mark 1; kind = kindAt kind }
+
+unfoldable pub schemaFrom : List ℕ → List ℕ → List ℕ → List Column
+schemaFrom [] ms ks = []
+schemaFrom (w ∷ ws) [] ks = []
+schemaFrom (w ∷ ws) (m ∷ ms) [] = []
+schemaFrom (w ∷ ws) (m ∷ ms) (k ∷ ks) = columnFrom w m k ∷ schemaFrom ws ms ks

@@ -1,0 +1,4 @@
+pub mod Schema
+pub mod Tables
+pub mod Reasons
+pub mod Constants

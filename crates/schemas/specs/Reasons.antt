@@ -1,0 +1,80 @@
+-- Reasons 1 to 7 of a row's verdict.
+use Prim.Native.Nat.{ℕ, suc, _+_, _*_}
+use mathlib.Core.Path.{_≡_, refl}
+use mathlib.Core.List.{List, [], _∷_}
+use mathlib.Core.Bool.{Bool, true, false, not, cond, _||_, _&&_}
+use mathlib.Core.Option.{Option, some, none}
+use lib.Dec.{eqb, leb, ltb}
+use lib.ListN.{length}
+use lib.IntN.{ℤ}
+use lib.Signed.{leZ}
+use Rattle.laws.specs.Lists.{any}
+use Rattle.numbers.specs.Number.{numberOf, meaning, spelt, after, digitOn, digitOf}
+use Rattle.lines.specs.Lines.{Line}
+use Rattle.lines.specs.Columns.{columnsOf, columnsFrom, tab}
+use Rattle.schemas.specs.Schema.{Kind, anyText, aNumber, aLetter, Column}
+use Rattle.schemas.specs.Tables.{schema, cap}
+use Rattle.schemas.specs.declared.Table.the-variants.{Cap}
+
+-- 01: "A verdict is reason × 256 + column"
+abbrev pub verdict : ℕ → ℕ → ℕ
+verdict reason column = reason * 256 + column
+
+-- a reason, if there is one, with its column; else what comes after it
+abbrev pub orElse : ℕ → ℕ → ℕ → ℕ
+orElse reason column later = cond (eqb reason 0) later (verdict reason column)
+
+-- 01: "Columns are divided by TAB; other bytes are 0x20 to 0x7E"
+unfoldable pub allowed : ℕ → Bool
+allowed b = eqb b tab || (leb 0x20 b && leb b 0x7E)
+
+unfoldable pub foreignIn : List ℕ → Bool
+foreignIn line = any (λ b. not (allowed b)) line
+
+-- the byte is one of a list
+unfoldable pub isIn : ℕ → List ℕ → Bool
+isIn b letters = any (eqb b) letters
+
+-- a text of one byte, which is one of a list
+unfoldable pub listed : List ℕ → List ℕ → Bool
+listed letters [] = false
+listed letters (b ∷ []) = isIn b letters
+listed letters (b ∷ c ∷ bs) = false
+
+-- 01: "6 not a number or not a listed letter, 7 out of range"
+unfoldable pub numberReason : ℤ → ℤ → Option ℤ → ℕ
+numberReason lowest highest none = 6
+numberReason lowest highest (some v) = cond (leZ lowest v && leZ v highest) 0 7
+
+unfoldable pub kindReason : Kind → List ℕ → ℕ
+kindReason anyText t = 0
+kindReason (aNumber lowest highest) t = numberReason lowest highest (numberOf t)
+kindReason (aLetter letters) t = cond (listed letters t) 0 6
+
+-- 01: "4 mandatory and empty, 5 too wide"; an empty column that isn't mandatory passes
+unfoldable pub columnReason : Column → List ℕ → ℕ
+columnReason c [] = cond (c .mandatory) 4 0
+columnReason c (b ∷ bs) = cond (ltb (c .width) (length (b ∷ bs))) 5 (kindReason (c .kind) (b ∷ bs))
+
+-- 01: "then by column, left to right": the first reason of the columns, of which the first has the number k
+unfoldable pub firstReason : ℕ → List Column → List (List ℕ) → ℕ
+firstReason k [] texts = 0
+firstReason k (c ∷ cs) [] = 0
+firstReason k (c ∷ cs) (t ∷ texts) = orElse (columnReason c t) k (firstReason (suc k) cs texts)
+
+-- 01: "A row is a line ended by LF, at most 512 bytes before it"
+abbrev pub longestRow : ℕ
+longestRow = 512
+
+-- 01: "1 unterminated or too long, 2 foreign byte, 3 column count, each column 0; then by column, left to right"
+unfoldable pub shape : List Column → Line → ℕ
+shape columns line =
+    cond (not (line .ended) || ltb longestRow (length (line .bytes))) (verdict 1 0)
+    (cond (foreignIn (line .bytes)) (verdict 2 0)
+    (cond (not (eqb (length (columnsOf (line .bytes))) (length columns))) (verdict 3 0)
+    (firstReason 1 columns (columnsOf (line .bytes)))))
+
+-- a cap row: C1, TAB, 5, TAB, 08: "08 is reason 6", at column 3
+pub example : shape (schema Cap) record { bytes = 67 ∷ 49 ∷ 9 ∷ 53 ∷ 9 ∷ 48 ∷ 56 ∷ []; ended = true } ≡ verdict 6 3
+unfolding shape schema cap foreignIn any allowed columnsOf columnsFrom firstReason columnReason kindReason numberReason numberOf meaning spelt after digitOn digitOf
+example = refl

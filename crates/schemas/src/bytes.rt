@@ -1,0 +1,30 @@
+// The bytes that may stand in a row.
+ghost use mathlib.Core.Path.{_≡_};
+ghost use Rattle.schemas.specs.Reasons.{allowed, foreignIn};
+
+fn is_allowed(b: u8) -> bool
+    ensures { λ r. ⌜ r ≡ allowed b ⌝ }
+{
+    if b == b'\t' {
+        return true;
+    }
+    if 0x20 <= b {
+        return b <= 0x7E;
+    }
+    false
+}
+
+// Whether a line has a byte that is neither TAB nor 0x20 to 0x7E.
+pub(crate) fn has_foreign(line: &[u8]) -> bool
+    ensures { λ r. ⌜ r ≡ foreignIn (now (line .entry)) ⌝ }
+{
+    let mut i: usize = 0;
+    while i < line.len() {
+        if is_allowed(line[i]) {
+            i += 1;
+        } else {
+            return true;
+        }
+    }
+    false
+}
