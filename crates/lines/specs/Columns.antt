@@ -1,10 +1,10 @@
 -- The columns of a line, and where they stand in it.
-use Prim.Native.Nat.{ℕ, suc, _+_}
+use Prim.Native.Nat.{ℕ, _+_, _-_}
 use mathlib.Core.Path.{_≡_, refl}
 use mathlib.Core.List.{List, [], _∷_, _++_, map}
-use mathlib.Core.Bool.{Bool, cond}
+use mathlib.Core.Bool.{cond}
 use lib.Dec.{eqb}
-use lib.ListN.{length, getD, take, replicate}
+use lib.ListN.{length, getD, take, drop, set, replicate}
 use Rattle.laws.specs.Text.{ascii}
 use Rattle.lines.specs.declared.columns.Columns.{Columns}
 
@@ -50,6 +50,19 @@ divided line =
       ends = firsts 24 (map (λ p. p .end) (placesOf line));
       count = length (columnsOf line);
     }
+
+-- places with one more column: it is counted, and kept where there is room
+unfoldable pub withColumn : Columns → ℕ → ℕ → Columns
+withColumn c start end =
+    record { starts = set (c .starts) (c .count) start; ends = set (c .ends) (c .count) end; count = c .count + 1 }
+
+-- the bytes of a line from start to before end, as far as the line has them
+abbrev pub partOf : List ℕ → ℕ → ℕ → List ℕ
+partOf line start end = take (end - start) (drop start line)
+
+-- column k of a line at the places handed on; one without a place is empty
+abbrev pub columnIn : List ℕ → Columns → ℕ → List ℕ
+columnIn line c k = partOf line (getD (c .starts) k 0) (getD (c .ends) k 0)
 
 pub record Examples : Type 0 where
   pub columns : columnsOf (65 ∷ 66 ∷ 9 ∷ 9 ∷ 67 ∷ []) ≡ ascii "AB" ∷ [] ∷ ascii "C" ∷ []
