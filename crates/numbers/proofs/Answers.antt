@@ -45,6 +45,7 @@ Says (Value v) n = Told n v
 Says NotNumber n = n ≡ none
 Says Beyond n = Large n
 
+-- each answer says so of the number that it was given for
 pub answer-says : (n : Option ℤ) → Says (answerOf n) n
 unfolding answerOf
 answer-says none = refl
@@ -65,6 +66,7 @@ not-number n e = subst (λ r. Says r n) e (answer-says n)
 pub beyond-large : (n : Option ℤ) → answerOf n ≡ Beyond → Large n
 beyond-large n e = subst (λ r. Says r n) e (answer-says n)
 
+-- a number above, and one below, all that is smaller in magnitude
 above : (n : ℕ) (hi : ℤ) → natAbs hi < n → leZ (pos n) hi ≡ false
 above n (pos b) h = lt-leb n b h
 above n (negsuc b) h = refl

@@ -32,6 +32,7 @@ module _ (s u : Spelling) (t : List ℕ) (some-left : length t ≡ 0 → ⊥) wh
       ap (λ x. answerOf (meaning x))
       (spelt-next s t 0 (omega arith) ∙ ap (λ x. spelt x (drop 1 t)) e ∙ sym (spelt-next u t 0 (omega arith)))
 
+-- what each spelling is with one more character, c
 module _ (c : ℕ) where
   pub start-minus : c ≡ char "-" → after start c ≡ minus
   unfolding after
@@ -68,7 +69,7 @@ minus-zero [] h e = absurd (omega arith)
 minus-zero (b ∷ []) h e = rw e
 minus-zero (b ∷ x ∷ t) h e = absurd (omega arith)
 
--- and 0 with anything after it is none
+-- 0 with anything after it is none: no octal has a minus
 pub minus-zeros : (t : List ℕ) → (length t ≡ 0 → ⊥) → (length t ≡ 1 → ⊥) → getD t 0 0 ≡ char "0" → answered minus t ≡ NotNumber
 unfolding answerOf meaning spelt after
 minus-zeros [] h k e = absurd (h refl)

@@ -20,6 +20,7 @@ use Rattle.numbers.proofs.Signs.{size-minus}
 -- ---- the end of the digits
 
 module _ (base v : ℕ) where
+  -- below 2 ^ 60 the value is answered, with its sign
   pub whole-small : v < 2 ^ 60 → answerOf (meaning (digits base false v)) ≡ Value (pos v)
   unfolding meaning
   whole-small h = answer-small (pos v) h
@@ -28,6 +29,7 @@ module _ (base v : ℕ) where
   unfolding meaning
   minus-small h = answer-small (negℤ (pos v)) (rw (size-minus v) h)
 
+  -- from 2 ^ 60 on only that it is beyond
   pub large : (negative : Bool) → 2 ^ 60 ≤ v → answerOf (meaning (digits base negative v)) ≡ Beyond
   unfolding meaning
   large false h = answer-large (pos v) h
@@ -59,6 +61,7 @@ module _ (base : ℕ) (negative : Bool) where
       (λ e. alike (v * base + digitOf c) (w * base + digitOf c) t (grows v h (ltb-true _ _ e)) (grows w k (ltb-true _ _ e)))
       (λ e. refl)
 
+  -- a character that is a digit of the base, and one that isn't
   taken : (v c : ℕ) → digitOf c < base → after (digits base negative v) c ≡ digits base negative (v * base + digitOf c)
   unfolding after digitOn
   taken v c h = rw (lt-ltb (digitOf c) base h)

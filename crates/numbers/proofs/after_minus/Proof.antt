@@ -1,4 +1,5 @@
 -- `numbers::after_minus` meets its contract: 0 stands alone, and any other character must be a decimal digit. Assumes nothing.
+use native.Mathlib.Omega.{arith}
 use mathlib.Core.Path.{sym, _∙_}
 use Rattle.numbers.specs.Number.{minus, meaning, answerOf}
 use Rattle.numbers.proofs.Firsts.{no-first, first-alike, minus-zero, minus-zeros, minus-digit}
@@ -14,10 +15,10 @@ shared-slice-read-if2 : tie.Need-shared-slice-read-if2
 shared-slice-read-if2 c = search needs
 
 returns-2 : tie.Need-returns-2
-returns-2 c = sym (minus-zero _ (c .if3 .taken) (c .before .if2 .taken))
+returns-2 c = sym (minus-zero (c .before .before .before .before .before .args .text .now) (omega arith) (omega arith))
 
 returns-3 : tie.Need-returns-3
-returns-3 c = sym (minus-zeros _ (c .before .before .before .if1 .left) (c .if3 .left) (c .before .if2 .taken))
+returns-3 c = sym (minus-zeros (c .before .before .before .before .before .args .text .now) (omega arith) (omega arith) (omega arith))
 
 read-digits-requires : tie.Need-read-digits-requires
 read-digits-requires c κs = search needs
