@@ -185,6 +185,11 @@ column-is line c k e h =
     )
     (parts-from line [] [] k)
 
+-- all columns are counted, those past the room too
+pub count-is : (line : List ℕ) (c : Columns) → c ≡ divided line → c .count ≡ length (columnsOf line)
+unfolding divided
+count-is line c e = ap (λ (d : Columns). d .count) e
+
 -- The columns themselves
 
 some-from : (c l : List ℕ) → 1 ≤ length (columnsFrom c l)

@@ -52,36 +52,10 @@ unfolding linesOf lineLength lead onFirst
 first-line b [] = cond-cases₂ (λ (ls : List Line) (n : ℕ). ls ≡ headed (b ∷ []) n) (eqb b 10) (λ _. refl) (λ _. refl)
 first-line b (c ∷ cs) = lead-headed b c (lineLength (c ∷ cs)) cs (first-line c cs)
 
-module _ (table : List ℕ) (from : ℕ) where
-  -- past the end there are no lines
-  pub lines-none : length table ≤ from → linesOf (drop from table) ≡ []
-  unfolding linesOf
-  lines-none h = rw (drop-of-length-le table h)
-
-  -- what is left is the line that `nextLine` bounds, and the lines from its next place on
-  pub lines-next : from < length table
-      → linesOf (drop from table)
-      ≡ record { bytes = take (nextLine table from .end - from) (drop from table); ended = nextLine table from .ended }
-      ∷ linesOf (drop (nextLine table from .next) table)
-  unfolding nextLine
-  lines-next h =
-      let k : ℕ = lineLength (drop from table) in
-      let n : from + k - from ≡ k = omega arith in
-      let m : from + suc k ≡ from + k + 1 = omega arith in
-      let p : linesOf (drop from table) ≡ headed (drop from table) k = rw (split table from 0 h) (first-line (getD table from 0) (drop (from + 1) table)) in
-      let d : length (drop from table) ≡ length table - from = length-drop from table in
-      p ∙ bool-cases (ltb (from + k) (length table))
-      (λ t. let u : from + k < length table = ltb-true _ _ t in
-      rw (t, n, lt-ltb k (length (drop from table)) (omega arith), drop-drop (suc k) from table, m))
-      (λ t. let u : length table ≤ from + k = ltb-false _ _ t in
-      rw (
-        t,
-        n,
-        le-ltb k (length (drop from table)) (omega arith),
-        drop-drop (suc k) from table,
-        drop-of-length-le table {i = from + suc k} (omega arith),
-        drop-of-length-le table {i = from + k} (omega arith),
-      ))
+-- past the end there are no lines
+pub lines-none : (table : List ℕ) (from : ℕ) → length table ≤ from → linesOf (drop from table) ≡ []
+unfolding linesOf
+lines-none table from h = rw (drop-of-length-le table h)
 
 -- a walk's next line is within the table, and its next place is further on
 pub record Bounds (table : List ℕ) (from : ℕ) (n : NextLine) : Type 0 where
@@ -90,17 +64,41 @@ pub record Bounds (table : List ℕ) (from : ℕ) (n : NextLine) : Type 0 where
   pub further : from < n .next
   pub within : n .next ≤ length table
 
-pub next-bounds : (table : List ℕ) (from : ℕ) → from < length table → Bounds table from (nextLine table from)
-unfolding nextLine
-next-bounds table from h =
-    let k : ℕ = lineLength (drop from table) in
-    let d : length (drop from table) ≡ length table - from = length-drop from table in
-    let f : lineLength (drop from table) ≤ length (drop from table) = length-fits (drop from table) in
-    bool-cases (ltb (from + k) (length table))
-    (λ t. let u : from + k < length table = ltb-true _ _ t in
-    record { starts = omega arith; ends = omega arith; further = rw t (omega arith); within = rw t (omega arith) })
-    (λ t. let u : length table ≤ from + k = ltb-false _ _ t in
-    record { starts = omega arith; ends = omega arith; further = rw t (omega arith); within = rw t (omega arith) })
+module _ (table : List ℕ) (from : ℕ) (n : NextLine) (e : n ≡ nextLine table from) (h : from < length table) where
+  -- what is left is the line that n bounds, and the lines from the next place on
+  pub lines-next : linesOf (drop from table) ≡ record { bytes = take (n .end - from) (drop from table); ended = n .ended } ∷ linesOf (drop (n .next) table)
+  unfolding nextLine
+  lines-next =
+      let k : ℕ = lineLength (drop from table) in
+      let m : from + k - from ≡ k = omega arith in
+      let p : linesOf (drop from table) ≡ headed (drop from table) k = rw (split table from 0 h) (first-line (getD table from 0) (drop (from + 1) table)) in
+      let d : length (drop from table) ≡ length table - from = length-drop from table in
+      p ∙ bool-cases (ltb (from + k) (length table))
+      (λ t. let u : from + k < length table = ltb-true _ _ t in
+      let v : from + suc k ≡ from + k + 1 = omega arith in
+      rw (e, t, m, lt-ltb k (length (drop from table)) (omega arith), drop-drop (suc k) from table, v))
+      (λ t. let u : length table ≤ from + k = ltb-false _ _ t in
+      rw (
+        e,
+        t,
+        m,
+        le-ltb k (length (drop from table)) (omega arith),
+        drop-drop (suc k) from table,
+        drop-of-length-le table {i = from + suc k} (omega arith),
+        drop-of-length-le table {i = from + k} (omega arith),
+      ))
+
+  pub next-bounds : Bounds table from n
+  unfolding nextLine
+  next-bounds =
+      let k : ℕ = lineLength (drop from table) in
+      let d : length (drop from table) ≡ length table - from = length-drop from table in
+      let f : lineLength (drop from table) ≤ length (drop from table) = length-fits (drop from table) in
+      bool-cases (ltb (from + k) (length table))
+      (λ t. let u : from + k < length table = ltb-true _ _ t in
+      rw (e, t) (record { starts = omega arith; ends = omega arith; further = omega arith; within = omega arith }))
+      (λ t. let u : length table ≤ from + k = ltb-false _ _ t in
+      rw (e, t) (record { starts = omega arith; ends = omega arith; further = omega arith; within = omega arith }))
 
 -- Lines by their bytes
 
