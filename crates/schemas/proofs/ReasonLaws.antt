@@ -3,14 +3,15 @@ use mathlib.Core.Path.{_≡_, refl, ap, sym, _∙_}
 use mathlib.Core.List.{List, [], _∷_}
 use mathlib.Core.Bool.{Bool, true, false, cond, _&&_}
 use mathlib.Core.Option.{Option, some, none}
-use Prim.Native.Nat.{ℕ, _≤_, _<_}
+use Prim.Native.Nat.{ℕ, _^_, _≤_, _<_}
 use native.Mathlib.Omega.{arith}
 use lib.Dec.{eqb, ltb, lit≤}
 use lib.ListN.{length, getD}
-use lib.IntN.{ℤ}
+use lib.IntN.{ℤ, natAbs}
 use lib.Signed.{leZ}
 use Rattle.laws.proofs.Cases.{cond-cases}
 use Rattle.numbers.specs.Number.{numberOf}
+use Rattle.numbers.proofs.Answers.{Large, large-outside}
 use Rattle.schemas.specs.Schema.{Kind, anyText, aNumber, aLetter, Column}
 use Rattle.schemas.specs.Reasons.{isIn, listed, numberReason, kindReason, columnReason}
 
@@ -55,3 +56,25 @@ unfolding columnReason
 reason-small column [] = cond-cases (λ (x : ℕ). x ≤ 7) (column .mandatory) (λ _. lit≤ tt) (λ _. lit≤ tt)
 reason-small column (b ∷ bs) =
     cond-cases (λ (x : ℕ). x ≤ 7) (ltb (column .width) (length (b ∷ bs))) (λ _. lit≤ tt) (λ _. kind-small (column .kind) (b ∷ bs))
+
+-- the reason of a number by the tests of its range
+module _ (lowest highest : ℤ) {n : Option ℤ} where
+  pub in-range : {v : ℤ} → n ≡ some v → leZ lowest v ≡ true → leZ v highest ≡ true → 0 ≡ numberReason lowest highest n
+  unfolding numberReason
+  in-range e p q = rw (e, p, q)
+
+  pub too-high : {v : ℤ} → n ≡ some v → leZ lowest v ≡ true → leZ v highest ≡ false → 7 ≡ numberReason lowest highest n
+  unfolding numberReason
+  too-high e p q = rw (e, p, q)
+
+  pub too-low : {v : ℤ} → n ≡ some v → leZ lowest v ≡ false → 7 ≡ numberReason lowest highest n
+  unfolding numberReason
+  too-low e p = rw (e, p)
+
+  pub no-number : n ≡ none → 6 ≡ numberReason lowest highest n
+  unfolding numberReason
+  no-number e = rw e
+
+  pub too-large : natAbs lowest < 2 ^ 60 → natAbs highest < 2 ^ 60 → Large n → 7 ≡ numberReason lowest highest n
+  unfolding numberReason
+  too-large p q w = rw (w .number, large-outside lowest (w .value) highest p q (w .large))

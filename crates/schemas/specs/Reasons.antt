@@ -11,10 +11,11 @@ use lib.Signed.{leZ}
 use Rattle.laws.specs.Lists.{any}
 use Rattle.numbers.specs.Number.{numberOf, meaning, spelt, after, digitOn, digitOf}
 use Rattle.lines.specs.Lines.{Line}
-use Rattle.lines.specs.Columns.{columnsOf, columnsFrom, tab}
+use Rattle.lines.specs.Columns.{columnsOf, columnsFrom, divided, tab}
 use Rattle.schemas.specs.Schema.{Kind, anyText, aNumber, aLetter, Column}
 use Rattle.schemas.specs.Tables.{schema, cap}
 use Rattle.schemas.specs.declared.Table.the-variants.{Cap}
+use Rattle.schemas.specs.declared.Checked.{Checked}
 
 -- 01: "A verdict is reason × 256 + column"
 abbrev pub verdict : ℕ → ℕ → ℕ
@@ -74,7 +75,14 @@ shape columns line =
     (cond (not (eqb (length (columnsOf (line .bytes))) (length columns))) (verdict 3 0)
     (firstReason 1 columns (columnsOf (line .bytes)))))
 
+abbrev pub lineOf : List ℕ → Bool → Line
+lineOf bytes ended = record { bytes = bytes; ended = ended }
+
+-- the verdict, and the places of the columns, divided once
+unfoldable pub checkedBy : List Column → Line → Checked
+checkedBy columns line = record { verdict = shape columns line; columns = divided (line .bytes) }
+
 -- a cap row: C1, TAB, 5, TAB, 08: "08 is reason 6", at column 3
-pub example : shape (schema Cap) record { bytes = 67 ∷ 49 ∷ 9 ∷ 53 ∷ 9 ∷ 48 ∷ 56 ∷ []; ended = true } ≡ verdict 6 3
+pub example : shape (schema Cap) (lineOf (67 ∷ 49 ∷ 9 ∷ 53 ∷ 9 ∷ 48 ∷ 56 ∷ []) true) ≡ verdict 6 3
 unfolding shape schema cap foreignIn any allowed columnsOf columnsFrom firstReason columnReason kindReason numberReason numberOf meaning spelt after digitOn digitOf
 example = refl

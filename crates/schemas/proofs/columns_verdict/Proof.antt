@@ -1,0 +1,140 @@
+-- The invariant is `Checking`: the columns passed have no reason, and what is left gives the verdict of all.
+use Prim.Native.Nat.{ℕ, _-_, _≤_, _<_}
+use mathlib.Core.Path.{_≡_, ap, sym, _∙_}
+use mathlib.Core.List.{[]}
+use native.Mathlib.Omega.{arith}
+use lib.ListN.{length, getD}
+use Rattle.lines.specs.Columns.{columnsOf}
+use Rattle.lines.proofs.ColumnLaws.{column-is, count-is}
+use Rattle.schemas.specs.Reasons.{columnReason}
+use Rattle.schemas.specs.Constants.{schemaFrom, columnFrom}
+use Rattle.schemas.proofs.ReasonLaws.{reason-small}
+use Rattle.schemas.proofs.ShapeLaws.{Checking, checking-start, checking-end, checking-stop, checking-more}
+use Rattle.schemas.proofs.columns_verdict.Statement.{statement}
+use Rattle.schemas.proofs.columns_verdict.Tie as tie
+use Rattle.schemas.proofs.columns_verdict.Reads as reads
+use Rattle.schemas.proofs.columns_verdict.Lts as lts
+use Rattle.lines.proofs.columns.column.Reads as column-reads
+use Rattle.schemas.proofs.column.column_reason.Reads as column-reason-reads
+
+abbrev Inv-loop : tie.InvT-loop
+Inv-loop line columns widths marks kinds k₀ k = Checking (schemaFrom widths marks kinds) (columnsOf line) k
+
+abbrev μ-loop : tie.MeasureT-loop
+μ-loop line columns widths marks kinds k₀ k = length widths - k
+
+-- a turn, its start, and what its calls told
+abbrev Turn : Type 0
+Turn = tie.In-loop Inv-loop μ-loop
+
+abbrev Told : Type 0
+Told = tie.After-column-reason Inv-loop μ-loop
+
+abbrev Start : Type 0
+Start = tie.Start Inv-loop μ-loop
+
+abbrev start : Turn → Start
+start t = t .before .before .before .before .before .before
+
+abbrev turn : Told → Turn
+turn c = c .before .before .before .before .before
+
+full : (s : Start) → length (columnsOf (s .args .line .now)) ≡ length (s .args .widths .now)
+full s = sym (count-is _ _ (s .pre .0 .0)) ∙ s .pre .0 .1
+
+is : (c : Told)
+    → (let t = turn c in let a = start t .args in let k = t .before .loop .k in c .column-reason .result ≡ columnReason (columnFrom (getD (a .widths .now) k 0) (getD (a .marks .now) k 0) (getD (a .kinds .now) k 0)) (getD (columnsOf (a .line .now)) k []))
+is c =
+    let t = turn c in
+    let s = start t in
+    c .column-reason .ensures ∙ ap (columnReason _) (c .before .before .before .before .column .ensures ∙ column-is (s .args .line .now) (s .args .columns) (t .before .loop .k) (s .pre .0 .0) (omega arith))
+
+small : (c : Told) → c .column-reason .result ≤ 7
+small c = rw (c .column-reason .ensures) (reason-small _ _)
+
+-- src/lib.rt:78:5
+loop-holds : tie.Need-loop-holds Inv-loop μ-loop
+loop-holds c = checking-start _ _
+
+-- src/lib.rt:79:13
+column-requires : tie.Need-column-requires Inv-loop μ-loop
+column-requires c κs = tt
+
+-- src/lib.rt:80:42
+shared-slice-read-column-reason : tie.Need-shared-slice-read-column-reason Inv-loop μ-loop
+shared-slice-read-column-reason c = omega arith
+
+-- src/lib.rt:80:53
+shared-slice-read-column-reason-2 : tie.Need-shared-slice-read-column-reason-2 Inv-loop μ-loop
+shared-slice-read-column-reason-2 c = omega arith
+
+-- src/lib.rt:80:63
+shared-slice-read-column-reason-3 : tie.Need-shared-slice-read-column-reason-3 Inv-loop μ-loop
+shared-slice-read-column-reason-3 c = omega arith
+
+-- src/lib.rt:80:13
+column-reason-requires : tie.Need-column-reason-requires Inv-loop μ-loop
+column-reason-requires c κs = tt
+
+-- src/lib.rt:82:20
+mul-result : tie.Need-mul-result Inv-loop μ-loop
+mul-result c = omega (arith, small (c .before))
+
+-- src/lib.rt:82:36
+cast-result : tie.Need-cast-result Inv-loop μ-loop
+cast-result c = omega arith
+
+-- src/lib.rt:82:20
+add-result : tie.Need-add-result Inv-loop μ-loop
+add-result c = omega (arith, small (c .before))
+
+-- src/lib.rt:82:20
+add-result-2 : tie.Need-add-result-2 Inv-loop μ-loop
+add-result-2 c = omega (arith, small (c .before))
+
+-- src/lib.rt:82:13
+returns : tie.Need-returns Inv-loop μ-loop
+returns c = let t = turn (c .before) in
+    let s = start t in
+    checking-stop _ _ _ (s .pre .1 .1) (s .pre .1 .2) _ (full s) _ (t .before .loop .inv) (t .loop-test .taken) _ (is (c .before)) (c .if1 .taken)
+
+-- src/lib.rt:84:9
+add-k : tie.Need-add-k Inv-loop μ-loop
+add-k c = omega arith
+
+-- src/lib.rt:78:5
+loop-less : tie.Need-loop-less Inv-loop μ-loop
+loop-less c = omega arith
+
+-- src/lib.rt:78:5
+loop-again : tie.Need-loop-again Inv-loop μ-loop
+loop-again c = let t = turn (c .before) in
+    let s = start t in
+    checking-more _ _ _ (s .pre .1 .1) (s .pre .1 .2) _ (full s) _ (t .before .loop .inv) (t .loop-test .taken) _ (is (c .before)) (c .if1 .left)
+
+-- src/lib.rt:72:1
+returns-2 : tie.Need-returns-2 Inv-loop μ-loop
+returns-2 c = let s = c .before .before .before .before .before .before in
+    checking-end _ _ _ (s .pre .1 .1) (s .pre .1 .2) _ (full s) _ (c .before .loop .inv) (c .loop-test .left)
+
+pub columns-verdict-spec : {M : Type 1} → statement M
+columns-verdict-spec =
+    tie.close
+    (tie.spec
+    Inv-loop
+    μ-loop
+    loop-holds
+    column-requires
+    shared-slice-read-column-reason
+    shared-slice-read-column-reason-2
+    shared-slice-read-column-reason-3
+    column-reason-requires
+    mul-result
+    cast-result
+    add-result
+    add-result-2
+    returns
+    add-k
+    loop-less
+    loop-again
+    returns-2)
