@@ -33,7 +33,7 @@ use Rattle.rows.specs.declared.records.OcfRow.{OcfRow}
 use Rattle.rows.specs.declared.records.OcpRow.{OcpRow}
 
 -- a column of a line; one that isn't there reads as empty
-abbrev pub column : List ℕ → ℕ → List ℕ
+unfoldable pub column : List ℕ → ℕ → List ℕ
 column line k = columnAt (columnsOf line) k
 
 abbrev pub letter : List ℕ → ℕ → ℕ

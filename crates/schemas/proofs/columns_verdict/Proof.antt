@@ -1,5 +1,5 @@
 -- The invariant is `Checking`: the columns passed have no reason, and what is left gives the verdict of all.
-use Prim.Native.Nat.{ℕ, _-_, _≤_, _<_}
+use Prim.Native.Nat.{_-_, _≤_}
 use mathlib.Core.Path.{_≡_, ap, sym, _∙_}
 use mathlib.Core.List.{[]}
 use native.Mathlib.Omega.{arith}
@@ -12,10 +12,6 @@ use Rattle.schemas.proofs.ReasonLaws.{reason-small}
 use Rattle.schemas.proofs.ShapeLaws.{Checking, checking-start, checking-end, checking-stop, checking-more}
 use Rattle.schemas.proofs.columns_verdict.Statement.{statement}
 use Rattle.schemas.proofs.columns_verdict.Tie as tie
-use Rattle.schemas.proofs.columns_verdict.Reads as reads
-use Rattle.schemas.proofs.columns_verdict.Lts as lts
-use Rattle.lines.proofs.columns.column.Reads as column-reads
-use Rattle.schemas.proofs.column.column_reason.Reads as column-reason-reads
 
 abbrev Inv-loop : tie.InvT-loop
 Inv-loop line columns widths marks kinds k₀ k = Checking (schemaFrom widths marks kinds) (columnsOf line) k
@@ -52,67 +48,52 @@ is c =
 small : (c : Told) → c .column-reason .result ≤ 7
 small c = rw (c .column-reason .ensures) (reason-small _ _)
 
--- src/lib.rt:78:5
 loop-holds : tie.Need-loop-holds Inv-loop μ-loop
 loop-holds c = checking-start _ _
 
--- src/lib.rt:79:13
 column-requires : tie.Need-column-requires Inv-loop μ-loop
 column-requires c κs = tt
 
--- src/lib.rt:80:42
 shared-slice-read-column-reason : tie.Need-shared-slice-read-column-reason Inv-loop μ-loop
 shared-slice-read-column-reason c = omega arith
 
--- src/lib.rt:80:53
 shared-slice-read-column-reason-2 : tie.Need-shared-slice-read-column-reason-2 Inv-loop μ-loop
 shared-slice-read-column-reason-2 c = omega arith
 
--- src/lib.rt:80:63
 shared-slice-read-column-reason-3 : tie.Need-shared-slice-read-column-reason-3 Inv-loop μ-loop
 shared-slice-read-column-reason-3 c = omega arith
 
--- src/lib.rt:80:13
 column-reason-requires : tie.Need-column-reason-requires Inv-loop μ-loop
 column-reason-requires c κs = tt
 
--- src/lib.rt:82:20
 mul-result : tie.Need-mul-result Inv-loop μ-loop
 mul-result c = omega (arith, small (c .before))
 
--- src/lib.rt:82:36
 cast-result : tie.Need-cast-result Inv-loop μ-loop
 cast-result c = omega arith
 
--- src/lib.rt:82:20
 add-result : tie.Need-add-result Inv-loop μ-loop
 add-result c = omega (arith, small (c .before))
 
--- src/lib.rt:82:20
 add-result-2 : tie.Need-add-result-2 Inv-loop μ-loop
 add-result-2 c = omega (arith, small (c .before))
 
--- src/lib.rt:82:13
 returns : tie.Need-returns Inv-loop μ-loop
 returns c = let t = turn (c .before) in
     let s = start t in
     checking-stop _ _ _ (s .pre .1 .1) (s .pre .1 .2) _ (full s) _ (t .before .loop .inv) (t .loop-test .taken) _ (is (c .before)) (c .if1 .taken)
 
--- src/lib.rt:84:9
 add-k : tie.Need-add-k Inv-loop μ-loop
 add-k c = omega arith
 
--- src/lib.rt:78:5
 loop-less : tie.Need-loop-less Inv-loop μ-loop
 loop-less c = omega arith
 
--- src/lib.rt:78:5
 loop-again : tie.Need-loop-again Inv-loop μ-loop
 loop-again c = let t = turn (c .before) in
     let s = start t in
     checking-more _ _ _ (s .pre .1 .1) (s .pre .1 .2) _ (full s) _ (t .before .loop .inv) (t .loop-test .taken) _ (is (c .before)) (c .if1 .left)
 
--- src/lib.rt:72:1
 returns-2 : tie.Need-returns-2 Inv-loop μ-loop
 returns-2 c = let s = c .before .before .before .before .before .before in
     checking-end _ _ _ (s .pre .1 .1) (s .pre .1 .2) _ (full s) _ (c .before .loop .inv) (c .loop-test .left)

@@ -5,28 +5,19 @@ use Rattle.schemas.proofs.ShapeLaws.{schema-length, shape-open, shape-l
 use borrow.Author.Needs.{needs}
 use Rattle.schemas.proofs.row_verdict.Statement.{statement}
 use Rattle.schemas.proofs.row_verdict.Tie as tie
-use Rattle.schemas.proofs.row_verdict.Reads as reads
-use Rattle.schemas.proofs.row_verdict.Lts as lts
-use Rattle.schemas.proofs.bytes.has_foreign.Reads as has-foreign-reads
-use Rattle.schemas.proofs.columns_verdict.Reads as columns-verdict-reads
 
--- src/lib.rt:107:13
 returns : tie.Need-returns
 returns c = rw (c .before .if1 .taken) (shape-long _ _ (c .if2 .taken))
 
--- src/lib.rt:109:12
 has-foreign-requires : tie.Need-has-foreign-requires
 has-foreign-requires c κs = search needs
 
--- src/lib.rt:110:13
 returns-2 : tie.Need-returns-2
 returns-2 c = rw (c .before .before .before .if1 .taken) (shape-foreign _ _ (c .before .before .if2 .left) (sym (c .before .has-foreign .ensures) ∙ c .if3 .taken))
 
--- src/lib.rt:113:13
 columns-verdict-requires : tie.Need-columns-verdict-requires
 columns-verdict-requires c κs = search needs
 
--- src/lib.rt:113:13
 returns-3 : tie.Need-returns-3
 returns-3 c = let e = c .before .before .before in
     let s = e .before .before .before .before .before .before .before .before in
@@ -34,14 +25,12 @@ returns-3 c = let e = c .before .before .before in
     rw (e .before .before .before .if1 .taken)
     (c .columns-verdict .ensures ∙ shape-columns _ _ (e .before .before .if2 .left) (sym (e .before .has-foreign .ensures) ∙ e .if3 .left) n)
 
--- src/lib.rt:115:9
 returns-4 : tie.Need-returns-4
 returns-4 c = let e = c .before .before in
     let s = e .before .before .before .before .before .before .before .before in
     rw (e .before .before .before .if1 .taken)
     (shape-count _ _ (e .before .before .if2 .left) (sym (e .before .has-foreign .ensures) ∙ e .if3 .left) (λ n. c .if4 .left (count-is _ _ (s .pre .0) ∙ n ∙ schema-length _ _ _ (s .pre .1 .1) (s .pre .1 .2))))
 
--- src/lib.rt:93:1
 returns-5 : tie.Need-returns-5
 returns-5 c = rw (c .if1 .left) (shape-open _ _)
 

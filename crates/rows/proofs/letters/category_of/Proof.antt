@@ -5,20 +5,15 @@ use borrow.Author.Tests.{ne-eqb}
 use Rattle.rows.specs.Values.{categoryOf}
 use Rattle.rows.proofs.letters.category_of.Statement.{statement}
 use Rattle.rows.proofs.letters.category_of.Tie as tie
-use Rattle.rows.proofs.letters.category_of.Reads as reads
-use Rattle.rows.proofs.letters.category_of.Lts as lts
 
--- src/letters.rt:72:1
 returns : tie.Need-returns
 unfolding categoryOf
 returns c = let e : c .before .args .letter ≡ 83 = omega arith in rw e
 
--- src/letters.rt:72:1
 returns-2 : tie.Need-returns-2
 unfolding categoryOf
 returns-2 c = let e : c .before .args .letter ≡ 84 = omega arith in rw e
 
--- src/letters.rt:72:1
 returns-3 : tie.Need-returns-3
 unfolding categoryOf
 returns-3 c = rw (ne-eqb _ 83 (c .match .rest .0 .1), ne-eqb _ 84 (c .match .rest .1))

@@ -5,30 +5,23 @@ use borrow.Author.Tests.{ne-eqb}
 use Rattle.rows.specs.Values.{checkTypeOf}
 use Rattle.rows.proofs.letters.check_type_of.Statement.{statement}
 use Rattle.rows.proofs.letters.check_type_of.Tie as tie
-use Rattle.rows.proofs.letters.check_type_of.Reads as reads
-use Rattle.rows.proofs.letters.check_type_of.Lts as lts
 
--- src/letters.rt:133:1
 returns : tie.Need-returns
 unfolding checkTypeOf
 returns c = let e : c .before .args .letter ≡ 72 = omega arith in rw e
 
--- src/letters.rt:133:1
 returns-2 : tie.Need-returns-2
 unfolding checkTypeOf
 returns-2 c = let e : c .before .args .letter ≡ 68 = omega arith in rw e
 
--- src/letters.rt:133:1
 returns-3 : tie.Need-returns-3
 unfolding checkTypeOf
 returns-3 c = let e : c .before .args .letter ≡ 67 = omega arith in rw e
 
--- src/letters.rt:133:1
 returns-4 : tie.Need-returns-4
 unfolding checkTypeOf
 returns-4 c = let e : c .before .args .letter ≡ 69 = omega arith in rw e
 
--- src/letters.rt:133:1
 returns-5 : tie.Need-returns-5
 unfolding checkTypeOf
 returns-5 c = rw (ne-eqb _ 72 (c .match .rest .0 .0 .0 .1), ne-eqb _ 68 (c .match .rest .0 .0 .1), ne-eqb _ 67 (c .match .rest .0 .1), ne-eqb _ 69 (c .match .rest .1))

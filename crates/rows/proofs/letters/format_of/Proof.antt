@@ -5,20 +5,15 @@ use borrow.Author.Tests.{ne-eqb}
 use Rattle.rows.specs.Values.{formatOf}
 use Rattle.rows.proofs.letters.format_of.Statement.{statement}
 use Rattle.rows.proofs.letters.format_of.Tie as tie
-use Rattle.rows.proofs.letters.format_of.Reads as reads
-use Rattle.rows.proofs.letters.format_of.Lts as lts
 
--- src/letters.rt:95:1
 returns : tie.Need-returns
 unfolding formatOf
 returns c = let e : c .before .args .letter ≡ 85 = omega arith in rw e
 
--- src/letters.rt:95:1
 returns-2 : tie.Need-returns-2
 unfolding formatOf
 returns-2 c = let e : c .before .args .letter ≡ 82 = omega arith in rw e
 
--- src/letters.rt:95:1
 returns-3 : tie.Need-returns-3
 unfolding formatOf
 returns-3 c = rw (ne-eqb _ 85 (c .match .rest .0 .1), ne-eqb _ 82 (c .match .rest .1))

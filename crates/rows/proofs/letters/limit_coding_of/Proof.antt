@@ -5,20 +5,15 @@ use borrow.Author.Tests.{ne-eqb}
 use Rattle.rows.specs.Values.{limitCodingOf}
 use Rattle.rows.proofs.letters.limit_coding_of.Statement.{statement}
 use Rattle.rows.proofs.letters.limit_coding_of.Tie as tie
-use Rattle.rows.proofs.letters.limit_coding_of.Reads as reads
-use Rattle.rows.proofs.letters.limit_coding_of.Lts as lts
 
--- src/letters.rt:123:1
 returns : tie.Need-returns
 unfolding limitCodingOf
 returns c = let e : c .before .args .letter ≡ 82 = omega arith in rw e
 
--- src/letters.rt:123:1
 returns-2 : tie.Need-returns-2
 unfolding limitCodingOf
 returns-2 c = let e : c .before .args .letter ≡ 65 = omega arith in rw e
 
--- src/letters.rt:123:1
 returns-3 : tie.Need-returns-3
 unfolding limitCodingOf
 returns-3 c = rw (ne-eqb _ 82 (c .match .rest .0 .1), ne-eqb _ 65 (c .match .rest .1))

@@ -5,15 +5,11 @@ use borrow.Author.Tests.{ne-eqb}
 use Rattle.rows.specs.Values.{limitValueOf}
 use Rattle.rows.proofs.letters.limit_value_of.Statement.{statement}
 use Rattle.rows.proofs.letters.limit_value_of.Tie as tie
-use Rattle.rows.proofs.letters.limit_value_of.Reads as reads
-use Rattle.rows.proofs.letters.limit_value_of.Lts as lts
 
--- src/letters.rt:114:1
 returns : tie.Need-returns
 unfolding limitValueOf
 returns c = let e : c .before .args .letter ≡ 67 = omega arith in rw e
 
--- src/letters.rt:114:1
 returns-2 : tie.Need-returns-2
 unfolding limitValueOf
 returns-2 c = rw (ne-eqb _ 67 (c .match .rest .1))

@@ -5,35 +5,27 @@ use borrow.Author.Tests.{ne-eqb}
 use Rattle.rows.specs.Values.{natureOf}
 use Rattle.rows.proofs.letters.nature_of.Statement.{statement}
 use Rattle.rows.proofs.letters.nature_of.Tie as tie
-use Rattle.rows.proofs.letters.nature_of.Reads as reads
-use Rattle.rows.proofs.letters.nature_of.Lts as lts
 
--- src/letters.rt:82:1
 returns : tie.Need-returns
 unfolding natureOf
 returns c = let e : c .before .args .letter ≡ 68 = omega arith in rw e
 
--- src/letters.rt:82:1
 returns-2 : tie.Need-returns-2
 unfolding natureOf
 returns-2 c = let e : c .before .args .letter ≡ 80 = omega arith in rw e
 
--- src/letters.rt:82:1
 returns-3 : tie.Need-returns-3
 unfolding natureOf
 returns-3 c = let e : c .before .args .letter ≡ 72 = omega arith in rw e
 
--- src/letters.rt:82:1
 returns-4 : tie.Need-returns-4
 unfolding natureOf
 returns-4 c = let e : c .before .args .letter ≡ 83 = omega arith in rw e
 
--- src/letters.rt:82:1
 returns-5 : tie.Need-returns-5
 unfolding natureOf
 returns-5 c = let e : c .before .args .letter ≡ 67 = omega arith in rw e
 
--- src/letters.rt:82:1
 returns-6 : tie.Need-returns-6
 unfolding natureOf
 returns-6 c = rw (ne-eqb _ 68 (c .match .rest .0 .0 .0 .0 .1), ne-eqb _ 80 (c .match .rest .0 .0 .0 .1), ne-eqb _ 72 (c .match .rest .0 .0 .1), ne-eqb _ 83 (c .match .rest .0 .1), ne-eqb _ 67 (c .match .rest .1))

@@ -5,15 +5,11 @@ use borrow.Author.Tests.{ne-eqb}
 use Rattle.rows.specs.Values.{offEndsOf}
 use Rattle.rows.proofs.letters.off_ends_of.Statement.{statement}
 use Rattle.rows.proofs.letters.off_ends_of.Tie as tie
-use Rattle.rows.proofs.letters.off_ends_of.Reads as reads
-use Rattle.rows.proofs.letters.off_ends_of.Lts as lts
 
--- src/letters.rt:105:1
 returns : tie.Need-returns
 unfolding offEndsOf
 returns c = let e : c .before .args .letter ≡ 80 = omega arith in rw e
 
--- src/letters.rt:105:1
 returns-2 : tie.Need-returns-2
 unfolding offEndsOf
 returns-2 c = rw (ne-eqb _ 80 (c .match .rest .1))

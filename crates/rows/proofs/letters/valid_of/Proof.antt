@@ -5,15 +5,11 @@ use borrow.Author.Tests.{ne-eqb}
 use Rattle.rows.specs.Values.{validOf}
 use Rattle.rows.proofs.letters.valid_of.Statement.{statement}
 use Rattle.rows.proofs.letters.valid_of.Tie as tie
-use Rattle.rows.proofs.letters.valid_of.Reads as reads
-use Rattle.rows.proofs.letters.valid_of.Lts as lts
 
--- src/letters.rt:63:1
 returns : tie.Need-returns
 unfolding validOf
 returns c = let e : c .before .args .letter ≡ 78 = omega arith in rw e
 
--- src/letters.rt:63:1
 returns-2 : tie.Need-returns-2
 unfolding validOf
 returns-2 c = rw (ne-eqb _ 78 (c .match .rest .1))

@@ -3,20 +3,15 @@ use borrow.Author.Tests.{le-leb, lt-leb}
 use Rattle.rows.specs.Width.{within}
 use Rattle.rows.proofs.width.bits_within.Statement.{statement}
 use Rattle.rows.proofs.width.bits_within.Tie as tie
-use Rattle.rows.proofs.width.bits_within.Reads as reads
-use Rattle.rows.proofs.width.bits_within.Lts as lts
 
--- src/width.rt:17:13
 returns : tie.Need-returns
 unfolding within
 returns c = rw (le-leb _ _ (c .before .if1 .taken), le-leb _ _ (c .if2 .taken))
 
--- src/width.rt:12:1
 returns-2 : tie.Need-returns-2
 unfolding within
 returns-2 c = rw (le-leb _ _ (c .before .if1 .taken), lt-leb _ _ (c .if2 .left))
 
--- src/width.rt:12:1
 returns-3 : tie.Need-returns-3
 unfolding within
 returns-3 c = rw (lt-leb _ _ (c .if1 .left))

@@ -5,23 +5,16 @@ use Rattle.rows.specs.Width.{within}
 use borrow.Author.Needs.{needs}
 use Rattle.rows.proofs.width.string_width.Statement.{statement}
 use Rattle.rows.proofs.width.string_width.Tie as tie
-use Rattle.rows.proofs.width.string_width.Reads as reads
-use Rattle.rows.proofs.width.string_width.Lts as lts
-use Rattle.rows.proofs.width.bits_within.Reads as bits-within-reads
 
--- src/width.rt:42:41
 mul-bits-within : tie.Need-mul-bits-within
 mul-bits-within c = search needs
 
--- src/width.rt:42:9
 bits-within-requires : tie.Need-bits-within-requires
 bits-within-requires c κs = search needs
 
--- src/width.rt:42:9
 returns : tie.Need-returns
 returns c = search needs
 
--- src/width.rt:38:1
 returns-2 : tie.Need-returns-2
 unfolding within
 returns-2 c = let n = c .before .args .pfc in rw (le-leb 1 n (omega arith), lt-leb n 255 (omega arith))

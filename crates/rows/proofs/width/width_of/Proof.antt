@@ -6,76 +6,56 @@ use Rattle.rows.specs.Width.{widthOf}
 use borrow.Author.Needs.{needs}
 use Rattle.rows.proofs.width.width_of.Statement.{statement}
 use Rattle.rows.proofs.width.width_of.Tie as tie
-use Rattle.rows.proofs.width.width_of.Reads as reads
-use Rattle.rows.proofs.width.width_of.Lts as lts
-use Rattle.rows.proofs.width.bits_within.Reads as bits-within-reads
-use Rattle.rows.proofs.width.integer_width.Reads as integer-width-reads
-use Rattle.rows.proofs.width.string_width.Reads as string-width-reads
 
--- src/width.rt:51:14
 bits-within-requires : tie.Need-bits-within-requires
 bits-within-requires c κs = search needs
 
--- src/width.rt:52:14
 bits-within-requires-2 : tie.Need-bits-within-requires-2
 bits-within-requires-2 c κs = search needs
 
--- src/width.rt:53:14
 integer-width-requires : tie.Need-integer-width-requires
 integer-width-requires c κs = search needs
 
--- src/width.rt:54:14
 integer-width-requires-2 : tie.Need-integer-width-requires-2
 integer-width-requires-2 c κs = search needs
 
--- src/width.rt:55:14
 bits-within-requires-3 : tie.Need-bits-within-requires-3
 bits-within-requires-3 c κs = search needs
 
--- src/width.rt:56:14
 string-width-requires : tie.Need-string-width-requires
 string-width-requires c κs = search needs
 
--- src/width.rt:57:14
 string-width-requires-2 : tie.Need-string-width-requires-2
 string-width-requires-2 c κs = search needs
 
--- src/width.rt:47:1
 returns : tie.Need-returns
 unfolding widthOf
 returns c = let e : c .before .before .args .ptc ≡ 1 = omega arith in rw e (c .bits-within .ensures)
 
--- src/width.rt:47:1
 returns-2 : tie.Need-returns-2
 unfolding widthOf
 returns-2 c = let e : c .before .before .args .ptc ≡ 2 = omega arith in rw e (c .bits-within2 .ensures)
 
--- src/width.rt:47:1
 returns-3 : tie.Need-returns-3
 unfolding widthOf
 returns-3 c = let e : c .before .before .args .ptc ≡ 3 = omega arith in rw e (c .integer-width .ensures)
 
--- src/width.rt:47:1
 returns-4 : tie.Need-returns-4
 unfolding widthOf
 returns-4 c = let e : c .before .before .args .ptc ≡ 4 = omega arith in rw e (c .integer-width2 .ensures)
 
--- src/width.rt:47:1
 returns-5 : tie.Need-returns-5
 unfolding widthOf
 returns-5 c = let e : c .before .before .args .ptc ≡ 6 = omega arith in rw e (c .bits-within3 .ensures)
 
--- src/width.rt:47:1
 returns-6 : tie.Need-returns-6
 unfolding widthOf
 returns-6 c = let e : c .before .before .args .ptc ≡ 7 = omega arith in rw e (c .string-width .ensures)
 
--- src/width.rt:47:1
 returns-7 : tie.Need-returns-7
 unfolding widthOf
 returns-7 c = let e : c .before .before .args .ptc ≡ 8 = omega arith in rw e (c .string-width2 .ensures)
 
--- src/width.rt:47:1
 returns-8 : tie.Need-returns-8
 unfolding widthOf
 returns-8 c = rw (ne-eqb _ 1 (c .match .rest .0 .0 .0 .0 .0 .0 .1), ne-eqb _ 2 (c .match .rest .0 .0 .0 .0 .0 .1), ne-eqb _ 3 (c .match .rest .0 .0 .0 .0 .1), ne-eqb _ 4 (c .match .rest .0 .0 .0 .1), ne-eqb _ 6 (c .match .rest .0 .0 .1), ne-eqb _ 7 (c .match .rest .0 .1), ne-eqb _ 8 (c .match .rest .1))

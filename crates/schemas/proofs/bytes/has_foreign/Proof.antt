@@ -5,12 +5,9 @@ use mathlib.Core.Bool.{not}
 use native.Mathlib.Omega.{arith}
 use lib.ListN.{length, drop}
 use Rattle.laws.proofs.Search.{any-none, any-here, any-more}
-use Rattle.schemas.specs.Reasons.{allowed, foreignIn}
+use Rattle.schemas.specs.Reasons.{foreignIn}
 use Rattle.schemas.proofs.bytes.has_foreign.Statement.{statement}
 use Rattle.schemas.proofs.bytes.has_foreign.Tie as tie
-use Rattle.schemas.proofs.bytes.has_foreign.Reads as reads
-use Rattle.schemas.proofs.bytes.has_foreign.Lts as lts
-use Rattle.schemas.proofs.bytes.is_allowed.Reads as is-allowed-reads
 
 abbrev Inv-loop : tie.InvT-loop
 Inv-loop line i₀ i = (i ≤ length line) × (foreignIn (drop i line) ≡ foreignIn line)
@@ -18,37 +15,29 @@ Inv-loop line i₀ i = (i ≤ length line) × (foreignIn (drop i line) ≡ forei
 abbrev μ-loop : tie.MeasureT-loop
 μ-loop line i₀ i = length line - i
 
--- src/bytes.rt:22:5
 loop-holds : tie.Need-loop-holds Inv-loop μ-loop
 loop-holds c = (omega arith, refl)
 
--- src/bytes.rt:23:23
 shared-slice-read-is-allowed : tie.Need-shared-slice-read-is-allowed Inv-loop μ-loop
 shared-slice-read-is-allowed c = omega arith
 
--- src/bytes.rt:23:12
 is-allowed-requires : tie.Need-is-allowed-requires Inv-loop μ-loop
 is-allowed-requires c κs = tt
 
--- src/bytes.rt:24:13
 add-i : tie.Need-add-i Inv-loop μ-loop
 add-i c = omega arith
 
--- src/bytes.rt:22:5
 loop-less : tie.Need-loop-less Inv-loop μ-loop
 loop-less c = omega arith
 
--- src/bytes.rt:22:5
 loop-again : tie.Need-loop-again Inv-loop μ-loop
 unfolding foreignIn
 loop-again c = (omega arith, sym (any-more _ _ _ 0 (c .before .before .before .loop-test .taken) (ap not (sym (c .before .is-allowed .ensures) ∙ c .if1 .taken))) ∙ c .before .before .before .before .loop .inv .1)
 
--- src/bytes.rt:26:13
 returns : tie.Need-returns Inv-loop μ-loop
 unfolding foreignIn
 returns c = sym (any-here _ _ _ 0 (c .before .before .before .loop-test .taken) (ap not (sym (c .before .is-allowed .ensures) ∙ c .if1 .left))) ∙ c .before .before .before .before .loop .inv .1
 
--- src/bytes.rt:18:1
 returns-2 : tie.Need-returns-2 Inv-loop μ-loop
 unfolding foreignIn
 returns-2 c = sym (any-none _ _ _ (c .loop-test .left)) ∙ c .before .loop .inv .1

@@ -4,20 +4,15 @@ use borrow.Author.Tests.{eq-eqb, ne-eqb, le-leb, lt-leb}
 use Rattle.schemas.specs.Reasons.{allowed}
 use Rattle.schemas.proofs.bytes.is_allowed.Statement.{statement}
 use Rattle.schemas.proofs.bytes.is_allowed.Tie as tie
-use Rattle.schemas.proofs.bytes.is_allowed.Reads as reads
-use Rattle.schemas.proofs.bytes.is_allowed.Lts as lts
 
--- src/bytes.rt:9:9
 returns : tie.Need-returns
 unfolding allowed
 returns c = rw (eq-eqb (c .before .args .b) 9 (omega arith))
 
--- src/bytes.rt:12:9
 returns-2 : tie.Need-returns-2
 unfolding allowed
 returns-2 c = let b = c .before .before .args .b in rw (ne-eqb b 9 (omega arith), le-leb 32 b (omega arith))
 
--- src/bytes.rt:5:1
 returns-3 : tie.Need-returns-3
 unfolding allowed
 returns-3 c = let b = c .before .before .args .b in rw (ne-eqb b 9 (omega arith), lt-leb 32 b (omega arith))

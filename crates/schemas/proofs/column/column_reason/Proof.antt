@@ -1,5 +1,4 @@
 -- Each test is a case of the definition.
-use mathlib.Core.Path.{_≡_}
 use native.Mathlib.Omega.{arith}
 use borrow.Author.Tests.{eq-eqb, ne-eqb, lt-ltb, le-ltb}
 use lib.ListN.{length}
@@ -8,30 +7,22 @@ use Rattle.schemas.proofs.ReasonLaws.{empty-reason, full-reason}
 use borrow.Author.Needs.{needs}
 use Rattle.schemas.proofs.column.column_reason.Statement.{statement}
 use Rattle.schemas.proofs.column.column_reason.Tie as tie
-use Rattle.schemas.proofs.column.column_reason.Reads as reads
-use Rattle.schemas.proofs.column.column_reason.Lts as lts
-use Rattle.schemas.proofs.column.kind_reason.Reads as kind-reason-reads
 
--- src/column.rt:32:13
 returns : tie.Need-returns
 returns c = let a = c .before .before .before .args in
     rw (empty-reason (columnFrom (a .width) (a .mark) (a .kind)) (a .text .now) (omega arith), eq-eqb (a .mark) 1 (omega arith))
 
--- src/column.rt:34:9
 returns-2 : tie.Need-returns-2
 returns-2 c = let a = c .before .before .before .args in
     rw (empty-reason (columnFrom (a .width) (a .mark) (a .kind)) (a .text .now) (omega arith), ne-eqb (a .mark) 1 (omega arith))
 
--- src/column.rt:37:9
 returns-3 : tie.Need-returns-3
 returns-3 c = let a = c .before .before .before .args in
     rw (full-reason (columnFrom (a .width) (a .mark) (a .kind)) (a .text .now) (omega arith), lt-ltb (a .width) (length (a .text .now)) (omega arith))
 
--- src/column.rt:39:5
 kind-reason-requires : tie.Need-kind-reason-requires
 kind-reason-requires c κs = search needs
 
--- src/column.rt:27:1
 returns-4 : tie.Need-returns-4
 returns-4 c = let a = c .before .before .before .before .args in
     rw (full-reason (columnFrom (a .width) (a .mark) (a .kind)) (a .text .now) (omega arith), le-ltb (a .width) (length (a .text .now)) (omega arith)) (c .kind-reason .ensures)

@@ -7,31 +7,22 @@ use Rattle.schemas.specs.Constants.{kindAt}
 use borrow.Author.Needs.{needs}
 use Rattle.schemas.proofs.column.kind_reason.Statement.{statement}
 use Rattle.schemas.proofs.column.kind_reason.Tie as tie
-use Rattle.schemas.proofs.column.kind_reason.Reads as reads
-use Rattle.schemas.proofs.column.kind_reason.Lts as lts
-use Rattle.schemas.proofs.letters.letter_reason.Reads as letter-reason-reads
-use Rattle.schemas.proofs.ranges.number_reason.Reads as number-reason-reads
 
--- src/column.rt:18:9
 returns : tie.Need-returns
 unfolding kindReason kindAt
 returns c = let e : c .before .before .args .kind ≡ 0 = omega arith in rw e
 
--- src/column.rt:21:9
 number-reason-requires : tie.Need-number-reason-requires
 number-reason-requires c κs = search needs
 
--- src/column.rt:21:9
 returns-2 : tie.Need-returns-2
 unfolding kindReason kindAt
 returns-2 c = let k = c .before .before .before .before .args .kind in
     rw (ne-eqb k 0 (omega arith), lt-ltb k 19 (omega arith)) (c .number-reason .ensures)
 
--- src/column.rt:23:5
 letter-reason-requires : tie.Need-letter-reason-requires
 letter-reason-requires c κs = search needs
 
--- src/column.rt:14:1
 returns-3 : tie.Need-returns-3
 unfolding kindReason kindAt
 returns-3 c = let k = c .before .before .before .before .args .kind in

@@ -1,5 +1,5 @@
 -- Each kind's letters are those of its constant; any other kind has none.
-use mathlib.Core.Path.{_≡_, refl}
+use mathlib.Core.Path.{_≡_}
 use native.Mathlib.Omega.{arith}
 use borrow.Author.Tests.{ne-eqb}
 use Rattle.laws.specs.Lists.{any}
@@ -8,128 +8,97 @@ use Rattle.schemas.specs.Constants.{lettersAt}
 use borrow.Author.Needs.{needs}
 use Rattle.schemas.proofs.letters.is_letter.Statement.{statement}
 use Rattle.schemas.proofs.letters.is_letter.Tie as tie
-use Rattle.schemas.proofs.letters.is_letter.Reads as reads
-use Rattle.schemas.proofs.letters.is_letter.Lts as lts
-use Rattle.schemas.proofs.letters.is_in.Reads as is-in-reads
 
--- src/letters.rt:62:28
 slice-aggregate-is-in : tie.Need-slice-aggregate-is-in
 slice-aggregate-is-in c = search needs
 
--- src/letters.rt:62:19
 is-in-requires : tie.Need-is-in-requires
 is-in-requires c κs = search needs
 
--- src/letters.rt:63:30
 slice-aggregate-is-in-2 : tie.Need-slice-aggregate-is-in-2
 slice-aggregate-is-in-2 c = search needs
 
--- src/letters.rt:63:21
 is-in-requires-2 : tie.Need-is-in-requires-2
 is-in-requires-2 c κs = search needs
 
--- src/letters.rt:64:28
 slice-aggregate-is-in-3 : tie.Need-slice-aggregate-is-in-3
 slice-aggregate-is-in-3 c = search needs
 
--- src/letters.rt:64:19
 is-in-requires-3 : tie.Need-is-in-requires-3
 is-in-requires-3 c κs = search needs
 
--- src/letters.rt:65:30
 slice-aggregate-is-in-4 : tie.Need-slice-aggregate-is-in-4
 slice-aggregate-is-in-4 c = search needs
 
--- src/letters.rt:65:21
 is-in-requires-4 : tie.Need-is-in-requires-4
 is-in-requires-4 c κs = search needs
 
--- src/letters.rt:66:28
 slice-aggregate-is-in-5 : tie.Need-slice-aggregate-is-in-5
 slice-aggregate-is-in-5 c = search needs
 
--- src/letters.rt:66:19
 is-in-requires-5 : tie.Need-is-in-requires-5
 is-in-requires-5 c κs = search needs
 
--- src/letters.rt:67:27
 slice-aggregate-is-in-6 : tie.Need-slice-aggregate-is-in-6
 slice-aggregate-is-in-6 c = search needs
 
--- src/letters.rt:67:18
 is-in-requires-6 : tie.Need-is-in-requires-6
 is-in-requires-6 c κs = search needs
 
--- src/letters.rt:68:33
 slice-aggregate-is-in-7 : tie.Need-slice-aggregate-is-in-7
 slice-aggregate-is-in-7 c = search needs
 
--- src/letters.rt:68:24
 is-in-requires-7 : tie.Need-is-in-requires-7
 is-in-requires-7 c κs = search needs
 
--- src/letters.rt:69:34
 slice-aggregate-is-in-8 : tie.Need-slice-aggregate-is-in-8
 slice-aggregate-is-in-8 c = search needs
 
--- src/letters.rt:69:25
 is-in-requires-8 : tie.Need-is-in-requires-8
 is-in-requires-8 c κs = search needs
 
--- src/letters.rt:70:32
 slice-aggregate-is-in-9 : tie.Need-slice-aggregate-is-in-9
 slice-aggregate-is-in-9 c = search needs
 
--- src/letters.rt:70:23
 is-in-requires-9 : tie.Need-is-in-requires-9
 is-in-requires-9 c κs = search needs
 
--- src/letters.rt:58:1
 returns : tie.Need-returns
 unfolding lettersAt
 returns c = let e : c .before .before .before .args .kind ≡ 19 = omega arith in rw e (c .is-in .ensures)
 
--- src/letters.rt:58:1
 returns-2 : tie.Need-returns-2
 unfolding lettersAt
 returns-2 c = let e : c .before .before .before .args .kind ≡ 20 = omega arith in rw e (c .is-in2 .ensures)
 
--- src/letters.rt:58:1
 returns-3 : tie.Need-returns-3
 unfolding lettersAt
 returns-3 c = let e : c .before .before .before .args .kind ≡ 21 = omega arith in rw e (c .is-in3 .ensures)
 
--- src/letters.rt:58:1
 returns-4 : tie.Need-returns-4
 unfolding lettersAt
 returns-4 c = let e : c .before .before .before .args .kind ≡ 22 = omega arith in rw e (c .is-in4 .ensures)
 
--- src/letters.rt:58:1
 returns-5 : tie.Need-returns-5
 unfolding lettersAt
 returns-5 c = let e : c .before .before .before .args .kind ≡ 23 = omega arith in rw e (c .is-in5 .ensures)
 
--- src/letters.rt:58:1
 returns-6 : tie.Need-returns-6
 unfolding lettersAt
 returns-6 c = let e : c .before .before .before .args .kind ≡ 24 = omega arith in rw e (c .is-in6 .ensures)
 
--- src/letters.rt:58:1
 returns-7 : tie.Need-returns-7
 unfolding lettersAt
 returns-7 c = let e : c .before .before .before .args .kind ≡ 25 = omega arith in rw e (c .is-in7 .ensures)
 
--- src/letters.rt:58:1
 returns-8 : tie.Need-returns-8
 unfolding lettersAt
 returns-8 c = let e : c .before .before .before .args .kind ≡ 26 = omega arith in rw e (c .is-in8 .ensures)
 
--- src/letters.rt:58:1
 returns-9 : tie.Need-returns-9
 unfolding lettersAt
 returns-9 c = let e : c .before .before .before .args .kind ≡ 27 = omega arith in rw e (c .is-in9 .ensures)
 
--- src/letters.rt:58:1
 returns-10 : tie.Need-returns-10
 unfolding lettersAt isIn any
 returns-10 c = let k = c .before .args .kind in

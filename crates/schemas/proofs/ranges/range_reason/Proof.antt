@@ -13,9 +13,6 @@ use Rattle.schemas.proofs.ReasonLaws.{in-range, too-high, too-low, no-n
 use borrow.Author.Needs.{needs}
 use Rattle.schemas.proofs.ranges.range_reason.Statement.{statement}
 use Rattle.schemas.proofs.ranges.range_reason.Tie as tie
-use Rattle.schemas.proofs.ranges.range_reason.Reads as reads
-use Rattle.schemas.proofs.ranges.range_reason.Lts as lts
-use Rattle.numbers.proofs.read_number.Reads as read-number-reads
 
 abbrev At : Type 0
 At = tie.After-known-told
@@ -40,39 +37,30 @@ low k e = sym (rw (toZ-ofZ (start k .fits .lowest), toZ-ofZ (fits k))) ∙ e
 high : (k : At) {t : Bool} → leZ (toZ w64 (ofZ w64 (value k))) (toZ w64 (ofZ w64 (start k .args .highest))) ≡ t → leZ (value k) (start k .args .highest) ≡ t
 high k e = sym (rw (toZ-ofZ (start k .fits .highest), toZ-ofZ (fits k))) ∙ e
 
--- src/ranges.rt:98:11
 read-number-requires : tie.Need-read-number-requires
 read-number-requires c κs = search needs
 
--- src/ranges.rt:99:23
 enum-known-v : tie.Need-enum-known-v
 enum-known-v c = search needs
 
--- src/ranges.rt:102:21
 returns : tie.Need-returns
 returns c = let k = c .before .before in in-range _ _ (is k) (low k (c .before .if1 .taken)) (high k (c .if2 .taken))
 
--- src/ranges.rt:104:17
 returns-2 : tie.Need-returns-2
 returns-2 c = let k = c .before .before in too-high _ _ (is k) (low k (c .before .if1 .taken)) (high k (c .if2 .left))
 
--- src/ranges.rt:108:30
 enum-told : tie.Need-enum-told
 enum-told c = search needs
 
--- src/ranges.rt:109:27
 enum-told-2 : tie.Need-enum-told-2
 enum-told-2 c = search needs
 
--- src/ranges.rt:94:1
 returns-3 : tie.Need-returns-3
 returns-3 c = let k = c .before in too-low _ _ (is k) (low k (c .if1 .left))
 
--- src/ranges.rt:94:1
 returns-4 : tie.Need-returns-4
 returns-4 c = no-number _ _ (not-number _ (sym (c .before .before .read-number .ensures) ∙ c .enum-told .given .1))
 
--- src/ranges.rt:94:1
 returns-5 : tie.Need-returns-5
 returns-5 c = let s = c .before .before .before .before in
     too-large _ _ (s .pre .0) (s .pre .1) (beyond-large _ (sym (c .before .before .read-number .ensures) ∙ c .enum-told2 .given .1))

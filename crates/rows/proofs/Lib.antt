@@ -1,0 +1,3 @@
+pub mod FormedLaws
+pub mod PlaceLaws
+pub mod ValueLaws

@@ -1,0 +1,19 @@
+-- What the column's text says, through a word that holds it.
+use mir.Facts.{toZ-ofZ}
+use mathlib.Core.Path.{_∙_}
+use Rattle.laws.proofs.Words.{kept}
+use borrow.Author.Needs.{needs}
+use Rattle.rows.proofs.at.integer_at.Statement.{statement}
+use Rattle.rows.proofs.at.integer_at.Tie as tie
+
+text-at-requires : tie.Need-text-at-requires
+text-at-requires c κs = search needs
+
+integer-or-requires : tie.Need-integer-or-requires
+integer-or-requires c κs = search needs
+
+returns : tie.Need-returns
+returns c = kept (c .integer-or .ok) (c .integer-or .ensures ∙ rw (toZ-ofZ (c .before .before .before .fits .default), c .before .text-at .ensures))
+
+pub integer-at-spec : {M : Type 1} → statement M
+integer-at-spec = tie.close (tie.spec text-at-requires integer-or-requires returns)
