@@ -84,5 +84,5 @@ checkedBy columns line = record { verdict = shape columns line; columns = divide
 
 -- a cap row: C1, TAB, 5, TAB, 08: "08 is reason 6", at column 3
 pub example : shape (schema Cap) (lineOf (67 ∷ 49 ∷ 9 ∷ 53 ∷ 9 ∷ 48 ∷ 56 ∷ []) true) ≡ verdict 6 3
-unfolding shape schema cap foreignIn any allowed columnsOf columnsFrom firstReason columnReason kindReason numberReason numberOf meaning spelt after digitOn digitOf
+unfolding shape schema cap foreignIn allowed columnsOf columnsFrom firstReason columnReason kindReason numberReason numberOf meaning spelt after digitOn digitOf
 example = refl

@@ -100,7 +100,7 @@ unfolding lettersAt
 returns-9 c = let e : c .before .before .before .args .kind ≡ 27 = omega arith in rw e (c .is-in9 .ensures)
 
 returns-10 : tie.Need-returns-10
-unfolding lettersAt isIn any
+unfolding lettersAt isIn
 returns-10 c = let k = c .before .args .kind in
     let r = c .match .rest in
     rw (ne-eqb k 19 (r .0 .0 .0 .0 .0 .0 .0 .0 .1), ne-eqb k 20 (r .0 .0 .0 .0 .0 .0 .0 .1), ne-eqb k 21 (r .0 .0 .0 .0 .0 .0 .1), ne-eqb k 22 (r .0 .0 .0 .0 .0 .1), ne-eqb k 23 (r .0 .0 .0 .0 .1), ne-eqb k 24 (r .0 .0 .0 .1), ne-eqb k 25 (r .0 .0 .1), ne-eqb k 26 (r .0 .1), ne-eqb k 27 (r .1))

@@ -1,0 +1,45 @@
+-- What an import answers, and what it leaves in the cells.
+use Prim.Native.Nat.{ℕ, suc}
+use mathlib.Core.Bool.{Bool, cond}
+use mathlib.Core.List.{List, [], _∷_, _++_, map}
+use lib.Dec.{eqb, ltb}
+use lib.ListN.{length, drop}
+use Rattle.laws.specs.Lists.{keep}
+use Rattle.lines.specs.Lines.{linesOf}
+use Rattle.verdicts.specs.Entries.{allRows}
+use Rattle.verdicts.specs.Verdicts.{verdicts}
+
+-- the paper's number of a refusal and its place, or 0 and the counts of rows and of good rows
+pub data Imported : Type 0 where
+  refused : (number place : ℕ) → Imported
+  taken : (rows good : ℕ) → Imported
+
+-- the first table, from 1, of which a test holds; 0 where it holds of none
+unfoldable pub firstTable : (List ℕ → Bool) → ℕ → List (List ℕ) → ℕ
+firstTable test k [] = 0
+firstTable test k (text ∷ texts) = cond (test text) k (firstTable test (suc k) texts)
+
+-- 01: "a table over 65,536 bytes"; "over 1,024 rows"
+unfoldable pub tooLong : List (List ℕ) → ℕ
+tooLong texts = firstTable (λ text. ltb 65536 (length text)) 1 texts
+
+unfoldable pub tooManyRows : List (List ℕ) → ℕ
+tooManyRows texts = firstTable (λ text. ltb 1024 (length (linesOf text))) 1 texts
+
+-- 01: "The count of good rows is the number of zeros among the cells written"
+unfoldable pub zeros : List ℕ → ℕ
+zeros cells = length (keep (λ cell. eqb cell 0) cells)
+
+-- 01: "The least number decides"; "for 1 and 2 the first such table, 1 to 10"; "else 0"
+unfoldable pub importOf : List (List ℕ) → (room : ℕ) → Imported
+importOf texts room =
+    cond (eqb (tooLong texts) 0)
+    (cond (eqb (tooManyRows texts) 0)
+    (cond (ltb room (length (allRows texts))) (refused 3 0) (taken (length (allRows texts)) (zeros (verdicts texts))))
+    (refused 2 (tooManyRows texts)))
+    (refused 1 (tooLong texts))
+
+-- 01: "A refusal writes nothing"; "A finished import writes one cell per row, in table order, leaves further cells"
+unfoldable pub cellsAfter : List (List ℕ) → List ℕ → Imported → List ℕ
+cellsAfter texts cells (refused number place) = cells
+cellsAfter texts cells (taken rows good) = verdicts texts ++ drop rows cells

@@ -1,0 +1,227 @@
+-- What a well-formed row says of itself and of others: the columns of 01 under "Columns" that speak of keys, names and counts.
+use Prim.Native.Nat.{ℕ}
+use mathlib.Core.Bool.{Bool, true, false, cond, _&&_}
+use mathlib.Core.List.{List, [], _∷_, _++_}
+use Rattle.schemas.specs.declared.Table.{Table}
+use Rattle.schemas.specs.declared.Table.the-variants.{Pid, Pic, Plf, Pcf, Caf, Cap, Txf, Txp, Ocf, Ocp}
+use Rattle.rows.specs.Records.{pidRow, picRow, plfRow, pcfRow, cafRow, capRow, txfRow, txpRow, ocfRow, ocpRow}
+use Rattle.rows.specs.Contradictions.{isWhole}
+use Rattle.rows.specs.declared.records.OptionalName.{OptionalName}
+use Rattle.rows.specs.declared.records.OptionalCurve.{OptionalCurve}
+use Rattle.rows.specs.declared.records.PidRow.{PidRow}
+use Rattle.rows.specs.declared.records.PicRow.{PicRow}
+use Rattle.rows.specs.declared.records.PlfRow.{PlfRow}
+use Rattle.rows.specs.declared.records.PcfRow.{PcfRow}
+use Rattle.rows.specs.declared.records.CafRow.{CafRow}
+use Rattle.rows.specs.declared.records.CapRow.{CapRow}
+use Rattle.rows.specs.declared.records.TxfRow.{TxfRow}
+use Rattle.rows.specs.declared.records.TxpRow.{TxpRow}
+use Rattle.rows.specs.declared.records.OcfRow.{OcfRow}
+use Rattle.rows.specs.declared.records.OcpRow.{OcpRow}
+use Rattle.rows.specs.declared.letters.Valid.{Valid}
+use Rattle.rows.specs.declared.letters.Valid.the-variants.{Yes, No}
+use Rattle.rows.specs.declared.letters.Category.{Category}
+use Rattle.rows.specs.declared.letters.Category.the-variants.{Numeric, Status, Text}
+use Rattle.rows.specs.declared.letters.Nature.{Nature}
+use Rattle.rows.specs.declared.letters.Nature.the-variants.{Raw, Dynamic, Expression, HardCoded, Saved, Constant}
+use Rattle.rows.specs.declared.letters.LimitValue.{LimitValue}
+use Rattle.rows.specs.declared.letters.LimitValue.the-variants as LV
+use Rattle.verdicts.specs.Key.{Key, packet, structure, identification, location, parameter, curve, point, texts, range, limits, check}
+
+-- what is asked of a named row beside being there and good
+pub data Condition : Type 0 where
+  -- nothing more
+  anyRow : Condition
+  -- 01: "a pcf row with NATUR R"
+  raw : Condition
+  -- 01: "a pcf row of PTC 1–4"
+  whole : Condition
+  -- 01: "a pcf row of PTC 1–4, CATEG N"
+  numeric : Condition
+  -- 01: "C needs CURTX in that pcf row"
+  calibrated : Condition
+
+-- a column that names a row: the key it names and the condition. Through a column of the VALID chain circles are sought
+pub record Naming : Type 0 where
+  pub column : ℕ
+  pub key : Key
+  pub condition : Condition
+  pub chained : Bool
+
+-- a column that gives the number of rows in a group; a group goes by the key of the row that counts it
+pub record Count : Type 0 where
+  pub column : ℕ
+  pub number : ℕ
+  pub group : Key
+
+pub record Facts : Type 0 where
+  -- the keys it holds
+  pub keys : List Key
+  -- what it names, by rising column
+  pub names : List Naming
+  pub counts : List Count
+  -- the groups that it is counted in
+  pub groups : List Key
+  -- the conditions that it meets
+  pub meets : Condition → Bool
+
+abbrev plainly : Condition → Bool
+plainly anyRow = true
+plainly raw = false
+plainly whole = false
+plainly numeric = false
+plainly calibrated = false
+
+-- a name in a column that may be empty
+abbrev when : Bool → Naming → List Naming
+when given naming = cond given (naming ∷ []) []
+
+-- 01: "Among well-formed VALID Y rows the first five numbers are unique, and so is SPID. N rows have no key and are never named"
+unfoldable pub pidKeys : Valid → PidRow → List Key
+pidKeys Yes r = packet (r .ptype) (r .stype) (r .apid) (r .pi1) (r .pi2) ∷ structure (r .spid .0) ∷ []
+pidKeys No r = []
+
+unfoldable pub pidFacts : PidRow → Facts
+pidFacts r = record { keys = pidKeys (r .valid) r; names = []; counts = []; groups = []; meets = plainly }
+
+unfoldable pub picFacts : PicRow → Facts
+picFacts r = record { keys = identification (r .ptype) (r .stype) (r .apid) ∷ []; names = []; counts = []; groups = []; meets = plainly }
+
+-- 01: "NAME names a pcf row with NATUR R, SPID a VALID Y pid row"
+unfoldable pub plfFacts : PlfRow → Facts
+plfFacts r =
+    record {
+      keys = location (r .name) (r .spid .0) ∷ [];
+      names =
+          record { column = 1; key = parameter (r .name); condition = raw; chained = false }
+          ∷ record { column = 2; key = structure (r .spid .0); condition = anyRow; chained = false } ∷ [];
+      counts = [];
+      groups = [];
+      meets = plainly;
+    }
+
+abbrev isRaw : Nature → Bool
+isRaw Raw = true
+isRaw Dynamic = false
+isRaw Expression = false
+isRaw HardCoded = false
+isRaw Saved = false
+isRaw Constant = false
+
+abbrev isNumeric : Category → Bool
+isNumeric Numeric = true
+isNumeric Status = false
+isNumeric Text = false
+
+abbrev pcfMeets : PcfRow → Condition → Bool
+pcfMeets r anyRow = true
+pcfMeets r raw = isRaw (r .natur)
+pcfMeets r whole = isWhole (r .ptc)
+pcfMeets r numeric = isWhole (r .ptc) && isNumeric (r .categ)
+pcfMeets r calibrated = r .curtx .given
+
+-- 01: "S needs CURTX, naming a txf row; N may name a caf row"; T has none
+abbrev curtxKey : Category → OptionalCurve → Key
+curtxKey Numeric c = curve (c .name)
+curtxKey Status c = texts (c .name)
+curtxKey Text c = curve (c .name)
+
+-- 01: "VALID, if given, names a pcf row of PTC 1–4"
+unfoldable pub pcfFacts : PcfRow → Facts
+pcfFacts r =
+    record {
+      keys = parameter (r .name) ∷ [];
+      names =
+          when (r .valid .given) (record { column = 8; key = parameter (r .valid .name); condition = whole; chained = true })
+          ++ when (r .curtx .given) (record { column = 12; key = curtxKey (r .categ) (r .curtx); condition = anyRow; chained = false });
+      counts = [];
+      groups = [];
+      meets = pcfMeets r;
+    }
+
+-- 01: "NCURVE counts cap rows"
+unfoldable pub cafFacts : CafRow → Facts
+cafFacts r =
+    record {
+      keys = curve (r .numbr) ∷ [];
+      names = [];
+      counts = record { column = 7; number = r .ncurve; group = curve (r .numbr) } ∷ [];
+      groups = [];
+      meets = plainly;
+    }
+
+-- 01: "NUMBR 10! (a caf row)"
+unfoldable pub capFacts : CapRow → Facts
+capFacts r =
+    record {
+      keys = point (r .numbr) (r .xvals) ∷ [];
+      names = record { column = 1; key = curve (r .numbr); condition = anyRow; chained = false } ∷ [];
+      counts = [];
+      groups = curve (r .numbr) ∷ [];
+      meets = plainly;
+    }
+
+-- 01: "NALIAS 3! 1–999, counting txp rows"
+unfoldable pub txfFacts : TxfRow → Facts
+txfFacts r =
+    record {
+      keys = texts (r .numbr) ∷ [];
+      names = [];
+      counts = record { column = 4; number = r .nalias; group = texts (r .numbr) } ∷ [];
+      groups = [];
+      meets = plainly;
+    }
+
+-- 01: "NUMBR 10! (a txf row)"
+unfoldable pub txpFacts : TxpRow → Facts
+txpFacts r =
+    record {
+      keys = range (r .numbr) (r .from) ∷ [];
+      names = record { column = 1; key = texts (r .numbr); condition = anyRow; chained = false } ∷ [];
+      counts = [];
+      groups = texts (r .numbr) ∷ [];
+      meets = plainly;
+    }
+
+-- 01: "C needs CURTX in that pcf row (reason 11, column 4)"
+abbrev ofEngineering : LimitValue → Naming → List Naming
+ofEngineering LV.Raw naming = []
+ofEngineering LV.Engineering naming = naming ∷ []
+
+-- 01: "NAME 8! (a pcf row of PTC 1–4, CATEG N)"; "NBOOL 2! 1–16, counting ocp rows"
+unfoldable pub ocfFacts : OcfRow → Facts
+ocfFacts r =
+    record {
+      keys = limits (r .name) ∷ [];
+      names =
+          record { column = 1; key = parameter (r .name); condition = numeric; chained = false }
+          ∷ ofEngineering (r .inter) (record { column = 4; key = parameter (r .name); condition = calibrated; chained = false });
+      counts = record { column = 3; number = r .nbool; group = limits (r .name) } ∷ [];
+      groups = [];
+      meets = plainly;
+    }
+
+-- 01: "NAME 8! (an ocf row)"; "RLCHK 8 (a pcf row of PTC 1–4)"
+unfoldable pub ocpFacts : OcpRow → Facts
+ocpFacts r =
+    record {
+      keys = check (r .name) (r .pos) ∷ [];
+      names =
+          record { column = 1; key = limits (r .name); condition = anyRow; chained = false }
+          ∷ when (r .rlchk .given) (record { column = 6; key = parameter (r .rlchk .name); condition = whole; chained = false });
+      counts = [];
+      groups = limits (r .name) ∷ [];
+      meets = plainly;
+    }
+
+unfoldable pub factsOf : Table → List ℕ → Facts
+factsOf Pid line = pidFacts (pidRow line)
+factsOf Pic line = picFacts (picRow line)
+factsOf Plf line = plfFacts (plfRow line)
+factsOf Pcf line = pcfFacts (pcfRow line)
+factsOf Caf line = cafFacts (cafRow line)
+factsOf Cap line = capFacts (capRow line)
+factsOf Txf line = txfFacts (txfRow line)
+factsOf Txp line = txpFacts (txpRow line)
+factsOf Ocf line = ocfFacts (ocfRow line)
+factsOf Ocp line = ocpFacts (ocpRow line)
