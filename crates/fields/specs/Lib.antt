@@ -1,0 +1,7 @@
+pub mod Bits
+pub mod Place
+pub mod Said
+pub mod Field
+pub mod Sign
+pub mod Text
+pub mod Figures
