@@ -11,7 +11,7 @@ use borrow.Author.Tests.{le-leb, lt-leb, leb-true}
 use Rattle.laws.proofs.Cases.{and-both}
 use Rattle.fields.specs.Bits.{numberAt}
 use Rattle.fields.specs.Place.{inside}
-use Rattle.fields.specs.Said.{value, refused, free}
+use Rattle.laws.specs.Said.{value, refused, free}
 use Rattle.fields.specs.Field.{isWidth, fieldAt, unsignedAt}
 use Rattle.fields.proofs.BitLaws.{number-lt, number-same, Bits-agree, Bytes-agree, bits-agree}
 use Rattle.fields.proofs.PlaceLaws.{inside-yes, inside-no, inside-same}

@@ -12,7 +12,7 @@ use lib.ListN.{length}
 use lib.Pow.{pow-pos}
 use borrow.Author.Tests.{lt-ltb, le-ltb, ltb-true, ltb-false}
 use Rattle.laws.proofs.Cases.{bool-cases}
-use Rattle.fields.specs.Said.{value, refused, free}
+use Rattle.laws.specs.Said.{value, refused, free}
 use Rattle.fields.specs.Field.{isWidth, unsignedAt}
 use Rattle.fields.specs.Sign.{complementOf, complementAt, signedAt}
 use Rattle.fields.proofs.BitLaws.{number-lt, Bits-agree}

@@ -11,7 +11,7 @@ use lib.Seq.{ext-getD, getD-take, getD-drop}
 use borrow.Author.Tests.{le-leb, lt-leb, eq-eqb, ne-eqb, eqb-true, eqb-false, leb-true, leb-false}
 use Rattle.laws.proofs.Cases.{bool-cases}
 use Rattle.fields.specs.Place.{inside}
-use Rattle.fields.specs.Said.{value, refused, free}
+use Rattle.laws.specs.Said.{value, refused, free}
 use Rattle.fields.specs.Text.{stringAt, partAt}
 use Rattle.fields.proofs.PlaceLaws.{inside-yes, inside-no, inside-same, inside-every}
 

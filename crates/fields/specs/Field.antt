@@ -7,7 +7,7 @@ use lib.Dec.{leb}
 use lib.IntN.{ℤ, pos}
 use Rattle.fields.specs.Bits.{bitAt, numberAt}
 use Rattle.fields.specs.Place.{bitInside, inside}
-use Rattle.fields.specs.Said.{Said, value, refused, free}
+use Rattle.laws.specs.Said.{Said, value, refused, free}
 use Rattle.fields.specs.declared.field.Unsigned.{Unsigned}
 use Rattle.fields.specs.declared.field.Unsigned.the-variants.{Is, Outside, NoWidth}
 

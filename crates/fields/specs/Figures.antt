@@ -5,7 +5,7 @@ use Prim.Native.Nat.{ℕ, _+_, _*_}
 use lib.IntN.{pos, negsuc}
 use Rattle.fields.specs.Bits.{bitAt, numberAt}
 use Rattle.fields.specs.Place.{bitInside, inside}
-use Rattle.fields.specs.Said.{Said, value, refused}
+use Rattle.laws.specs.Said.{Said, value, refused}
 use Rattle.fields.specs.Field.{isWidth, fieldAt, unsignedAt}
 use Rattle.fields.specs.Sign.{complementOf, signedAt}
 

@@ -1,6 +1,5 @@
 pub mod Bits
 pub mod Place
-pub mod Said
 pub mod Field
 pub mod Sign
 pub mod Text

@@ -7,7 +7,7 @@ use lib.Dec.{ltb}
 use lib.IntN.{ℤ, pos, negsuc, _-ℤ_}
 use Rattle.fields.specs.Bits.{bitAt, numberAt}
 use Rattle.fields.specs.Place.{bitInside, inside}
-use Rattle.fields.specs.Said.{Said, value, refused, free}
+use Rattle.laws.specs.Said.{Said, value, refused, free}
 use Rattle.fields.specs.Field.{isWidth, fieldAt}
 use Rattle.fields.specs.declared.sign.Complement.{Complement}
 use Rattle.fields.specs.declared.sign.Complement.the-variants.{Integer, NoField}

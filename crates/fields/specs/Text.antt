@@ -7,7 +7,7 @@ use lib.Dec.{eqb, leb}
 use lib.IntN.{pos}
 use lib.ListN.{length, take, drop}
 use Rattle.fields.specs.Place.{bitInside, inside}
-use Rattle.fields.specs.Said.{Said, value, refused, free}
+use Rattle.laws.specs.Said.{Said, value, refused, free}
 use Rattle.fields.specs.declared.text.StringAt.{StringAt}
 use Rattle.fields.specs.declared.text.StringAt.the-variants.{Inside, Outside, OffByte, NoBytes}
 

@@ -4,7 +4,7 @@ use Prim.Native.Nat.{ℕ}
 use native.Mathlib.Omega.{arith}
 use lib.IntN.{pos}
 use Rattle.fields.specs.Bits.{numberAt}
-use Rattle.fields.specs.Said.{value}
+use Rattle.laws.specs.Said.{value}
 use Rattle.fields.specs.Field.{saidUnsigned, unsignedAt}
 use Rattle.fields.proofs.FieldLaws.{width-none, width-over, field-free, field-outside, field-value}
 use borrow.Author.Needs.{needs}

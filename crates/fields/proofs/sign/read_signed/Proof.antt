@@ -2,7 +2,7 @@
 use native.Mathlib.Omega.{arith}
 use lib.IntN.{pos}
 use Rattle.laws.proofs.Words.{kept}
-use Rattle.fields.specs.Said.{value}
+use Rattle.laws.specs.Said.{value}
 use Rattle.fields.specs.Field.{saidUnsigned, unsignedAt}
 use Rattle.fields.specs.Sign.{saidSigned}
 use Rattle.fields.proofs.FieldLaws.{unsigned-read}

@@ -2,7 +2,7 @@
 use mathlib.Core.Path.{ap, _∙_}
 use native.Mathlib.Omega.{arith}
 use Rattle.laws.proofs.Words.{kept}
-use Rattle.fields.specs.Said.{value}
+use Rattle.laws.specs.Said.{value}
 use Rattle.fields.specs.Sign.{saidComplement}
 use Rattle.fields.proofs.FieldLaws.{width-none, width-over}
 use Rattle.fields.proofs.SignLaws.{too-wide, fits, complement-no-width, complement-too-wide, complement-is}
