@@ -1,8 +1,7 @@
 -- Laws of integers that the proofs of signed functions cite: signs, magnitudes, and what a word holds. Assumes nothing.
 use mathlib.Core.Path.{_≡_, refl, sym, ap₂, _∙_}
 use mathlib.Core.Bool.{Bool, true, false, not, Bool·beq}
-use Prim.Native.Nat.{ℕ, zero, suc, _+_, _^_, _<_, _≤_}
-use native.Mathlib.Nat.{zero-add}
+use Prim.Native.Nat.{ℕ, zero, suc, _+_, _-_, _^_, _<_, _≤_}
 use native.Mathlib.Omega.{arith}
 use lib.IntN.{ℤ, pos, negsuc, natAbs, negℤ, subℕ, _+ℤ_, _-ℤ_}
 use lib.Signed.{mag, ltZ, nonNeg}
@@ -10,7 +9,7 @@ use lib.Dec.{T, ltb}
 use mir.Syntax.{w64}
 use mir.Val.{SFits, toZ, ofZ}
 use mir.ValLaws.{toZ-ofZ}
-use borrow.Author.Tests.{lt-ltb, le-ltb, ltb-true}
+use borrow.Author.Tests.{le-ltb, ltb-true}
 use Rattle.laws.proofs.Cases.{false≢true, cond-cases}
 use Rattle.laws.proofs.Words.{fits-size, kept}
 
@@ -26,10 +25,14 @@ pub not-below-zero : (z : ℤ) → ltZ z (pos 0) ≡ false → T (nonNeg z)
 not-below-zero (pos n) e = tt
 not-below-zero (negsuc n) e = absurd (false≢true (sym e))
 
--- 0 less z
-pub flip-sign : (z : ℤ) → ltZ z (pos 0) ≡ true → T (nonNeg (pos 0 -ℤ z))
-flip-sign (pos n) e = absurd (false≢true (sym (le-ltb n 0 (omega arith)) ∙ e))
-flip-sign (negsuc n) e = tt
+-- -1 less a number below 0 is one less than its magnitude
+pub flipped : (z : ℤ) → ltZ z (pos 0) ≡ true → negsuc 0 -ℤ z ≡ pos (natAbs z - 1)
+flipped (pos n) e = absurd (false≢true (sym (le-ltb n 0 (omega arith)) ∙ e))
+flipped (negsuc n) e = simp (le-ltb (suc n) 1 (omega arith))
+
+pub flipped-size : (z : ℤ) → ltZ z (pos 0) ≡ true → natAbs z - 1 + 1 ≡ natAbs z
+flipped-size (pos n) e = absurd (false≢true (sym (le-ltb n 0 (omega arith)) ∙ e))
+flipped-size (negsuc n) e = omega arith
 
 -- the magnitude of a sum, of a negation and of a difference
 size-sub : (a b : ℕ) → natAbs (subℕ a b) ≤ a + b
@@ -48,11 +51,6 @@ size-neg (negsuc n) = refl
 
 pub size-minus : (a b : ℤ) → natAbs (a -ℤ b) ≤ natAbs a + natAbs b
 size-minus a b = omega (arith, size-add a (negℤ b), size-neg b)
-
-pub flip-size : (z : ℤ) → natAbs (pos 0 -ℤ z) ≡ natAbs z
-flip-size (pos zero) = refl
-flip-size (pos (suc n)) = simp (lt-ltb 0 (suc n) (omega arith)) (omega arith)
-flip-size (negsuc n) = zero-add (suc n)
 
 -- two that are apart have a distance
 pub apart : (a b : ℤ) → ltZ a b ≡ true → 0 < natAbs (b -ℤ a)

@@ -48,9 +48,8 @@ pub(crate) fn of_nat(n: u64) -> i64
 }
 
 // The magnitude.
-pub(crate) fn size(a: i64) -> u64
-    requires { ⌜ natAbs a < 2 ^ 63 ⌝ }
+pub fn size(a: i64) -> u64
     ensures { λ r. ⌜ r ≡ natAbs a ⌝ }
 {
-    if a < 0 { (0 - a) as u64 } else { a as u64 }
+    if a < 0 { (-1 - a) as u64 + 1 } else { a as u64 }
 }

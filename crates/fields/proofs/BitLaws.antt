@@ -97,3 +97,7 @@ pub number-same : (p q : List ℕ) (at n : ℕ) → Bits-agree p q at n → numb
 unfolding numberAt Bits-agree
 number-same p q at zero h = refl
 number-same p q at (suc n) h = ap₂ (λ (x y : ℕ). x * 2 + y) (number-same p q at n (λ k l. h k (omega arith))) (h n (omega arith))
+
+-- two bytes with the same eight bits are one
+pub byte-same : (p q : List ℕ) (k : ℕ) → getD p k 0 < 256 → getD q k 0 < 256 → Bits-agree p q (k * 8) 8 → getD p k 0 ≡ getD q k 0
+byte-same p q k h l e = sym (number-whole-byte p k h) ∙ number-same p q (k * 8) 8 e ∙ number-whole-byte q k l

@@ -11,7 +11,7 @@ use Rattle.laws.specs.Said.{Said, value, refused, free}
 use Rattle.fields.specs.declared.field.Unsigned.{Unsigned}
 use Rattle.fields.specs.declared.field.Unsigned.the-variants.{Is, Outside, NoWidth}
 
--- the widths that a field can have, in bits
+-- the widths that a field can have: 1 to 64 bits
 unfoldable pub isWidth : ℕ → Bool
 isWidth n = leb 1 n && leb n 64
 

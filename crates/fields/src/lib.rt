@@ -1,5 +1,5 @@
 // Fields of a packet: bits read as an unsigned or a signed number, and strings. Proved once over the width.
-pub mod bits;
+mod bits;
 pub mod field;
 pub mod sign;
 pub mod text;

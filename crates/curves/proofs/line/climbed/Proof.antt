@@ -32,10 +32,10 @@ over-sign : (c : tie.After-is-negative2) → (let s = c .before .before .before 
 over-sign c = let s = c .before .before .before .before .before in sym (c .is-negative2 .ensures ∙ ap (λ (z : ℤ). not (nonNeg z)) (toZ-ofZ w64 (s .args .over) (s .fits .over)))
 
 size-requires : tie.Need-size-requires
-size-requires c κs = rw (toZ-ofZ w64 (c .args .rise) (c .fits .rise)) (omega (arith, c .pre))
+size-requires c κs = search needs
 
 size-requires-2 : tie.Need-size-requires-2
-size-requires-2 c κs = rw (toZ-ofZ w64 (c .before .args .over) (c .before .fits .over)) (omega (arith, c .before .pre))
+size-requires-2 c κs = search needs
 
 product-requires : tie.Need-product-requires
 product-requires c κs = omega (arith, rise-size (c .before), over-size c)

@@ -8,6 +8,7 @@ use Rattle.curves.specs.Floor.{floorDiv}
 use Rattle.curves.specs.Line.{heightAt, resultOf}
 use Rattle.curves.proofs.IntLaws.{through, size-minus, apart, gap-fits, gap-is}
 use Rattle.curves.proofs.LineLaws.{Near, near}
+use borrow.Author.Needs.{needs}
 use Rattle.curves.proofs.line.drawn.Statement.{statement}
 use Rattle.curves.proofs.line.drawn.Tie as tie
 
@@ -31,7 +32,7 @@ minus-requires : tie.Need-minus-requires
 minus-requires c κs = let s = c .before .before in let n = small s in gap-fits (s .args .to .x) (s .args .from .x) (omega arith) (omega arith)
 
 size-requires : tie.Need-size-requires
-size-requires c κs = let s = c .before .before .before in let n = small s in rw (run-is c) (omega (arith, size-minus (s .args .to .x) (s .args .from .x)))
+size-requires c κs = search needs
 
 minus-requires-2 : tie.Need-minus-requires-2
 minus-requires-2 c κs = let s = c .before .before .before .before .before .before in let n = small s in gap-fits (s .args .to .y) (s .args .from .y) (omega arith) (omega arith)
