@@ -1,0 +1,74 @@
+// Reason 12, and the rows of a VALID chain.
+use crate::reads::byte_at;
+use crate::reads::half_at;
+ghost use mathlib.Core.Path.{_≡_};
+ghost use Rattle.import.specs.Model.{noRow, nextAt, comesTo, chainGood};
+
+pub(crate) const NO_ROW: usize = 65535;
+
+// The code of a naming by VALID.
+const VALID: u8 = 3;
+
+// The next row of the chain, or NO_ROW.
+fn next_row(oc: &[u8], found: &[u16], sound: &[u8], i: usize) -> usize
+    ensures { λ r. ⌜ r ≡ nextAt (now (oc .entry)) (now (found .entry)) (now (sound .entry)) i ⌝ }
+{
+    if byte_at(oc, i) == VALID {
+        let j = half_at(found, i) as usize;
+        if byte_at(sound, j) == 1 {
+            return j;
+        }
+        return NO_ROW;
+    }
+    NO_ROW
+}
+
+// Whether within n steps the chain from row i comes to row z.
+pub(crate) fn comes_to(oc: &[u8], found: &[u16], sound: &[u8], z: usize, n: usize, i: usize) -> bool
+    ensures { λ r. ⌜ r ≡ comesTo (now (oc .entry)) (now (found .entry)) (now (sound .entry)) z n i ⌝ }
+{
+    let mut left = n;
+    let mut at = i;
+    while 0 < left {
+        let next = next_row(oc, found, sound, at);
+        if next == NO_ROW {
+            return false;
+        }
+        if next == z {
+            return true;
+        }
+        at = next;
+        left -= 1;
+    }
+    false
+}
+
+// Whether within n rows the chain from row i ends, each row linked and each next one whole.
+pub(crate) fn chain_good(
+    oc: &[u8],
+    found: &[u16],
+    linked: &[u8],
+    whole: &[u8],
+    n: usize,
+    i: usize,
+) -> bool
+    ensures { λ r. ⌜ r ≡ chainGood (now (oc .entry)) (now (found .entry)) (now (linked .entry)) (now (whole .entry)) n i ⌝ }
+{
+    let mut left = n;
+    let mut at = i;
+    while 0 < left {
+        if byte_at(linked, at) != 1 {
+            return false;
+        }
+        if byte_at(oc, at) != VALID {
+            return true;
+        }
+        let next = half_at(found, at) as usize;
+        if byte_at(whole, next) != 1 {
+            return false;
+        }
+        at = next;
+        left -= 1;
+    }
+    false
+}

@@ -1,0 +1,6 @@
+// The import: verdicts of all rows of the ten tables.
+mod chains;
+mod find;
+mod reads;
+mod shared;
+mod sound;
