@@ -1,5 +1,5 @@
 -- Searches and counts over places. Assumes nothing.
-use mathlib.Core.Path.{_≡_, refl, ap, sym, _∙_}
+use mathlib.Core.Path.{_≡_, refl}
 use mathlib.Core.Bool.{Bool, true, false, not, cond, _&&_}
 use mathlib.Core.List.{List}
 use Prim.Native.Nat.{ℕ, zero, suc, _+_, _-_, _≤_, _<_}
@@ -8,7 +8,7 @@ use native.Mathlib.Decide.{ℕ-discrete}
 use lib.Dec.{eqb}
 use lib.ListN.{getD}
 use borrow.Author.Tests.{eq-eqb, ne-eqb}
-use Rattle.import.specs.Model.{findFrom, countFrom, keyAt}
+use Rattle.import.specs.Model.{findFrom, countFrom, keyAt, secondAt, groupAt}
 
 module _ (test : ℕ → Bool) where
   pub find-none : (lo n : ℕ) → n ≡ 0 → findFrom test lo n ≡ lo
@@ -28,21 +28,24 @@ module _ (test : ℕ → Bool) where
       let e : hi - i ≡ suc (hi - (i + 1)) = omega arith in
       rw (e, t)
 
-  pub count-here : (i hi : ℕ) → i < hi → test i ≡ true → countFrom test i (hi - i) ≡ countFrom test (i + 1) (hi - (i + 1)) + 1
+  -- one place of a count, with n counted before it
+  pub count-here : (i hi n : ℕ) → i < hi → test i ≡ true → n + 1 + countFrom test (i + 1) (hi - (i + 1)) ≡ n + countFrom test i (hi - i)
   unfolding countFrom
-  count-here i hi h t =
+  count-here i hi n h t =
+      let e : hi - i ≡ suc (hi - (i + 1)) = omega arith in
+      rw (e, t) (omega arith)
+
+  pub count-more : (i hi n : ℕ) → i < hi → test i ≡ false → n + countFrom test (i + 1) (hi - (i + 1)) ≡ n + countFrom test i (hi - i)
+  unfolding countFrom
+  count-more i hi n h t =
       let e : hi - i ≡ suc (hi - (i + 1)) = omega arith in
       rw (e, t)
 
-  pub count-more : (i hi : ℕ) → i < hi → test i ≡ false → countFrom test i (hi - i) ≡ countFrom test (i + 1) (hi - (i + 1))
+  pub count-none : (i hi n : ℕ) → hi ≤ i → n ≡ n + countFrom test i (hi - i)
   unfolding countFrom
-  count-more i hi h t =
-      let e : hi - i ≡ suc (hi - (i + 1)) = omega arith in
-      rw (e, t)
-
-  pub count-none : (lo n : ℕ) → n ≡ 0 → countFrom test lo n ≡ 0
-  unfolding countFrom
-  count-none lo n e = rw e
+  count-none i hi n h =
+      let e : hi - i ≡ 0 = omega arith in
+      rw e (omega arith)
 
   -- what a search tells: it stays within its places, holds where it ends, and nowhere before
   pub record Found (lo hi r : ℕ) : Type 0 where
@@ -82,3 +85,18 @@ module _ (ka kb kc held : List ℕ) (a b c i : ℕ) where
   pub key-rest : getD ka i 0 ≡ a → {t : Bool} → (eqb (getD kb i 0) b && (eqb (getD kc i 0) c && not (eqb (getD held i 0) 0))) ≡ t → keyAt ka kb kc held a b c i ≡ t
   unfolding keyAt
   key-rest h e = rw (eq-eqb (getD ka i 0) a h) e
+
+-- the word of a second key, then the mark
+module _ (oa held : List ℕ) (a i : ℕ) where
+  pub second-other : (getD oa i 0 ≡ a → ⊥) → secondAt oa held a i ≡ false
+  unfolding secondAt
+  second-other h = rw (ne-eqb (getD oa i 0) a h)
+
+  pub second-rest : getD oa i 0 ≡ a → {t : Bool} → eqb (getD held i 0) 2 ≡ t → secondAt oa held a i ≡ t
+  unfolding secondAt
+  second-rest h e = rw (eq-eqb (getD oa i 0) a h) e
+
+-- the words of a group and the mark
+pub group-all : (sound oa ob : List ℕ) (a b j : ℕ) {t : Bool} → (eqb (getD oa j 0) a && (eqb (getD ob j 0) b && eqb (getD sound j 0) 1)) ≡ t → groupAt sound oa ob a b j ≡ t
+unfolding groupAt
+group-all sound oa ob a b j e = e

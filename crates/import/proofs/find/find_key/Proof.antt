@@ -1,5 +1,5 @@
 -- The invariant: the search from here finds what the whole search finds.
-use Prim.Native.Nat.{_-_, _+_, _≤_}
+use Prim.Native.Nat.{_-_, _≤_}
 use mathlib.Core.Path.{_≡_, refl, sym, _∙_}
 use native.Mathlib.Omega.{arith}
 use borrow.Author.Needs.{needs}
@@ -7,9 +7,6 @@ use Rattle.import.specs.Model.{findFrom, keyAt}
 use Rattle.import.proofs.FindLaws.{find-none, find-here, find-more, key-other, key-rest}
 use Rattle.import.proofs.find.find_key.Statement.{statement}
 use Rattle.import.proofs.find.find_key.Tie as tie
-use Rattle.import.proofs.find.find_key.Reads as reads
-use Rattle.import.proofs.find.find_key.Lts as lts
-use Rattle.import.proofs.find.is_rest.Reads as is-rest-reads
 
 abbrev Inv-loop : tie.InvT-loop
 Inv-loop ka kb kc held lo hi a b c i₀ i = (lo ≤ i) × (i ≤ hi) × (findFrom (keyAt ka kb kc held a b c) i (hi - i) ≡ findFrom (keyAt ka kb kc held a b c) lo (hi - lo))
@@ -17,76 +14,59 @@ Inv-loop ka kb kc held lo hi a b c i₀ i = (lo ≤ i) × (i ≤ hi) × (findFro
 abbrev μ-loop : tie.MeasureT-loop
 μ-loop ka kb kc held lo hi a b c i₀ i = hi - i
 
--- src/find.rt:25:5
 loop-holds : tie.Need-loop-holds Inv-loop μ-loop
 loop-holds c = (omega arith, omega arith, refl)
 
--- src/find.rt:26:12
 mul-if1 : tie.Need-mul-if1 Inv-loop μ-loop
 mul-if1 c = search needs
 
--- src/find.rt:26:12
 shared-slice-read-if1 : tie.Need-shared-slice-read-if1 Inv-loop μ-loop
 shared-slice-read-if1 c = omega arith
 
--- src/find.rt:27:24
 mul-is-rest : tie.Need-mul-is-rest Inv-loop μ-loop
 mul-is-rest c = search needs
 
--- src/find.rt:27:24
 shared-slice-read-is-rest : tie.Need-shared-slice-read-is-rest Inv-loop μ-loop
 shared-slice-read-is-rest c = omega arith
 
--- src/find.rt:27:31
 mul-is-rest-2 : tie.Need-mul-is-rest-2 Inv-loop μ-loop
 mul-is-rest-2 c = search needs
 
--- src/find.rt:27:31
 shared-slice-read-is-rest-2 : tie.Need-shared-slice-read-is-rest-2 Inv-loop μ-loop
 shared-slice-read-is-rest-2 c = omega arith
 
--- src/find.rt:27:38
 shared-slice-read-is-rest-3 : tie.Need-shared-slice-read-is-rest-3 Inv-loop μ-loop
 shared-slice-read-is-rest-3 c = omega arith
 
--- src/find.rt:27:16
 is-rest-requires : tie.Need-is-rest-requires Inv-loop μ-loop
 is-rest-requires c κs = tt
 
--- src/find.rt:28:17
 returns : tie.Need-returns Inv-loop μ-loop
 returns c = let k = c .before .before .before .before .before in
     let l = k .before .before .before .loop in
     sym (find-here _ (l .i) _ (k .before .before .loop-test .taken) (key-rest _ _ _ _ _ _ _ _ (k .if1 .taken) (sym (c .before .is-rest .ensures) ∙ c .if2 .taken))) ∙ l .inv .2
 
--- src/find.rt:30:13
 add-i : tie.Need-add-i Inv-loop μ-loop
 add-i c = omega arith
 
--- src/find.rt:25:5
 loop-less : tie.Need-loop-less Inv-loop μ-loop
 loop-less c = omega arith
 
--- src/find.rt:25:5
 loop-again : tie.Need-loop-again Inv-loop μ-loop
 loop-again c = let k = c .before .before .before .before .before in
     let l = k .before .before .before .loop in
     (omega arith, omega arith, sym (find-more _ (l .i) _ (k .before .before .loop-test .taken) (key-rest _ _ _ _ _ _ _ _ (k .if1 .taken) (sym (c .before .is-rest .ensures) ∙ c .if2 .left))) ∙ l .inv .2)
 
--- src/find.rt:32:13
 add-i-2 : tie.Need-add-i-2 Inv-loop μ-loop
 add-i-2 c = omega arith
 
--- src/find.rt:25:5
 loop-less-2 : tie.Need-loop-less-2 Inv-loop μ-loop
 loop-less-2 c = omega arith
 
--- src/find.rt:25:5
 loop-again-2 : tie.Need-loop-again-2 Inv-loop μ-loop
 loop-again-2 c = let l = c .before .before .before .loop in
     (omega arith, omega arith, sym (find-more _ (l .i) _ (c .before .before .loop-test .taken) (key-other _ _ _ _ _ _ _ _ (c .if1 .left))) ∙ l .inv .2)
 
--- src/find.rt:10:1
 returns-2 : tie.Need-returns-2 Inv-loop μ-loop
 returns-2 c = let l = c .before .loop in sym (find-none _ (l .i) _ (omega arith)) ∙ l .inv .2
 

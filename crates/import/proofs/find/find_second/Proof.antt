@@ -1,61 +1,60 @@
+-- The invariant: the search from here finds what the whole search finds.
+use Prim.Native.Nat.{_-_, _≤_}
+use mathlib.Core.Path.{_≡_, refl, sym, _∙_}
+use native.Mathlib.Omega.{arith}
+use borrow.Author.Needs.{needs}
+use borrow.Author.Tests.{eq-eqb, ne-eqb}
+use Rattle.import.specs.Model.{findFrom, secondAt}
+use Rattle.import.proofs.FindLaws.{find-none, find-here, find-more, second-other, second-rest}
 use Rattle.import.proofs.find.find_second.Statement.{statement}
 use Rattle.import.proofs.find.find_second.Tie as tie
-use Rattle.import.proofs.find.find_second.Reads as reads
-use Rattle.import.proofs.find.find_second.Lts as lts
 
 abbrev Inv-loop : tie.InvT-loop
-Inv-loop oa held lo hi a i₀ i = ?
+Inv-loop oa held lo hi a i₀ i = (lo ≤ i) × (i ≤ hi) × (findFrom (secondAt oa held a) i (hi - i) ≡ findFrom (secondAt oa held a) lo (hi - lo))
 
 abbrev μ-loop : tie.MeasureT-loop
-μ-loop oa held lo hi a i₀ i = ?
+μ-loop oa held lo hi a i₀ i = hi - i
 
--- src/find.rt:57:5
 loop-holds : tie.Need-loop-holds Inv-loop μ-loop
-loop-holds c = ?
+loop-holds c = (omega arith, omega arith, refl)
 
--- src/find.rt:58:12
 mul-if1 : tie.Need-mul-if1 Inv-loop μ-loop
-mul-if1 c = ?
+mul-if1 c = search needs
 
--- src/find.rt:58:12
 shared-slice-read-if1 : tie.Need-shared-slice-read-if1 Inv-loop μ-loop
-shared-slice-read-if1 c = ?
+shared-slice-read-if1 c = omega arith
 
--- src/find.rt:59:16
 shared-slice-read-if2 : tie.Need-shared-slice-read-if2 Inv-loop μ-loop
-shared-slice-read-if2 c = ?
+shared-slice-read-if2 c = omega arith
 
--- src/find.rt:60:17
 returns : tie.Need-returns Inv-loop μ-loop
-returns c = ?
+returns c = let k = c .before .before in
+    let l = k .before .before .before .loop in
+    sym (find-here _ (l .i) _ (k .before .before .loop-test .taken) (second-rest _ _ _ _ (k .if1 .taken) (eq-eqb _ _ (c .if2 .taken)))) ∙ l .inv .2
 
--- src/find.rt:62:13
 add-i : tie.Need-add-i Inv-loop μ-loop
-add-i c = ?
+add-i c = omega arith
 
--- src/find.rt:57:5
 loop-less : tie.Need-loop-less Inv-loop μ-loop
-loop-less c = ?
+loop-less c = omega arith
 
--- src/find.rt:57:5
 loop-again : tie.Need-loop-again Inv-loop μ-loop
-loop-again c = ?
+loop-again c = let k = c .before .before in
+    let l = k .before .before .before .loop in
+    (omega arith, omega arith, sym (find-more _ (l .i) _ (k .before .before .loop-test .taken) (second-rest _ _ _ _ (k .if1 .taken) (ne-eqb _ _ (c .if2 .left)))) ∙ l .inv .2)
 
--- src/find.rt:64:13
 add-i-2 : tie.Need-add-i-2 Inv-loop μ-loop
-add-i-2 c = ?
+add-i-2 c = omega arith
 
--- src/find.rt:57:5
 loop-less-2 : tie.Need-loop-less-2 Inv-loop μ-loop
-loop-less-2 c = ?
+loop-less-2 c = omega arith
 
--- src/find.rt:57:5
 loop-again-2 : tie.Need-loop-again-2 Inv-loop μ-loop
-loop-again-2 c = ?
+loop-again-2 c = let l = c .before .before .before .loop in
+    (omega arith, omega arith, sym (find-more _ (l .i) _ (c .before .before .loop-test .taken) (second-other _ _ _ _ (c .if1 .left))) ∙ l .inv .2)
 
--- src/find.rt:52:1
 returns-2 : tie.Need-returns-2 Inv-loop μ-loop
-returns-2 c = ?
+returns-2 c = let l = c .before .loop in sym (find-none _ (l .i) _ (omega arith)) ∙ l .inv .2
 
 pub find-second-spec : {M : Type 1} → statement M
 find-second-spec =

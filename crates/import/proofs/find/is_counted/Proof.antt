@@ -1,19 +1,16 @@
+-- The tests, one after the other.
+use borrow.Author.Tests.{eq-eqb, ne-eqb}
 use Rattle.import.proofs.find.is_counted.Statement.{statement}
 use Rattle.import.proofs.find.is_counted.Tie as tie
-use Rattle.import.proofs.find.is_counted.Reads as reads
-use Rattle.import.proofs.find.is_counted.Lts as lts
 
--- src/find.rt:101:13
 returns : tie.Need-returns
-returns c = ?
+returns c = rw (eq-eqb _ _ (c .before .if1 .taken), eq-eqb _ _ (c .if2 .taken))
 
--- src/find.rt:103:9
 returns-2 : tie.Need-returns-2
-returns-2 c = ?
+returns-2 c = rw (eq-eqb _ _ (c .before .if1 .taken), ne-eqb _ _ (c .if2 .left))
 
--- src/find.rt:96:1
 returns-3 : tie.Need-returns-3
-returns-3 c = ?
+returns-3 c = rw (ne-eqb _ _ (c .if1 .left))
 
 pub is-counted-spec : {M : Type 1} → statement M
 is-counted-spec = tie.close (tie.spec returns returns-2 returns-3)

@@ -2,18 +2,13 @@
 use borrow.Author.Tests.{eq-eqb, ne-eqb}
 use Rattle.import.proofs.find.is_rest.Statement.{statement}
 use Rattle.import.proofs.find.is_rest.Tie as tie
-use Rattle.import.proofs.find.is_rest.Reads as reads
-use Rattle.import.proofs.find.is_rest.Lts as lts
 
--- src/find.rt:44:13
 returns : tie.Need-returns
 returns c = rw (eq-eqb _ _ (c .before .if1 .taken), eq-eqb _ _ (c .if2 .taken))
 
--- src/find.rt:46:9
 returns-2 : tie.Need-returns-2
 returns-2 c = rw (eq-eqb _ _ (c .before .if1 .taken), ne-eqb _ _ (c .if2 .left))
 
--- src/find.rt:39:1
 returns-3 : tie.Need-returns-3
 returns-3 c = rw (ne-eqb _ _ (c .if1 .left))
 

@@ -1,74 +1,67 @@
+-- The invariant: what was counted and what is left make the whole count.
+use Prim.Native.Nat.{_-_, _+_, _≤_}
+use mathlib.Core.Path.{_≡_, sym, _∙_}
+use native.Mathlib.Omega.{arith}
+use borrow.Author.Needs.{needs}
+use Rattle.import.specs.Model.{countFrom, groupAt}
+use Rattle.import.proofs.FindLaws.{count-none, count-here, count-more, group-all}
 use Rattle.import.proofs.find.tally.Statement.{statement}
 use Rattle.import.proofs.find.tally.Tie as tie
-use Rattle.import.proofs.find.tally.Reads as reads
-use Rattle.import.proofs.find.tally.Lts as lts
-use Rattle.import.proofs.find.is_counted.Reads as is-counted-reads
 
 abbrev Inv-loop : tie.InvT-loop
-Inv-loop sound oa ob lo hi a b n₀ i₀ n i = ?
+Inv-loop sound oa ob lo hi a b n₀ i₀ n i = (n ≤ i) × (i ≤ hi) × (n + countFrom (groupAt sound oa ob a b) i (hi - i) ≡ countFrom (groupAt sound oa ob a b) lo (hi - lo))
 
 abbrev μ-loop : tie.MeasureT-loop
-μ-loop sound oa ob lo hi a b n₀ i₀ n i = ?
+μ-loop sound oa ob lo hi a b n₀ i₀ n i = hi - i
 
--- src/find.rt:85:5
 loop-holds : tie.Need-loop-holds Inv-loop μ-loop
-loop-holds c = ?
+loop-holds c = (omega arith, omega arith, omega arith)
 
--- src/find.rt:86:23
 mul-is-counted : tie.Need-mul-is-counted Inv-loop μ-loop
-mul-is-counted c = ?
+mul-is-counted c = search needs
 
--- src/find.rt:86:23
 shared-slice-read-is-counted : tie.Need-shared-slice-read-is-counted Inv-loop μ-loop
-shared-slice-read-is-counted c = ?
+shared-slice-read-is-counted c = omega arith
 
--- src/find.rt:86:30
 mul-is-counted-2 : tie.Need-mul-is-counted-2 Inv-loop μ-loop
-mul-is-counted-2 c = ?
+mul-is-counted-2 c = search needs
 
--- src/find.rt:86:30
 shared-slice-read-is-counted-2 : tie.Need-shared-slice-read-is-counted-2 Inv-loop μ-loop
-shared-slice-read-is-counted-2 c = ?
+shared-slice-read-is-counted-2 c = omega arith
 
--- src/find.rt:86:37
 shared-slice-read-is-counted-3 : tie.Need-shared-slice-read-is-counted-3 Inv-loop μ-loop
-shared-slice-read-is-counted-3 c = ?
+shared-slice-read-is-counted-3 c = omega arith
 
--- src/find.rt:86:12
 is-counted-requires : tie.Need-is-counted-requires Inv-loop μ-loop
-is-counted-requires c κs = ?
+is-counted-requires c κs = tt
 
--- src/find.rt:87:13
 add-n : tie.Need-add-n Inv-loop μ-loop
-add-n c = ?
+add-n c = omega arith
 
--- src/find.rt:88:13
 add-i : tie.Need-add-i Inv-loop μ-loop
-add-i c = ?
+add-i c = omega arith
 
--- src/find.rt:85:5
 loop-less : tie.Need-loop-less Inv-loop μ-loop
-loop-less c = ?
+loop-less c = omega arith
 
--- src/find.rt:85:5
 loop-again : tie.Need-loop-again Inv-loop μ-loop
-loop-again c = ?
+loop-again c = let k = c .before .before .before .before .before in
+    let l = k .before .loop in
+    (omega arith, omega arith, count-here _ (l .i) _ (l .n) (k .loop-test .taken) (group-all _ _ _ _ _ _ (sym (c .before .is-counted .ensures) ∙ c .if1 .taken)) ∙ l .inv .2)
 
--- src/find.rt:90:13
 add-i-2 : tie.Need-add-i-2 Inv-loop μ-loop
-add-i-2 c = ?
+add-i-2 c = omega arith
 
--- src/find.rt:85:5
 loop-less-2 : tie.Need-loop-less-2 Inv-loop μ-loop
-loop-less-2 c = ?
+loop-less-2 c = omega arith
 
--- src/find.rt:85:5
 loop-again-2 : tie.Need-loop-again-2 Inv-loop μ-loop
-loop-again-2 c = ?
+loop-again-2 c = let k = c .before .before .before .before .before in
+    let l = k .before .loop in
+    (omega arith, omega arith, count-more _ (l .i) _ (l .n) (k .loop-test .taken) (group-all _ _ _ _ _ _ (sym (c .before .is-counted .ensures) ∙ c .if1 .left)) ∙ l .inv .2)
 
--- src/find.rt:71:1
 returns : tie.Need-returns Inv-loop μ-loop
-returns c = ?
+returns c = let l = c .before .loop in count-none _ (l .i) _ (l .n) (c .loop-test .left) ∙ l .inv .2
 
 pub tally-spec : {M : Type 1} → statement M
 tally-spec =
