@@ -1,2 +1,3 @@
 pub mod FindLaws
 pub mod ReadLaws
+pub mod SharedLaws

@@ -1,38 +1,32 @@
+-- By the number of keys held.
+use mathlib.Core.Path.{sym, _∙_}
+use Rattle.import.proofs.SharedLaws.{row-none, row-first, row-second, row-one}
 use borrow.Author.Needs.{needs}
 use Rattle.import.proofs.shared.is_shared.Statement.{statement}
 use Rattle.import.proofs.shared.is_shared.Tie as tie
-use Rattle.import.proofs.shared.is_shared.Reads as reads
-use Rattle.import.proofs.shared.is_shared.Lts as lts
-use Rattle.import.proofs.shared.shares_key.Reads as shares-key-reads
-use Rattle.import.proofs.shared.shares_second.Reads as shares-second-reads
 
--- src/shared.rt:58:16
 shared-slice-read-keys : tie.Need-shared-slice-read-keys
 shared-slice-read-keys c = search needs
 
--- src/shared.rt:60:9
 returns : tie.Need-returns
-returns c = ?
+returns c = row-none _ _ _ _ _ _ _ _ (c .if1 .taken)
 
--- src/shared.rt:62:8
 shares-key-requires : tie.Need-shares-key-requires
 shares-key-requires c κs = search needs
 
--- src/shared.rt:63:9
 returns-2 : tie.Need-returns-2
-returns-2 c = ?
+returns-2 c = row-first _ _ _ _ _ _ _ _ (c .before .before .if1 .left) (sym (c .before .shares-key .ensures) ∙ c .if2 .taken)
 
--- src/shared.rt:66:9
 shares-second-requires : tie.Need-shares-second-requires
 shares-second-requires c κs = search needs
 
--- src/shared.rt:66:9
 returns-3 : tie.Need-returns-3
-returns-3 c = ?
+returns-3 c = let k = c .before .before in
+    c .shares-second .ensures ∙ row-second _ _ _ _ _ _ _ _ (k .before .before .if1 .left) (sym (k .before .shares-key .ensures) ∙ k .if2 .left) (c .before .if3 .taken)
 
--- src/shared.rt:45:1
 returns-4 : tie.Need-returns-4
-returns-4 c = ?
+returns-4 c = let k = c .before in
+    row-one _ _ _ _ _ _ _ _ (k .before .before .if1 .left) (sym (k .before .shares-key .ensures) ∙ k .if2 .left) (c .if3 .left)
 
 pub is-shared-spec : {M : Type 1} → statement M
 is-shared-spec =
