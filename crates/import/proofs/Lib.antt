@@ -1,3 +1,4 @@
+pub mod ChainLaws
 pub mod FindLaws
 pub mod ReadLaws
 pub mod SharedLaws

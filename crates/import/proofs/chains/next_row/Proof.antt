@@ -1,38 +1,32 @@
+-- What is read at the row, and at the row that it names.
+use Rattle.import.proofs.ChainLaws.{next-none, next-sound, next-unsound}
 use borrow.Author.Needs.{needs}
 use Rattle.import.proofs.chains.next_row.Statement.{statement}
 use Rattle.import.proofs.chains.next_row.Tie as tie
 use Rattle.import.proofs.chains.next_row.Reads as reads
-use Rattle.import.proofs.chains.next_row.Lts as lts
-use Rattle.import.proofs.reads.byte_at.Reads as byte-at-reads
-use Rattle.import.proofs.reads.half_at.Reads as half-at-reads
 
--- src/chains.rt:16:8
 byte-at-requires : tie.Need-byte-at-requires
 byte-at-requires c κs = search needs
 
--- src/chains.rt:17:17
 half-at-requires : tie.Need-half-at-requires
 half-at-requires c κs = search needs
 
--- src/chains.rt:17:17
 cast-j : tie.Need-cast-j
 cast-j c = search needs
 
--- src/chains.rt:18:12
 byte-at-requires-2 : tie.Need-byte-at-requires-2
 byte-at-requires-2 c κs = search needs
 
--- src/chains.rt:19:13
 returns : tie.Need-returns
-returns c = ?
+returns c = let k = c .before .before .before in
+    next-sound _ _ _ _ _ (k .before .byte-at .ensures) (k .if1 .taken) _ (c .before .before .half-at .ensures) _ (c .before .byte-at2 .ensures) (c .if2 .taken)
 
--- src/chains.rt:21:9
 returns-2 : tie.Need-returns-2
-returns-2 c = ?
+returns-2 c = let k = c .before .before .before in
+    next-unsound _ _ _ _ _ (k .before .byte-at .ensures) (k .if1 .taken) _ (c .before .before .half-at .ensures) _ (c .before .byte-at2 .ensures) (c .if2 .left)
 
--- src/chains.rt:13:1
 returns-3 : tie.Need-returns-3
-returns-3 c = ?
+returns-3 c = next-none _ _ _ _ _ (c .before .byte-at .ensures) (c .if1 .left)
 
 pub next-row-spec : {M : Type 1} → statement M
 next-row-spec =
