@@ -1,61 +1,64 @@
+-- The row's table is known, so its places are in order and within the rows.
+use native.Mathlib.Omega.{arith}
+use Prim.Native.Nat.{_<_}
+use lib.ListN.{getD}
+use Rattle.import.proofs.SoundLaws.{sound-reason, sound-shares, sound-alone, place-ordered, place-within}
 use borrow.Author.Needs.{needs}
 use Rattle.import.proofs.sound.sound_row.Statement.{statement}
 use Rattle.import.proofs.sound.sound_row.Tie as tie
-use Rattle.import.proofs.sound.sound_row.Reads as reads
-use Rattle.import.proofs.sound.sound_row.Lts as lts
-use Rattle.import.proofs.shared.is_shared.Reads as is-shared-reads
 
--- src/sound.rt:26:8
+abbrev Here : Type 0
+Here = tie.After-shared-slice-known9
+
+abbrev start : Here → tie.Start
+start c = c .before .before .before .before .before .before .before .before .before .before
+
+-- the row's table is one of ten
+table : (c : Here) → getD (start c .args .kind .now) (start c .args .i) 0 < 10
+table c = start c .pre .0 .1 .table (start c .args .i) (start c .pre .0 .0)
+
 mul-if1 : tie.Need-mul-if1
 mul-if1 c = search needs
 
--- src/sound.rt:26:8
 shared-slice-read-if1 : tie.Need-shared-slice-read-if1
 shared-slice-read-if1 c = search needs
 
--- src/sound.rt:27:9
 returns : tie.Need-returns
-returns c = ?
+returns c = sound-reason _ _ _ _ _ _ _ _ _ (c .if1 .taken)
 
--- src/sound.rt:29:13
 shared-slice-read-t : tie.Need-shared-slice-read-t
 shared-slice-read-t c = search needs
 
--- src/sound.rt:29:13
 cast-t : tie.Need-cast-t
-cast-t c = ?
+cast-t c = omega (arith, table c)
 
--- src/sound.rt:30:14
 mul-lo : tie.Need-mul-lo
-mul-lo c = ?
+mul-lo c = omega (arith, table c)
 
--- src/sound.rt:30:14
 array-read-lo : tie.Need-array-read-lo
-array-read-lo c = ?
+array-read-lo c = omega (arith, table c)
 
--- src/sound.rt:31:21
 add-hi : tie.Need-add-hi
-add-hi c = ?
+add-hi c = omega (arith, table c)
 
--- src/sound.rt:31:14
 mul-hi : tie.Need-mul-hi
-mul-hi c = ?
+mul-hi c = omega (arith, table c)
 
--- src/sound.rt:31:14
 array-read-hi : tie.Need-array-read-hi
-array-read-hi c = ?
+array-read-hi c = omega (arith, table c)
 
--- src/sound.rt:32:8
 is-shared-requires : tie.Need-is-shared-requires
-is-shared-requires c κs = ?
+is-shared-requires c κs = let s = start c in
+    let p = s .pre .0 .1 in
+    let h = s .pre .0 .0 in
+    let w = place-within _ _ _ p _ h in
+    (place-ordered _ _ _ p _ h, p .high _ h, omega arith, omega arith, omega arith, omega arith, omega arith)
 
--- src/sound.rt:33:9
 returns-2 : tie.Need-returns-2
-returns-2 c = ?
+returns-2 c = sound-shares _ _ _ _ _ _ _ _ _ (c .before .before .before .if1 .left) _ (c .before .is-shared .ensures) (c .if2 .taken)
 
--- src/sound.rt:10:1
 returns-3 : tie.Need-returns-3
-returns-3 c = ?
+returns-3 c = sound-alone _ _ _ _ _ _ _ _ _ (c .before .before .before .if1 .left) _ (c .before .is-shared .ensures) (c .if2 .left)
 
 pub sound-row-spec : {M : Type 1} → statement M
 sound-row-spec =
