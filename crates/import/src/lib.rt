@@ -2,5 +2,6 @@
 mod chains;
 mod find;
 mod reads;
+mod resolve;
 mod shared;
 mod sound;
