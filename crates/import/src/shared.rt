@@ -1,8 +1,6 @@
 // Reason 9: whether another row of its table holds a key of a row.
 use crate::find::find_key;
 use crate::find::find_second;
-use crate::reads::byte_at;
-use crate::reads::word_at;
 ghost use mathlib.Core.Path.{_≡_};
 ghost use Prim.Native.Nat.{_≤_, _<_};
 ghost use lib.ListN.{length, getD};
