@@ -1,9 +1,9 @@
 -- Lists taken apart at a place, as loops over slices meet them. Assumes nothing.
 use mathlib.Core.Path.{_≡_, refl, ap, sym, _∙_}
-use mathlib.Core.List.{List, [], _∷_}
-use Prim.Native.Nat.{ℕ, suc, _+_, _-_, _≤_, _<_}
+use mathlib.Core.List.{List, [], _∷_, _++_, map, List·Memᴰ, List·Memᴰ·head, List·Memᴰ·tail}
+use Prim.Native.Nat.{ℕ, zero, suc, _+_, _-_, _≤_, _<_}
 use native.Mathlib.Omega.{arith}
-use native.Mathlib.Nat.{add-zero}
+use native.Mathlib.Nat.{add-zero, le-of-suc-le-suc, not-suc-le-zero}
 use native.Mathlib.Numerals.{add-one}
 use lib.ListN.{length, getD, take, drop, length-drop}
 use lib.Seq.{drop-cons, take-all, getD-drop, drop-drop}
@@ -26,3 +26,22 @@ module _ {A : Type 0} where
 
   pub at-next : (l : List A) (n : ℕ) {x : A} {xs : List A} → drop n l ≡ x ∷ xs → drop (suc n) l ≡ xs
   at-next l n e = ap (λ (k : ℕ). drop k l) (sym (add-one n)) ∙ sym (drop-drop 1 n l) ∙ ap (drop 1) e
+
+  -- an element of a list that is mapped, at a place that is there
+  pub map-at : {B : Type 0} (f : A → B) (l : List A) (k : ℕ) (d : A) (z : B) → k < length l → getD (map f l) k z ≡ f (getD l k d)
+  map-at f [] k d z h = absurd (not-suc-le-zero h)
+  map-at f (a ∷ l) zero d z h = refl
+  map-at f (a ∷ l) (suc k) d z h = map-at f l k d z (le-of-suc-le-suc h)
+
+  -- two lists that differ in one place
+  pub at-other : (l m : List A) (a b d : A) (k : ℕ) → (k ≡ length l → ⊥) → getD (l ++ a ∷ m) k d ≡ getD (l ++ b ∷ m) k d
+  at-other [] m a b d zero n = absurd (n refl)
+  at-other [] m a b d (suc k) n = refl
+  at-other (c ∷ l) m a b d zero n = refl
+  at-other (c ∷ l) m a b d (suc k) n = at-other l m a b d k (λ e. n (ap suc e))
+
+  -- an element at a place that is there is a member
+  pub at-mem : (l : List A) (k : ℕ) (d : A) → k < length l → List·Memᴰ (getD l k d) l
+  at-mem [] k d h = absurd (not-suc-le-zero h)
+  at-mem (a ∷ l) zero d h = List·Memᴰ·head refl
+  at-mem (a ∷ l) (suc k) d h = List·Memᴰ·tail (at-mem l k d (le-of-suc-le-suc h))

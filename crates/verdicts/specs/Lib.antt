@@ -1,6 +1,7 @@
 pub mod Key
 pub mod Facts
 pub mod Entries
-pub mod Verdicts
 pub mod Steps
+pub mod Verdicts
+pub mod Good
 pub mod Answer
