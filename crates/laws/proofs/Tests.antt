@@ -19,7 +19,8 @@ module _ {A : Type 0} where
   any-witness f [] t = absurd (false≢true t)
   any-witness f (a ∷ l) t = go (f a) refl t (λ t′. any-witness f l t′)
     where
-      go : (b : Bool) → f a ≡ b → (b || any f l) ≡ true → (any f l ≡ true → (c : A) × List·Memᴰ c l × (f c ≡ true)) → (c : A) × List·Memᴰ c (a ∷ l) × (f c ≡ true)
+      go : (b : Bool) → f a ≡ b → (b || any f l) ≡ true → (any f l ≡ true → (c : A) × List·Memᴰ c l × (f c ≡ true))
+          → (c : A) × List·Memᴰ c (a ∷ l) × (f c ≡ true)
       go true e t′ ih = (a, List·Memᴰ·head refl, e)
       go false e t′ ih = let w = ih t′ in (w .0, List·Memᴰ·tail (w .1), w .2)
 
@@ -52,7 +53,8 @@ module _ {A : Type 0} where
   keep-mem f [] m = elim m [ ]
   keep-mem f {a} (b ∷ l) m = go (f b) refl (λ m′. keep-mem f l m′) m
     where
-      go : (t : Bool) → f b ≡ t → (List·Memᴰ a (keep f l) → List·Memᴰ a l × (f a ≡ true)) → List·Memᴰ a (cond t (b ∷ keep f l) (keep f l)) → List·Memᴰ a (b ∷ l) × (f a ≡ true)
+      go : (t : Bool) → f b ≡ t → (List·Memᴰ a (keep f l) → List·Memᴰ a l × (f a ≡ true))
+          → List·Memᴰ a (cond t (b ∷ keep f l) (keep f l)) → List·Memᴰ a (b ∷ l) × (f a ≡ true)
       go true e ih (List·Memᴰ·head q) = (List·Memᴰ·head q, ap f q ∙ e)
       go true e ih (List·Memᴰ·tail m′) = (List·Memᴰ·tail (ih m′ .0), ih m′ .1)
       go false e ih m′ = (List·Memᴰ·tail (ih m′ .0), ih m′ .1)

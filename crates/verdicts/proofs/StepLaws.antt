@@ -1,26 +1,26 @@
--- What makes a step, and that rows with reasons 1 to 8 have none. Assumes nothing.
-use mathlib.Core.Path.{_≡_, refl}
+-- What makes a step, and that rows with reasons 1 to 8 neither reach nor are reached. Assumes nothing.
+use mathlib.Core.Path.{_≡_, refl, sym, _∙_}
 use mathlib.Core.Bool.{Bool, true, false, _&&_, _||_}
 use mathlib.Core.List.{List, List·Memᴰ}
 use Prim.Native.Nat.{ℕ}
 use Rattle.laws.specs.Lists.{any}
-use Rattle.laws.proofs.Cases.{and-left, or-left, or-right, and-false}
+use Rattle.laws.proofs.Cases.{false≢true, and-left, or-left, or-right, and-false}
 use Rattle.laws.proofs.Tests.{any-mem, any-witness, any-never}
 use Rattle.verdicts.specs.Key.{Key}
 use Rattle.verdicts.specs.Facts.{Naming, Count}
 use Rattle.verdicts.specs.Entries.{Entry, bad, facts}
-use Rattle.verdicts.specs.Steps.{holds, belongs, rivals, names, counts, step}
+use Rattle.verdicts.specs.Steps.{holds, belongs, rivals, names, counts, step, Reach, one, more}
 use Rattle.verdicts.specs.Verdicts.{follows}
 
 -- to another row that holds one of its keys
 pub rival-step : (e o : Entry) → rivals e o ≡ true → step e o ≡ true
 unfolding step
-rival-step e o t = or-left (counts e o) (or-left (names e o) t)
+rival-step e o t = or-left _ (or-left _ t)
 
 -- to a row that holds a key which it names
 pub name-step : (e o : Entry) (n : Naming) → List·Memᴰ n (facts e .names) → holds o (n .key) ≡ true → step e o ≡ true
 unfolding step names
-name-step e o n m t = or-left (counts e o) (or-right (rivals e o) (any-mem (λ n. holds o (n .key)) m t))
+name-step e o n m t = or-left _ (or-right (rivals e o) (any-mem (λ n. holds o (n .key)) m t))
 
 -- to a row of a group that it counts
 pub count-step : (e o : Entry) (c : Count) → List·Memᴰ c (facts e .counts) → belongs o (c .group) ≡ true → step e o ≡ true
@@ -58,3 +58,13 @@ no-step-to e o v b =
       any-never (λ c. belongs o (c .group)) (facts e .counts) (λ c. bad-belongs o v b (c .group)),
       and-false,
     )
+
+-- a row with one of reasons 1 to 8 reaches nothing
+pub no-reach-from : (rows : List Entry) (x e : Entry) (v : ℕ) → e .reading ≡ bad v → Reach rows x e → ⊥
+no-reach-from rows x e v b (one m t) = false≢true (sym (no-step-from e x v b) ∙ t)
+no-reach-from rows x e v b (more {o = o} m t r) = false≢true (sym (no-step-from e o v b) ∙ t)
+
+-- and nothing reaches it
+pub no-reach-to : (rows : List Entry) (x e : Entry) (v : ℕ) → x .reading ≡ bad v → Reach rows x e → ⊥
+no-reach-to rows x e v b (one m t) = false≢true (sym (no-step-to e x v b) ∙ t)
+no-reach-to rows x e v b (more {o = o} m t r) = no-reach-to rows x o v b r

@@ -1,4 +1,4 @@
--- What it means to be on a circle and to be good, with no number of steps in it: `circle-law` and `good-law` say that these are the verdicts.
+-- What it means to be on a circle, and to be good: `circle-law` and `good-law` say that the verdicts mean this.
 use Prim.Native.Nat.{ℕ}
 use mathlib.Core.Path.{_≡_}
 use mathlib.Core.Bool.{true, false}
@@ -25,6 +25,7 @@ pub record Good (rows : List Entry) (e : Entry) : Type 0 where
   pub isSound : sound rows e ≡ true
   -- every count is the number of sound rows of its group
   pub counted : (c : Count) → List·Memᴰ c (facts e .counts) → tally rows (c .group) ≡ c .number
+  -- its VALID chain doesn't return to it: see `circle-law`
   pub onNoCircle : circle rows e ≡ false
   -- every name is met by a good row
   pub named : (n : Naming) → List·Memᴰ n (facts e .names) → (o : Entry) × Meets rows n o

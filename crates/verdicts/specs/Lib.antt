@@ -5,3 +5,4 @@ pub mod Steps
 pub mod Verdicts
 pub mod Good
 pub mod Answer
+pub mod Places
