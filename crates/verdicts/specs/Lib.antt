@@ -6,3 +6,4 @@ pub mod Verdicts
 pub mod Good
 pub mod Answer
 pub mod Places
+pub mod Figures
