@@ -7,9 +7,9 @@
 use mathlib.Core.Path.{_≡_, sym, ap, _∙_}
 use mathlib.Core.List.{List}
 use Prim.Native.Nat.{ℕ}
-use Rattle.verdicts.specs.Entries.{Entry, allRows}
+use Rattle.verdicts.specs.Entries.{allRows}
 use Rattle.verdicts.specs.Verdicts.{verdict}
-use Rattle.verdicts.specs.Places.{IsRow, entryAt, verdictAt, Edit, number, edited, Apart, Takes, SameCell}
+use Rattle.verdicts.specs.Places.{IsRow, entryAt, verdictAt, Edit, edited, Apart, Takes, SameCell}
 use Rattle.verdicts.proofs.EntryLaws.{place-there}
 use Rattle.verdicts.proofs.CellLaws.{length-cells, imported-at}
 use Rattle.verdicts.proofs.EditLaws.{rows-alike, row-kept, place-kept, other-kept}

@@ -1,19 +1,17 @@
 -- The cells that import writes: how many, which is whose, and how many are 0. Assumes nothing.
-use mathlib.Core.Path.{_≡_, refl, sym, ap, _∙_}
+use mathlib.Core.Path.{_≡_, refl, ap, _∙_}
 use mathlib.Core.Bool.{Bool, true, false, cond}
-use mathlib.Core.List.{List, [], _∷_, _++_, map}
-use Prim.Native.Nat.{ℕ, _≤_, _<_}
-use native.Mathlib.Omega.{arith}
+use mathlib.Core.List.{List, _++_}
+use Prim.Native.Nat.{ℕ, _≤_}
 use lib.Dec.{eqb, ltb}
 use lib.ListN.{length, getD, drop, length-map, List·getD-append}
 use borrow.Author.Tests.{ltb-false}
 use Rattle.laws.specs.Lists.{keep}
-use Rattle.laws.proofs.Cases.{bool-cases}
 use Rattle.laws.proofs.Lists.{map-at}
 use Rattle.laws.proofs.Tests.{keep-length, keep-map}
 use Rattle.verdicts.specs.Entries.{Entry, allRows}
 use Rattle.verdicts.specs.Verdicts.{verdict, verdicts}
-use Rattle.verdicts.specs.Answer.{Imported, refused, taken, tooLong, tooManyRows, zeros, importOf, cellsAfter}
+use Rattle.verdicts.specs.Answer.{refused, taken, tooLong, tooManyRows, zeros, importOf, cellsAfter}
 use Rattle.verdicts.specs.Places.{IsRow, entryAt, verdictAt, place, Takes, imported}
 use Rattle.verdicts.proofs.EntryLaws.{place-there, row-at}
 

@@ -5,7 +5,6 @@ use mathlib.Core.Bool.{Bool, true, false, _||_}
 use mathlib.Core.List.{List, List·Memᴰ}
 use Prim.Native.Nat.{ℕ, zero, suc}
 use lib.ListN.{length}
-use Rattle.laws.specs.Lists.{any}
 use Rattle.laws.proofs.Cases.{false≢true, or-left, or-right}
 use Rattle.laws.proofs.Tests.{any-mem, any-witness, any-same, any-up, keep-mem}
 use Rattle.laws.proofs.Rest.{at-rest, Agree}

@@ -2,13 +2,13 @@
 use mathlib.Core.Path.{_≡_, refl, sym, ap, _∙_}
 use mathlib.Core.Bool.{true}
 use mathlib.Core.List.{List, [], _∷_, _++_}
-use Prim.Native.Nat.{ℕ, zero, suc, _+_, _-_, _≤_, _<_}
+use Prim.Native.Nat.{ℕ, zero, suc, _+_, _-_, _<_}
 use native.Mathlib.Omega.{arith}
 use native.Mathlib.Decide.{ℕ-discrete}
 use lib.ListN.{length, getD, set, length-append}
 use lib.Seq.{getD-append-seam, getD-set-same, getD-set-other}
 use Rattle.laws.proofs.Lists.{at-other}
-use Rattle.lines.specs.Lines.{Line, lineFeed, linesOf, free, whole}
+use Rattle.lines.specs.Lines.{Line, lineFeed, linesOf}
 use Rattle.lines.proofs.LineLaws.{lines-around}
 use Rattle.schemas.specs.declared.Table.{Table}
 use Rattle.schemas.specs.declared.Table.the-variants.{Ocp}

@@ -1,13 +1,13 @@
 -- A row's verdict is 0 just if the row is good. Assumes nothing.
-use mathlib.Core.Path.{_≡_, refl, sym, _∙_}
+use mathlib.Core.Path.{_≡_, sym, _∙_}
 use mathlib.Core.Logic.{_↔_}
-use mathlib.Core.Bool.{Bool, true, false, not, cond, _&&_}
-use mathlib.Core.List.{List, map, List·Memᴰ}
-use Prim.Native.Nat.{ℕ, _+_}
+use mathlib.Core.Bool.{Bool, cond, _&&_}
+use mathlib.Core.List.{List, map}
+use Prim.Native.Nat.{_+_}
 use native.Mathlib.Omega.{arith}
 use lib.Dec.{eqb}
 use borrow.Author.Tests.{eqb-true, eq-eqb, not-true}
-use Rattle.laws.specs.Lists.{any, first}
+use Rattle.laws.specs.Lists.{first}
 use Rattle.laws.proofs.Cases.{and-left, and-right}
 use Rattle.laws.proofs.First.{or-else-zero, first-zero, zero-first, unless-zero, when-zero}
 use Rattle.laws.proofs.Tests.{any-mem, any-witness, any-keep, keep-mem}

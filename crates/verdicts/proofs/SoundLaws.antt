@@ -1,10 +1,10 @@
 -- A row without reasons 1 to 9 holds its keys alone. Assumes nothing.
-use mathlib.Core.Path.{_≡_, refl, sym, _∙_}
-use mathlib.Core.Bool.{Bool, true, false, not}
+use mathlib.Core.Path.{_≡_, sym, _∙_}
+use mathlib.Core.Bool.{true, false, not}
 use mathlib.Core.List.{List, List·Memᴰ}
 use Prim.Native.Nat.{ℕ}
 use lib.Dec.{eqb}
-use Rattle.laws.proofs.Cases.{bool-cases, false≢true, and-right}
+use Rattle.laws.proofs.Cases.{bool-cases, and-right}
 use Rattle.laws.proofs.Tests.{any-mem, any-witness, some-kept}
 use Rattle.verdicts.specs.Key.{Key, sameKey}
 use Rattle.verdicts.specs.Entries.{Entry, own, facts, allRows}

@@ -1,9 +1,8 @@
 -- What makes a step, and that rows with reasons 1 to 8 neither reach nor are reached. Assumes nothing.
-use mathlib.Core.Path.{_≡_, refl, sym, _∙_}
-use mathlib.Core.Bool.{Bool, true, false, _&&_, _||_}
+use mathlib.Core.Path.{_≡_, sym, _∙_}
+use mathlib.Core.Bool.{true, false, _&&_, _||_}
 use mathlib.Core.List.{List, List·Memᴰ}
 use Prim.Native.Nat.{ℕ}
-use Rattle.laws.specs.Lists.{any}
 use Rattle.laws.proofs.Cases.{false≢true, and-left, or-left, or-right, and-false}
 use Rattle.laws.proofs.Tests.{any-mem, any-witness, any-never}
 use Rattle.verdicts.specs.Key.{Key}

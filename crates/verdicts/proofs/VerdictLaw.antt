@@ -1,13 +1,13 @@
 -- A verdict is what the rows' own verdicts make it: the number of names in its definition is large enough. Assumes nothing.
-use mathlib.Core.Path.{_≡_, refl, ap}
-use mathlib.Core.Bool.{Bool, true, false, cond}
-use mathlib.Core.List.{List, [], _∷_, map, List·Memᴰ}
+use mathlib.Core.Path.{_≡_, ap}
+use mathlib.Core.Bool.{Bool, true, cond}
+use mathlib.Core.List.{List, map}
 use Prim.Native.Nat.{ℕ, zero, suc, _+_}
 use native.Mathlib.Omega.{arith}
 use lib.Dec.{eqb}
 use lib.ListN.{length}
 use borrow.Author.Tests.{eqb-true, eq-eqb}
-use Rattle.laws.specs.Lists.{first, orElse}
+use Rattle.laws.specs.Lists.{first}
 use Rattle.laws.proofs.First.{or-else-zero, first-zero, zero-first, unless-zero}
 use Rattle.laws.proofs.Tests.{any-same, any-up, map-same, keep-mem}
 use Rattle.laws.proofs.Rest.{at-rest, Agree}

@@ -16,7 +16,7 @@ use Rattle.rows.specs.Records.{column, cafRow, capRow}
 use Rattle.rows.specs.Contradictions.{isReal, cafContradiction, contradiction}
 use Rattle.rows.specs.Formed.{orContradiction, formed}
 use Rattle.verdicts.specs.Key.{curve, parameter, keyWords, sameKey}
-use Rattle.verdicts.specs.Facts.{Facts, Naming, anyRow, whole, factsOf, cafFacts, capFacts}
+use Rattle.verdicts.specs.Facts.{Naming, anyRow, whole, factsOf, cafFacts, capFacts}
 use Rattle.verdicts.specs.Entries.{Entry, bad, fine, readingOf, entriesOf, entriesFrom, allRows}
 use Rattle.verdicts.specs.Steps.{twin, holds, belongs, rivals}
 use Rattle.verdicts.specs.Verdicts.{shared, sound, tally, countCell, follows, next, leads, circle, asked, nameCell, judge, within, verdict, verdicts}

@@ -1,5 +1,4 @@
 -- What it means to be on a circle, and to be good: `circle-law` and `good-law` say that the verdicts mean this.
-use Prim.Native.Nat.{ℕ}
 use mathlib.Core.Path.{_≡_}
 use mathlib.Core.Bool.{true, false}
 use mathlib.Core.List.{List, List·Memᴰ}

@@ -5,7 +5,6 @@ use mathlib.Core.Bool.{true, false}
 use mathlib.Core.List.{List, [], _∷_, _++_}
 use lib.ListN.{length, getD, set}
 use Rattle.lines.specs.Lines.{Line, lineFeed, linesOf, free, whole}
-use Rattle.schemas.specs.declared.Table.{Table}
 use Rattle.schemas.specs.declared.Table.the-variants.{Ocp}
 use Rattle.verdicts.specs.Entries.{Entry, entry, carried, allRows}
 use Rattle.verdicts.specs.Steps.{Reach}
