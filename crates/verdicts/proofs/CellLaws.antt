@@ -55,6 +55,7 @@ by-tests true true false p q k z n g e = (refl, cc, cc)
 by-tests true false c p q k z n g e = (cc, cc, cc)
 by-tests false b c p q k z n g e = (cc, cc, cc)
 
+-- an answer that is no refusal says these counts
 pub taken-counts : (texts : List (List ℕ)) (room rows good : ℕ) → importOf texts room ≡ taken rows good → Counts texts room rows good
 unfolding importOf
 taken-counts texts room rows good e =

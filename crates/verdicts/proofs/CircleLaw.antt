@@ -14,6 +14,7 @@ use Rattle.verdicts.specs.Verdicts.{next, leads, circle}
 use Rattle.verdicts.specs.Good.{Chain, last, then}
 
 module _ (rows : List Entry) (z : Entry) where
+  -- a chain that is found within some number of steps is one
   chain-of : (n : ℕ) (e : Entry) → leads n rows e z ≡ true → Chain rows z e
   unfolding leads
   chain-of zero e t = absurd (false≢true t)
@@ -24,6 +25,7 @@ module _ (rows : List Entry) (z : Entry) where
       go ih o m true q t′ = last m q
       go ih o m false q t′ = then m (ih o t′)
 
+  -- what is found within n steps is found within one more
   leads-up : (n : ℕ) (e : Entry) → leads n rows e z ≡ true → leads (suc n) rows e z ≡ true
   unfolding leads
   leads-up zero e t = absurd (false≢true t)
@@ -39,18 +41,21 @@ module _ (rows : List Entry) (z : Entry) where
   unfolding next
   next-in e o i = keep-mem _ rows i .0
 
+  -- where one step more finds nothing, the next finds nothing
   leads-stay : (n : ℕ) → Agree (λ o. leads n rows o z) (λ o. leads (suc n) rows o z) rows
       → Agree (λ o. leads (suc n) rows o z) (λ o. leads (suc (suc n)) rows o z) rows
   unfolding leads
   leads-stay n h a m =
       any-same (λ o. twin o z || leads n rows o z) (λ o. twin o z || leads (suc n) rows o z) (next rows a) (λ o i. rw (h o (next-in a o i)))
 
+  -- as many steps as there are rows find what one more would
   leads-rest : (e : Entry) → List·Memᴰ e rows → (o : Entry) → List·Memᴰ o (next rows e)
       → (twin o z || leads (length rows) rows o z) ≡ true → leads (length rows) rows e z ≡ true
   unfolding leads
   leads-rest e m o i t =
       at-rest rows (λ n o. leads n rows o z) leads-up leads-stay e m ∙ any-mem (λ o. twin o z || leads (length rows) rows o z) i t
 
+  -- every chain from a row of the tables is found within as many steps as there are rows
   chain-leads : {e : Entry} → List·Memᴰ e rows → Chain rows z e → leads (length rows) rows e z ≡ true
   chain-leads {e} m (last {o = o} i q) = leads-rest e m o i (or-left (leads (length rows) rows o z) q)
   chain-leads {e} m (then {o = o} i c) = leads-rest e m o i (or-right (twin o z) (chain-leads (next-in e o i) c))

@@ -54,24 +54,31 @@ there (text ∷ texts) zero h = omega arith
 there (text ∷ texts) (suc t) h = omega (arith, there texts t h)
 
 module _ (texts : List (List ℕ)) (edit : Edit texts) where
+  -- a line that a line feed ends
   abbrev lineOf : List ℕ → Line
   lineOf bytes = record { bytes = bytes; ended = true }
 
+  -- the lines of the line's table, before
   lines-old : linesOf (textAt texts (edit .table)) ≡ linesOf (edit .before) ++ lineOf (edit .old) ∷ linesOf (edit .after)
   lines-old = rw (edit .stood) (lines-around (edit .before) (edit .old) (edit .after) (edit .starts) (edit .oneLine))
 
+  -- the line's table, after
   abbrev put : List ℕ
   put = edit .before ++ (edit .new ++ lineFeed ∷ edit .after)
 
+  -- its lines
   lines-put : linesOf put ≡ linesOf (edit .before) ++ lineOf (edit .new) ∷ linesOf (edit .after)
   lines-put = lines-around (edit .before) (edit .new) (edit .after) (edit .starts) (edit .newLine)
 
+  -- it stands where it is put
   text-new : textAt (edited texts edit) (edit .table) ≡ put
   text-new = getD-set-same texts (edit .table) put [] (there texts (edit .table) (rw (edit .stood) (simp length-append (omega arith))))
 
+  -- the lines of the line's table, after
   lines-new : linesOf (textAt (edited texts edit) (edit .table)) ≡ linesOf (edit .before) ++ lineOf (edit .new) ∷ linesOf (edit .after)
   lines-new = ap linesOf text-new ∙ lines-put
 
+  -- the other tables are as they were
   text-other : (u : ℕ) → (u ≡ edit .table → ⊥) → textAt (edited texts edit) u ≡ textAt texts u
   text-other u n = getD-set-other texts (edit .table) u put [] n
 
@@ -109,6 +116,7 @@ module _ (texts : List (List ℕ)) (edit : Edit texts) where
   unfolding place
   place-kept u r = rw (before-same texts (edit .table) u put (rw (lines-old, lines-put) (simp length-append)))
 
+  -- a row that isn't the line, by whether it is of the line's table
   other-line : (u r : ℕ) → 0 < r → (u ≡ edit .table → r ≡ number edit → ⊥) → Dec (u ≡ edit .table)
       → entryAt texts u r ≡ entryAt (edited texts edit) u r
   unfolding entryAt

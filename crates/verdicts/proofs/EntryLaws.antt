@@ -27,11 +27,13 @@ own-reading table line = cond-cases (λ (r : Reading). own r ≡ formed table li
 
 -- One table
 
+-- as many rows as lines
 pub length-entries : (table : Table) (t row : ℕ) (lines : List Line) → length (entriesOf table t row lines) ≡ length lines
 unfolding entriesOf
 length-entries table t row [] = refl
 length-entries table t row (line ∷ lines) = ap suc (length-entries table t (suc row) lines)
 
+-- the row after k others
 entries-at : (table : Table) (t row k i : ℕ) (lines : List Line) (d : Entry) (z : Line) → k < length lines → row + k ≡ i
     → getD (entriesOf table t row lines) k d ≡ entry table t i (getD lines k z)
 unfolding entriesOf
@@ -49,6 +51,7 @@ rows-before-next [] (suc u) = refl
 rows-before-next (text ∷ texts) zero = omega arith
 rows-before-next (text ∷ texts) (suc u) = omega (arith, rows-before-next texts u)
 
+-- as many rows as the tables have
 length-from : (t : ℕ) (tables : List Table) (texts : List (List ℕ)) → length (entriesFrom t tables texts) ≡ rowsBefore texts (length tables)
 unfolding entriesFrom rowsBefore
 length-from t [] texts = refl
@@ -60,6 +63,7 @@ pub length-rows : (texts : List (List ℕ)) → length (allRows texts) ≡ rowsB
 unfolding allRows
 length-rows texts = length-from 0 carried texts
 
+-- the rows before a table and its own are among all tables' rows
 before-fits : (texts : List (List ℕ)) (u n : ℕ) → u < n → rowsBefore texts u + length (linesOf (textAt texts u)) ≤ rowsBefore texts n
 unfolding rowsBefore linesOf
 before-fits texts u zero h = absurd (not-suc-le-zero h)
@@ -68,6 +72,7 @@ before-fits [] (suc u) (suc n) h = omega arith
 before-fits (text ∷ texts) zero (suc n) h = omega arith
 before-fits (text ∷ texts) (suc u) (suc n) h = omega (arith, before-fits texts u n (le-of-suc-le-suc h))
 
+-- the row after j others of the table after u others
 from-at : (n m u j : ℕ) (tables : List Table) (y : Table) (texts : List (List ℕ)) (d : Entry) (z : Line)
     → n + u ≡ m → u < length tables → j < length (linesOf (textAt texts u))
     → getD (entriesFrom n tables texts) (rowsBefore texts u + j) d ≡ entry (getD tables u y) m (suc j) (getD (linesOf (textAt texts u)) j z)
@@ -96,11 +101,13 @@ module _ (texts : List (List ℕ)) (u r : ℕ) (is : IsRow texts u r) where
   unfolding place entryAt allRows
   row-at d = let q : suc (r - 1) ≡ r = omega arith in from-at 0 u u (r - 1) carried Ocp texts d noLine (omega arith) (is .table) (omega arith) ∙ rw q
 
+  -- so it is one of all rows
   pub row-in : List·Memᴰ (entryAt texts u r) (allRows texts)
   row-in = let e : Entry = entryAt texts u r in Memᴰ·cast (sym (row-at e)) (at-mem (allRows texts) (place texts u r) e place-there)
 
 -- Every row has a table and a number
 
+-- each row of a table stands after j others
 entries-in : (table : Table) (t row : ℕ) (lines : List Line) (z : Line) {e : Entry} → List·Memᴰ e (entriesOf table t row lines)
     → (j : ℕ) × (j < length lines) × (e ≡ entry table t (row + j) (getD lines j z))
 unfolding entriesOf
@@ -119,6 +126,7 @@ Found n tables y texts z e =
     (u : ℕ) × (j : ℕ) × (u < length tables) × (j < length (linesOf (textAt texts u)))
     × (e ≡ entry (getD tables u y) (n + u) (suc j) (getD (linesOf (textAt texts u)) j z))
 
+-- each row of the tables is so found
 from-in : (n : ℕ) (tables : List Table) (y : Table) (texts : List (List ℕ)) (z : Line) {e : Entry} → List·Memᴰ e (entriesFrom n tables texts) → Found n tables y texts z e
 unfolding entriesFrom
 from-in n [] y texts z m = elim m [ ]
@@ -138,6 +146,7 @@ from-in n (table ∷ tables) y (text ∷ texts) z {e} m =
         let p : n + suc (w .0) ≡ suc n + w .0 = omega arith in
         (suc (w .0), w .1, omega (arith, w .2), w .3, rw p (w .4))
 
+-- what is so found is the row of its table and number
 row-made : (texts : List (List ℕ)) (u j : ℕ) (e : Entry) → u < length carried → j < length (linesOf (textAt texts u))
     → e ≡ entry (getD carried u Ocp) (0 + u) (suc j) (getD (linesOf (textAt texts u)) j noLine)
     → IsRow texts (e .table) (e .row) × (e ≡ entryAt texts (e .table) (e .row))

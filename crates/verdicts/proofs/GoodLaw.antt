@@ -19,6 +19,7 @@ use Rattle.verdicts.specs.Good.{Meets, Good}
 use Rattle.verdicts.proofs.VerdictLaw.{verdict-law}
 
 module _ (rows : List Entry) where
+  -- verdict 0
   abbrev isGood : Entry → Bool
   isGood o = eqb (verdict rows o) 0
 
@@ -30,6 +31,7 @@ module _ (rows : List Entry) where
       let i = keep-mem (λ o. holds o (n .key) && facts o .meets (n .condition)) rows (w .1) in
       (w .0, record { there = i .0; held = and-left _ _ (i .1); kind = and-right (holds (w .0) (n .key)) _ (i .1); good = eqb-true _ _ (w .2) })
 
+  -- and the other way round
   pub met-name : (n : Naming) (o : Entry) → Meets rows n o → nameCell rows isGood n ≡ 0
   unfolding nameCell asked
   met-name n o m =

@@ -21,15 +21,18 @@ pub data Like (Out In : Entry → Type 0) : List Entry → List Entry → Type 0
   here : {x x′ : Entry} {l l′ : List Entry} → Out x → In x′ → Like Out In l l′ → Like Out In (x ∷ l) (x′ ∷ l′)
 
 module _ {Out In : Entry → Type 0} where
+  -- as many rows
   pub like-length : {l l′ : List Entry} → Like Out In l l′ → length l ≡ length l′
   like-length none = refl
   like-length (like s) = ap suc (like-length s)
   like-length (here p q s) = ap suc (like-length s)
 
+  -- rows of which none is replaced
   pub like-self : (l : List Entry) → Like Out In l l
   like-self [] = none
   like-self (o ∷ l) = like (like-self l)
 
+  -- one part after another
   pub like-append : {l l′ m m′ : List Entry} → Like Out In l l′ → Like Out In m m′ → Like Out In (l ++ m) (l′ ++ m′)
   like-append none q = q
   like-append (like s) q = like (like-append s q)
@@ -70,30 +73,36 @@ module _ (Out In : Entry → Type 0) (l l′ : List Entry) (alike : Like Out In 
       → (o : Entry) → List·Memᴰ o (keep f l) → Safe o
   kept-safe e s f g hf q o m = onward s (keep-mem f l m .0) (keep-mem g l′ (rw q at m) .0) (hf o (keep-mem f l m .1))
 
+  -- a safe row shares a key before just if it does after
   shared-same : (e : Entry) → Safe e → shared l e ≡ shared l′ e
   unfolding shared
   shared-same e s = ap nonempty (kept e s (rivals e) (rivals e) (rival-step e) (rival-step e) (λ o _. refl))
 
+  -- and is sound alike
   sound-same : (e : Entry) → Safe e → sound l e ≡ sound l′ e
   unfolding sound
   sound-same e s = rw (shared-same e s)
 
+  -- what it counts is alike
   count-same : (e : Entry) → Safe e → (c : Count) → List·Memᴰ c (facts e .counts) → countCell l c ≡ countCell l′ c
   unfolding countCell tally
   count-same e s c m =
       rw (kept e s (λ o. belongs o (c .group) && sound l o) (λ o. belongs o (c .group) && sound l′ o)
       (λ o t. count-step e o c m (and-left _ _ t)) (λ o t. count-step e o c m (and-left _ _ t)) (λ o s′. rw (sound-same o s′)))
 
+  -- its chain goes on alike
   next-same : (e : Entry) → Safe e → next l e ≡ next l′ e
   unfolding next
   next-same e s =
       kept e s (λ o. follows e o && sound l o) (λ o. follows e o && sound l′ o) (λ o t. chain-step e o (and-left _ _ t))
       (λ o t. chain-step e o (and-left _ _ t)) (λ o s′. rw (sound-same o s′))
 
+  -- to safe rows
   next-safe : (e : Entry) → Safe e → (o : Entry) → List·Memᴰ o (next l e) → Safe o
   unfolding next
   next-safe e s = kept-safe e s (λ o. follows e o && sound l o) (λ o. follows e o && sound l′ o) (λ o t. chain-step e o (and-left _ _ t)) (next-same e s)
 
+  -- and leads to the same rows
   leads-same : (n : ℕ) (e z : Entry) → Safe e → leads n l e z ≡ leads n l′ e z
   unfolding leads
   leads-same zero e z s = refl
@@ -101,6 +110,7 @@ module _ (Out In : Entry → Type 0) (l l′ : List Entry) (alike : Like Out In 
       any-same (λ o. twin o z || leads n l o z) (λ o. twin o z || leads n l′ o z) (next l e) (λ o m. rw (leads-same n o z (next-safe e s o m)))
       ∙ rw (next-same e s)
 
+  -- so it is on a circle alike
   circle-same : (e : Entry) → Safe e → circle l e ≡ circle l′ e
   unfolding circle
   circle-same e s = rw (← like-length alike) (leads-same (length l) e e s)
@@ -126,6 +136,7 @@ module _ (Out In : Entry → Type 0) (l l′ : List Entry) (alike : Like Out In 
           map-same (nameCell l good) (nameCell l′ good′) (facts e .names) name-same,
         )
 
+  -- by induction on the number of names in the definition
   within-same : (n : ℕ) (e : Entry) → Safe e → within n l e ≡ within n l′ e
   unfolding within
   within-same zero e s = refl

@@ -21,9 +21,11 @@ nameFrom ws = record { bytes = drop 1 ws; len = getD ws 0 0 }
 abbrev curveFrom : List ℕ → CurveName
 curveFrom ws = record { bytes = drop 1 ws; len = getD ws 0 0 }
 
+-- an integer by its sign and the rest
 abbrev integerFrom : ℕ → ℕ → ℤ
 integerFrom sign n = cond (eqb sign 0) (pos n) (negsuc n)
 
+-- an APID, where one is given
 abbrev apidFrom : ℕ → ℕ → OptionalApid
 apidFrom given apid = cond (eqb given 0) Any (Only apid)
 
@@ -41,6 +43,7 @@ keyFrom t ws =
     (cond (eqb t 8) (range (curveFrom (drop 2 ws)) (integerFrom (getD ws 0 0) (getD ws 1 0)))
     (cond (eqb t 9) (limits (nameFrom ws)) (check (nameFrom (drop 1 ws)) (getD ws 0 0)))))))))))
 
+-- the first word tells the key space
 abbrev keyOf : List ℕ → Key
 keyOf ws = keyFrom (getD ws 0 0) (drop 1 ws)
 
@@ -67,6 +70,7 @@ pub same-key-is : (k l : Key) → sameKey k l ≡ true → k ≡ l
 unfolding sameKey
 same-key-is k l e = sym (key-back k) ∙ ap keyOf (same-is (keyWords k) (keyWords l) e) ∙ key-back l
 
+-- and every key is the same as itself
 pub same-key-self : (k : Key) → sameKey k k ≡ true
 unfolding sameKey
 same-key-self k = same-self (keyWords k)

@@ -33,11 +33,12 @@ chain-step e o t =
     let w = any-witness (λ n. holds o (n .key) && n .chained) (facts e .names) t in
     name-step e o (w .0) (w .1) (and-left _ _ (w .2))
 
--- a row with one of reasons 1 to 8 holds no key and is in no group
+-- a row with one of reasons 1 to 8 holds no key
 pub bad-holds : (o : Entry) (v : ℕ) → o .reading ≡ bad v → (k : Key) → holds o k ≡ false
 unfolding holds
 bad-holds o v b k = rw b
 
+-- and is in no group
 pub bad-belongs : (o : Entry) (v : ℕ) → o .reading ≡ bad v → (k : Key) → belongs o k ≡ false
 unfolding belongs
 bad-belongs o v b k = rw b

@@ -16,6 +16,7 @@ use Rattle.verdicts.specs.Entries.{Entry, own, facts}
 use Rattle.verdicts.specs.Verdicts.{shared, countCell, circle, asked, nameCell, judge, within, verdict}
 
 module _ (rows : List Entry) (good good′ : Entry → Bool) where
+  -- with more good rows a name that is met stays so
   name-up : ((o : Entry) → good o ≡ true → good′ o ≡ true) → (n : Naming) → nameCell rows good n ≡ 0 → nameCell rows good′ n ≡ 0
   unfolding nameCell
   name-up h n e = rw (any-up good good′ (asked rows n) h (unless-zero _ (2816 + n .column) (omega arith) e))
@@ -39,14 +40,17 @@ module _ (rows : List Entry) (good good′ : Entry → Bool) where
       (λ n _. rw (any-same good good′ (asked rows n) (λ o m. h o (keep-mem _ rows m .0)))))
 
 module _ (rows : List Entry) where
+  -- good by rows that are good within n names
   abbrev goodIn : ℕ → Entry → Bool
   goodIn n o = eqb (within n rows o) 0
 
+  -- good within n is good within one more
   good-up : (n : ℕ) (a : Entry) → goodIn n a ≡ true → goodIn (suc n) a ≡ true
   unfolding within
   good-up zero a t = cc
   good-up (suc n) a t = eq-eqb _ _ (judge-up rows (goodIn n) (goodIn (suc n)) (good-up n) a (eqb-true _ _ t))
 
+  -- where one more changes nothing, the next changes nothing
   good-stay : (n : ℕ) → Agree (goodIn n) (goodIn (suc n)) rows → Agree (goodIn (suc n)) (goodIn (suc (suc n))) rows
   unfolding within
   good-stay n h a m = ap (λ (v : ℕ). eqb v 0) (judge-by rows (goodIn n) (goodIn (suc n)) h a)
