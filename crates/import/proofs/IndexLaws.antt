@@ -61,6 +61,7 @@ module _ {A : Type 0} (d : A) where
       first : (b : Bool) → f a ≡ b → (f a ≡ true → 0 ≡ suc j) → b ≡ false
       first true e v = absurd (omega (arith, v e))
       first false e v = refl
+
       suc-is : (k : ℕ) → suc k ≡ suc j → k ≡ j
       suc-is k e = omega arith
 
@@ -115,6 +116,7 @@ module _ (test : ℕ → Bool) (lo hi i : ℕ) (low : lo ≤ i) (high : i < hi) 
             where
               after : i < w .at
               after = let o : w .at ≡ i → ⊥ = w .other in omega (arith, ltb-false (w .at) i q)
+
               past : (b : Bool) → ltb (w .at) (findFrom test (i + 1) (hi - (i + 1))) ≡ b → findFrom test (i + 1) (hi - (i + 1)) < hi
               past true p = absurd (false≢true (sym (g .none (w .at) (omega (arith, after)) (ltb-true _ _ p)) ∙ w .holds))
               past false p = omega (arith, ltb-false (w .at) (findFrom test (i + 1) (hi - (i + 1))) p, w .to)
@@ -169,8 +171,10 @@ module _ {A : Type 0} (d : A) (f : A → Bool) where
     where
       zero-place : test (k + 0) ≡ f a → test k ≡ f a
       zero-place e = rw (← add-zero k) e
+
       next-place : (i : ℕ) → test (k + suc i) ≡ f (getD l i d) → test (k + 1 + i) ≡ f (getD l i d)
       next-place i e = let q : k + 1 + i ≡ k + suc i = omega arith in rw q e
+
       go : (b : Bool) → length (keep f l) ≡ countFrom test (k + 1) (length l) → length (cond b (a ∷ keep f l) (keep f l)) ≡ cond b (countFrom test (k + 1) (length l) + 1) (countFrom test (k + 1) (length l))
       go true q = rw q (sym (add-one (countFrom test (k + 1) (length l))))
       go false q = q

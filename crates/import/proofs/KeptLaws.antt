@@ -160,6 +160,7 @@ module _ (rows : List Entry) (w : Arrays) (k : Kept rows w) where
             let two : getD (w .held) i 0 ≡ 2 = eqb-true _ _ (and-left _ _ v) in
             from-another (shared-another secondTest lo hi i (k .placed .low i p) (k .placed .high i p) (second-self i two) (and-right (eqb (getD (w .held) i 0) 2) _ v))
             (λ j r. rw (ne-eqb _ _ h, two, r) (or-right (keyTest j) refl))
+
         go : (b : Bool) → eqb (getD (w .held) i 0) 0 ≡ b → cond b false (sharedAt keyTest lo hi i || (eqb (getD (w .held) i 0) 2 && sharedAt secondTest lo hi i)) ≡ true → shared rows (rowAt rows i) ≡ true
         go true e v = absurd (false≢true v)
         go false e v = by (eqb-false _ _ e) (sharedAt keyTest lo hi i) refl v

@@ -1,7 +1,10 @@
 pub mod ChainLaws
 pub mod FindLaws
+pub mod IndexLaws
+pub mod KeptLaws
 pub mod ReadLaws
 pub mod ResolveLaws
 pub mod SharedLaws
 pub mod SoundLaws
+pub mod TargetLaws
 pub mod WriteLaws

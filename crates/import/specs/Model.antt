@@ -7,6 +7,8 @@ use lib.Dec.{eqb, leb, ltb}
 use lib.ListN.{getD}
 use Rattle.laws.specs.Lists.{orElse}
 use Rattle.schemas.specs.Reasons.{verdict}
+use Rattle.digests.specs.Namings.{namingKind, weight, metBy}
+use Rattle.import.specs.Columns.{countColumn}
 
 -- ---- searches
 
@@ -100,5 +102,68 @@ pub record Placed (kind starts : List ℕ) (n : ℕ) : Type 0 where
   pub table : (i : ℕ) → i < n → getD kind i 0 < 10
   pub low : (i : ℕ) → i < n → getD starts (getD kind i 0) 0 ≤ i
   pub high : (i : ℕ) → i < n → i < getD starts (getD kind i 0 + 1) 0
+  pub ordered : (t : ℕ) → t < 10 → getD starts t 0 ≤ getD starts (t + 1) 0
+  pub within : (t : ℕ) → t < 11 → getD starts t 0 ≤ n
+
+-- ---- the rows that the namings of all rows find
+
+-- the row that a naming with this code and these words finds, in the table that the code says
+unfoldable pub targetOf : List ℕ → List ℕ → List ℕ → List ℕ → List ℕ → List ℕ → ℕ → ℕ → ℕ → ℕ
+targetOf starts ka kb kc oa held code a b =
+    cond (eqb code 0) noRow
+    (orNoRow (getD starts (namingKind code .target + 1) 0)
+    (targetIn ka kb kc oa held code a b (getD starts (namingKind code .target) 0) (getD starts (namingKind code .target + 1) 0)))
+
+-- ---- the verdict of a row without its names: reasons 1 to 8 in its cell, 9, 10, 12
+
+-- 0, or reason 10 at the column that counts. The rows of a group are in the table after that which counts them
+unfoldable pub countAt : List ℕ → List ℕ → List ℕ → List ℕ → List ℕ → List ℕ → List ℕ → List ℕ → ℕ → ℕ
+countAt kind starts sound ka kb oa ob number i =
+    cond (eqb (countColumn (getD kind i 0)) 0) 0
+    (cond
+    (eqb (countFrom (groupAt sound oa ob (getD ka i 0) (getD kb i 0)) (getD starts (getD kind i 0 + 1) 0) (getD starts (getD kind i 0 + 2) 0 - getD starts (getD kind i 0 + 1) 0)) (getD number i 0))
+    0 (verdict 10 (countColumn (getD kind i 0))))
+
+-- 0, or reason 12, for a chain of at most n rows
+unfoldable pub circleAt : List ℕ → List ℕ → List ℕ → ℕ → ℕ → ℕ
+circleAt oc found sound n i = cond (comesTo oc found sound i n i) (verdict 12 8) 0
+
+-- reasons 1 to 8 in the cell, 9 where the row isn't sound, else 10 and 12
+unfoldable pub baseOf : (cell sound count circle : ℕ) → ℕ
+baseOf cell sound count circle = orElse cell (orElse (cond (eqb sound 1) 0 (verdict 9 0)) (orElse count circle))
+
+-- ---- names
+
+-- a slot's naming is met: there is none, or what it found is of the kind asked and marked good
+unfoldable pub metAt : List ℕ → List ℕ → ℕ → ℕ → Bool
+metAt marks good code j =
+    eqb code 0 || (not (eqb j noRow) && (metBy (getD marks j 0) (weight (namingKind code .condition)) && eqb (getD good j 0) 1))
+
+-- 0, or reason 11 at the slot's column
+unfoldable pub nameAt : List ℕ → List ℕ → ℕ → ℕ → ℕ
+nameAt marks good code j = cond (metAt marks good code j) 0 (verdict 11 (namingKind code .column))
+
+-- the verdict of a row, with the slots of its two namings and what these found
+unfoldable pub finalOf : List ℕ → List ℕ → (base code1 found1 code2 found2 : ℕ) → ℕ
+finalOf marks good base code1 found1 code2 found2 = orElse base (orElse (nameAt marks good code1 found1) (nameAt marks good code2 found2))
+
+abbrev pub flag : Bool → ℕ
+flag t = cond t 1 0
+
+-- a row without names is good where its verdict is 0; a pcf row is linked where its CURTX is met besides
+abbrev pub linkedAt : List ℕ → List ℕ → List ℕ → List ℕ → ℕ → ℕ
+linkedAt clean marks tc found i = flag (eqb (getD clean i 0) 1 && metAt marks clean (getD tc i 0) (getD found i 0))
+
+-- good by chains of at most n rows, for rows of pcf (table 3) and of tables that name nothing
+abbrev pub chainedAt : List ℕ → List ℕ → List ℕ → List ℕ → List ℕ → List ℕ → ℕ → ℕ → ℕ
+chainedAt kind oc found linked whole clean n i = cond (eqb (getD kind i 0) 3) (flag (chainGood oc found linked whole n i)) (getD clean i 0)
+
+-- good by its own two namings, where it is known which rows of the tables that these name are good
+abbrev pub goodAt : List ℕ → List ℕ → List ℕ → List ℕ → List ℕ → List ℕ → List ℕ → ℕ → ℕ
+goodAt clean marks good oc found1 tc found2 i =
+    flag (eqb (getD clean i 0) 1 && (metAt marks good (getD oc i 0) (getD found1 i 0) && metAt marks good (getD tc i 0) (getD found2 i 0)))
+
+-- tables in a row: each ends where the next one starts, and none past the n rows
+pub record Ordered (starts : List ℕ) (n : ℕ) : Type 0 where
   pub ordered : (t : ℕ) → t < 10 → getD starts t 0 ≤ getD starts (t + 1) 0
   pub within : (t : ℕ) → t < 11 → getD starts t 0 ≤ n

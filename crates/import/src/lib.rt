@@ -1,6 +1,8 @@
 // The import: verdicts of all rows of the ten tables.
+mod base;
 mod chains;
 mod find;
+mod names;
 mod reads;
 mod resolve;
 mod shared;
