@@ -11,7 +11,7 @@ use borrow.Author.Tests.{eq-eqb, ne-eqb, lt-ltb, le-ltb, ltb-true, ltb-false, eq
 use Rattle.laws.proofs.Lists.{split}
 use Rattle.laws.proofs.Cases.{cond-cases, cond-cases₂, bool-cases, and-left, and-right}
 use Rattle.lines.specs.declared.walk.NextLine.{NextLine}
-use Rattle.lines.specs.Lines.{Line, lineFeed, onFirst, lead, linesOf, lineLength, nextLine}
+use Rattle.lines.specs.Lines.{Line, lineFeed, onFirst, lead, linesOf, free, whole, lineLength, nextLine}
 
 -- The length of a line, byte by byte
 
@@ -101,17 +101,6 @@ module _ (table : List ℕ) (from : ℕ) (n : NextLine) (e : n ≡ nextLine tabl
       rw (e, t) (record { starts = omega arith; ends = omega arith; further = omega arith; within = omega arith }))
 
 -- Lines by their bytes
-
--- no line feed
-unfoldable pub free : List ℕ → Bool
-free [] = true
-free (b ∷ bs) = not (eqb b lineFeed) && free bs
-
--- empty, or a line feed is last
-unfoldable pub whole : List ℕ → Bool
-whole [] = true
-whole (b ∷ []) = eqb b lineFeed
-whole (b ∷ c ∷ bs) = whole (c ∷ bs)
 
 lead-free : (b k : ℕ) (ls : List Line) (d : Line) (t : Bool) → eqb b 10 ≡ t → free (d .bytes) ≡ true → ((j : ℕ) → free (getD ls j d .bytes) ≡ true)
     → free (getD (lead b ls) k d .bytes) ≡ true

@@ -2,7 +2,7 @@
 use Prim.Native.Nat.{ℕ, suc, _+_}
 use mathlib.Core.Path.{_≡_, refl}
 use mathlib.Core.List.{List, [], _∷_}
-use mathlib.Core.Bool.{Bool, true, false, cond}
+use mathlib.Core.Bool.{Bool, true, false, not, cond, _&&_}
 use lib.Dec.{eqb, ltb}
 use lib.ListN.{length, drop}
 use Rattle.laws.specs.Text.{ascii}
@@ -29,6 +29,17 @@ lead b ls = cond (eqb b lineFeed) (record { bytes = []; ended = true } ∷ ls) (
 unfoldable pub linesOf : List ℕ → List Line
 linesOf [] = []
 linesOf (b ∷ bs) = lead b (linesOf bs)
+
+-- bytes with no line feed among them
+unfoldable pub free : List ℕ → Bool
+free [] = true
+free (b ∷ bs) = not (eqb b lineFeed) && free bs
+
+-- whole lines: no bytes, or the last is a line feed
+unfoldable pub whole : List ℕ → Bool
+whole [] = true
+whole (b ∷ []) = eqb b lineFeed
+whole (b ∷ c ∷ bs) = whole (c ∷ bs)
 
 -- how many bytes stand before the first line feed, or all where there is none
 unfoldable pub lineLength : List ℕ → ℕ

@@ -1,13 +1,13 @@
 -- The rows of all tables, in table order, each with what its own columns say.
 use Prim.Native.Nat.{ℕ, suc}
-use mathlib.Core.Bool.{Bool, false, cond}
+use mathlib.Core.Bool.{false, cond}
 use mathlib.Core.List.{List, [], _∷_, _++_}
 use lib.Dec.{eqb}
 use Rattle.lines.specs.Lines.{Line, linesOf}
 use Rattle.schemas.specs.declared.Table.{Table}
 use Rattle.schemas.specs.declared.Table.the-variants.{Pid, Pic, Plf, Pcf, Caf, Cap, Txf, Txp, Ocf, Ocp}
 use Rattle.rows.specs.Formed.{formed}
-use Rattle.verdicts.specs.Facts.{Facts, Condition, factsOf}
+use Rattle.verdicts.specs.Facts.{Facts, factsOf}
 
 -- a row's own columns give a verdict of reasons 1 to 8, or else facts
 pub data Reading : Type 0 where

@@ -1,6 +1,9 @@
 pub mod Key
 pub mod Facts
 pub mod Entries
-pub mod Verdicts
 pub mod Steps
+pub mod Verdicts
+pub mod Good
 pub mod Answer
+pub mod Places
+pub mod Figures

@@ -1,0 +1,3 @@
+pub mod IntLaws
+pub mod FloorLaws
+pub mod LineLaws

@@ -1,0 +1,5 @@
+pub mod BitLaws
+pub mod PlaceLaws
+pub mod FieldLaws
+pub mod SignLaws
+pub mod TextLaws

@@ -1,0 +1,6 @@
+pub mod Bits
+pub mod Place
+pub mod Field
+pub mod Sign
+pub mod Text
+pub mod Figures

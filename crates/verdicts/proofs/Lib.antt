@@ -1,0 +1,11 @@
+pub mod KeyLaws
+pub mod StepLaws
+pub mod VerdictLaw
+pub mod CircleLaw
+pub mod EntryLaws
+pub mod SoundLaws
+pub mod GoodLaw
+pub mod CellLaws
+pub mod Isolation
+pub mod EditLaws
+pub mod BadRow

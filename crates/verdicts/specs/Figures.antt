@@ -1,0 +1,98 @@
+-- Verdicts that are computed: 01's figure from the bytes of the tables, and what rows do to one another.
+use Prim.Native.Nat.{ℕ}
+use Prim.Native.String.{String}
+use mathlib.Core.Path.{_≡_, refl}
+use mathlib.Core.Bool.{true, false}
+use mathlib.Core.List.{List, [], _∷_, _++_, map}
+use Rattle.laws.specs.Text.{ascii}
+use Rattle.numbers.specs.Number.{digitOf, digitOn, after, spelt, meaning, numberOf}
+use Rattle.lines.specs.Columns.{tab, columnsFrom, columnsOf}
+use Rattle.lines.specs.Lines.{lineFeed, onFirst, lead, linesOf}
+use Rattle.lines.specs.Names.{nameOf, curveNameOf, sameBytes}
+use Rattle.schemas.specs.Tables.{caf, cap, schema}
+use Rattle.schemas.specs.Reasons.{allowed, foreignIn, isIn, listed, numberReason, kindReason, columnReason, firstReason, shape}
+use Rattle.rows.specs.Values.{naturalFrom, naturalOr, integerFrom, integerOr, letterOf, formatOf, offEndsOf}
+use Rattle.rows.specs.Records.{column, cafRow, capRow}
+use Rattle.rows.specs.Contradictions.{isReal, cafContradiction, contradiction}
+use Rattle.rows.specs.Formed.{orContradiction, formed}
+use Rattle.verdicts.specs.Key.{curve, parameter, keyWords, sameKey}
+use Rattle.verdicts.specs.Facts.{Naming, anyRow, whole, factsOf, cafFacts, capFacts}
+use Rattle.verdicts.specs.Entries.{Entry, bad, fine, readingOf, entriesOf, entriesFrom, allRows}
+use Rattle.verdicts.specs.Steps.{twin, holds, belongs, rivals}
+use Rattle.verdicts.specs.Verdicts.{shared, sound, tally, countCell, follows, next, leads, circle, asked, nameCell, judge, within, verdict, verdicts}
+use Rattle.verdicts.specs.Answer.{taken, refused, firstTable, tooLong, tooManyRows, zeros, importOf}
+
+-- a row by its columns
+abbrev rowOf : List String → List ℕ
+rowOf [] = lineFeed ∷ []
+rowOf (c ∷ []) = ascii c ++ lineFeed ∷ []
+rowOf (c ∷ d ∷ cs) = ascii c ++ tab ∷ rowOf (d ∷ cs)
+
+-- tables of which only caf and cap have rows
+abbrev curves : List ℕ → List ℕ → List (List ℕ)
+curves cafs caps = [] ∷ [] ∷ [] ∷ [] ∷ cafs ∷ caps ∷ [] ∷ [] ∷ [] ∷ [] ∷ []
+
+abbrev oneCaf : String → List ℕ
+oneCaf ncurve = rowOf ("C1" ∷ "" ∷ "I" ∷ "I" ∷ "" ∷ "" ∷ ncurve ∷ "" ∷ [])
+
+abbrev twoCaps : List ℕ
+twoCaps = rowOf ("C1" ∷ "0" ∷ "0" ∷ []) ++ rowOf ("C1" ∷ "10" ∷ "-5" ∷ [])
+
+pub record FromBytes : Type 0 where
+  -- 01: "A caf row with NCURVE 3, two sound cap rows of it and nothing else: cells 2567, 2817, 2817; three rows, none good"
+  pub miscounted : verdicts (curves (oneCaf "3") twoCaps) ≡ 2567 ∷ 2817 ∷ 2817 ∷ []
+  pub answered : importOf (curves (oneCaf "3") twoCaps) 3 ≡ taken 3 0
+  -- with the right count all are good
+  pub counted : importOf (curves (oneCaf "2") twoCaps) 3 ≡ taken 3 3
+  -- no room for three cells
+  pub noRoom : importOf (curves (oneCaf "2") twoCaps) 2 ≡ refused 3 0
+
+pub fromBytes : FromBytes
+unfolding
+    digitOf digitOn after spelt meaning numberOf columnsFrom columnsOf onFirst lead linesOf nameOf curveNameOf sameBytes
+    caf cap schema allowed foreignIn isIn listed numberReason kindReason columnReason firstReason shape naturalFrom naturalOr integerFrom integerOr letterOf formatOf offEndsOf
+    column cafRow capRow isReal cafContradiction contradiction orContradiction formed keyWords sameKey factsOf cafFacts capFacts readingOf entriesOf entriesFrom allRows
+    twin holds belongs rivals shared sound tally countCell follows next leads circle asked nameCell judge within verdict verdicts
+    firstTable tooLong tooManyRows zeros importOf
+fromBytes = record { miscounted = refl; answered = refl; counted = refl; noRoom = refl }
+
+-- Rows by their facts, of parameters with one letter for a name
+
+-- pcf row r, which meets every condition
+abbrev pcfRow : ℕ → String → List Naming → Entry
+pcfRow r name named =
+    record { table = 3; row = r; reading = fine (record { keys = parameter (nameOf (ascii name)) ∷ []; names = named; counts = []; groups = []; meets = λ c. true }) }
+
+abbrev valid : String → Naming
+valid name = record { column = 8; key = parameter (nameOf (ascii name)); condition = whole; chained = true }
+
+abbrev curtx : String → Naming
+curtx name = record { column = 12; key = curve (curveNameOf (ascii name)); condition = anyRow; chained = false }
+
+-- a pcf row that meets no condition
+abbrev odd : ℕ → String → Entry
+odd r name = record { table = 3; row = r; reading = fine (record { keys = parameter (nameOf (ascii name)) ∷ []; names = []; counts = []; groups = []; meets = λ c. false }) }
+
+abbrev cellsOf : List Entry → List ℕ
+cellsOf rows = map (verdict rows) rows
+
+pub record FromFacts : Type 0 where
+  -- a circle of three: reason 12, which outranks 11, also where CURTX names no row. One that leads into it: 11 at column 8
+  pub circleOfThree : cellsOf (pcfRow 1 "A" (valid "B" ∷ []) ∷ pcfRow 2 "B" (valid "C" ∷ curtx "K" ∷ []) ∷ pcfRow 3 "C" (valid "A" ∷ [])
+      ∷ pcfRow 4 "D" (valid "A" ∷ []) ∷ []) ≡ 3080 ∷ 3080 ∷ 3080 ∷ 2824 ∷ []
+  -- one that names itself is on a circle
+  pub itself : cellsOf (pcfRow 1 "A" (valid "A" ∷ []) ∷ []) ≡ 3080 ∷ []
+  -- two that hold a key: both 9, and what would be a circle through them is cut; one that names them: 11
+  pub twoHolders : cellsOf (pcfRow 1 "A" (valid "B" ∷ []) ∷ pcfRow 2 "B" (valid "A" ∷ []) ∷ pcfRow 3 "B" [] ∷ []) ≡ 2824 ∷ 2304 ∷ 2304 ∷ []
+  -- the named row is there and good, but not of the kind asked
+  pub otherKind : cellsOf (pcfRow 1 "A" (valid "B" ∷ []) ∷ odd 2 "B" ∷ []) ≡ 2824 ∷ 0 ∷ []
+  -- of two names the lowest column decides
+  pub lowestColumn : cellsOf (pcfRow 1 "A" (valid "B" ∷ curtx "K" ∷ []) ∷ []) ≡ 2824 ∷ []
+  -- a row with one of reasons 1 to 8 holds nothing
+  pub badHoldsNothing : cellsOf (pcfRow 1 "A" (valid "B" ∷ []) ∷ record { table = 3; row = 2; reading = bad 1286 } ∷ []) ≡ 2824 ∷ 1286 ∷ []
+
+pub fromFacts : FromFacts
+unfolding
+    nameOf curveNameOf sameBytes keyWords sameKey
+    twin holds belongs rivals shared sound tally countCell follows next leads circle asked nameCell judge within verdict
+fromFacts = record { circleOfThree = refl; itself = refl; twoHolders = refl; otherKind = refl; lowestColumn = refl; badHoldsNothing = refl }
