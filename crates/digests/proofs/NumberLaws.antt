@@ -1,12 +1,12 @@
 -- Numbers of digits: read from the front by a loop, and the digits read back. Assumes nothing.
 use mathlib.Core.Path.{_≡_, refl, sym, ap, ap₂, _∙_}
-use mathlib.Core.List.{List, [], _∷_}
-use Prim.Native.Nat.{ℕ, zero, suc, _+_, _*_, _/_, _%_, _^_, _≤_, _<_}
+use mathlib.Core.List.{List, [], _∷_, _++_}
+use Prim.Native.Nat.{ℕ, zero, suc, _+_, _*_, _/_, _%_, _^_, _≤_, _<_, zero-le}
 use native.Mathlib.Omega.{arith}
-use native.Mathlib.Nat.{lt-of-lt-of-le, pow-le-pow-right, pow-zero, pow-suc, div-one, div-div-eq-div-mul}
+use native.Mathlib.Nat.{lt-of-lt-of-le, pow-le-pow-right, pow-zero, pow-suc, div-one, div-div-eq-div-mul, div-lt-iff-lt-mul}
 use native.Mathlib.Numerals.{add-one}
 use lib.Arith.{digits-lt, digits-div, digits-mod}
-use lib.ListN.{length, getD, drop, drop-of-length-le}
+use lib.ListN.{length, getD, take, drop, drop-of-length-le}
 use Rattle.laws.proofs.Lists.{split}
 use Rattle.digests.specs.Words.{numberFrom, number}
 
@@ -60,3 +60,29 @@ module _ (base : ℕ) where
   pub digits-back : (n : ℕ) (ds : List ℕ) → length ds ≡ n → Digits base ds → digitsOf base n (number base ds) ≡ ds
   unfolding number
   digits-back n ds e h = rw (← e) (from-back 0 ds h)
+
+  pub digits-take : (n : ℕ) (ds : List ℕ) → Digits base ds → Digits base (take n ds)
+  digits-take zero ds h = tt
+  digits-take (suc n) [] h = tt
+  digits-take (suc n) (d ∷ ds) h = (h .0, digits-take n ds (h .1))
+
+  pub digits-drop : (n : ℕ) (ds : List ℕ) → Digits base ds → Digits base (drop n ds)
+  digits-drop zero ds h = h
+  digits-drop (suc n) [] h = tt
+  digits-drop (suc n) (d ∷ ds) h = digits-drop n ds (h .1)
+
+  pub digits-append : (cs ds : List ℕ) → Digits base cs → Digits base ds → Digits base (cs ++ ds)
+  digits-append [] ds g h = h
+  digits-append (c ∷ cs) ds g h = (g .0, digits-append cs ds (g .1) h)
+
+  pub digits-all : (ds : List ℕ) → ((i : ℕ) → getD ds i 0 < base) → Digits base ds
+  digits-all [] h = tt
+  digits-all (d ∷ ds) h = (h 0, digits-all ds (λ i. h (suc i)))
+
+-- the number of n bytes is below 256 ^ n
+pub number-below : (ds : List ℕ) → Digits 256 ds → number 256 ds < 256 ^ length ds
+unfolding number
+number-below ds h =
+    let p : 0 < 256 ^ length ds = lt-of-lt-of-le {m = 256 ^ 0} (omega arith) (pow-le-pow-right (omega arith) zero-le) in
+    let q : numberFrom 256 0 ds / 256 ^ length ds < 1 = omega (arith, before-back 256 0 ds h) in
+    omega (arith, div-lt-iff-lt-mul p .0 q)

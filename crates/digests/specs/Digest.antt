@@ -1,11 +1,17 @@
 -- What a row says, in machine words: a digest says what the decoded columns say, also where the verdict isn't 0.
-use Prim.Native.Nat.{ℕ, _+_}
 use mathlib.Core.Bool.{Bool, cond}
+use mathlib.Core.Path.{_≡_, refl}
+use mathlib.Core.List.{[], _∷_}
+use Prim.Native.Nat.{ℕ, _+_}
+use Rattle.numbers.specs.Number.{numberOf, meaning, spelt, after, digitOn, digitOf}
 use Rattle.lines.specs.Lines.{Line}
+use Rattle.lines.specs.Columns.{columnsOf, columnsFrom}
+use Rattle.lines.specs.Names.{curveNameOf}
 use Rattle.schemas.specs.declared.Table.{Table}
 use Rattle.schemas.specs.declared.Table.the-variants.{Pid, Pic, Plf, Pcf, Caf, Cap, Txf, Txp, Ocf, Ocp}
+use Rattle.rows.specs.Values.{integerOr, integerFrom}
 use Rattle.rows.specs.Formed.{formed}
-use Rattle.rows.specs.Records.{pidRow, picRow, plfRow, pcfRow, cafRow, capRow, txfRow, txpRow, ocfRow, ocpRow}
+use Rattle.rows.specs.Records.{column, pidRow, picRow, plfRow, pcfRow, cafRow, capRow, txfRow, txpRow, ocfRow, ocpRow}
 use Rattle.rows.specs.declared.records.PidRow.{PidRow}
 use Rattle.rows.specs.declared.records.PicRow.{PicRow}
 use Rattle.rows.specs.declared.records.PlfRow.{PlfRow}
@@ -27,7 +33,7 @@ use Rattle.verdicts.specs.Facts.{Condition, raw, whole, numeric, calibrated, pc
 use Rattle.digests.specs.declared.words.Words.{Words}
 use Rattle.digests.specs.declared.records.Named.{Named}
 use Rattle.digests.specs.declared.records.Digest.{Digest}
-use Rattle.digests.specs.Words.{curveWords, packed}
+use Rattle.digests.specs.Words.{number, numberFrom, wordsOf, curveWords, integerWord, packed}
 
 -- the number of a table, from 0
 unfoldable pub tableNumber : Table → ℕ
@@ -187,3 +193,17 @@ digestOf Txf line = txfDigest (formed Txf line) (txfRow (line .bytes))
 digestOf Txp line = txpDigest (formed Txp line) (txpRow (line .bytes))
 digestOf Ocf line = ocfDigest (formed Ocf line) (ocfRow (line .bytes))
 digestOf Ocp line = ocpDigest (formed Ocp line) (ocpRow (line .bytes))
+
+-- a cap row: C1, TAB, -3, TAB, 7
+pub example : capDigest 0 (capRow (67 ∷ 49 ∷ 9 ∷ 45 ∷ 51 ∷ 9 ∷ 55 ∷ []))
+    ≡ record {
+      verdict = 0;
+      keyed = 1;
+      key = wordsOf 0x4331000000000000 0x20000 5;
+      one = record { code = 6; a = 0x4331000000000000; b = 0x20000 };
+      two = noName;
+      number = 0;
+      marks = 0;
+    }
+unfolding capDigest capRow column columnsOf columnsFrom curveNameOf integerOr integerFrom numberOf meaning spelt after digitOn digitOf packed curveWords number numberFrom integerWord
+example = refl

@@ -1,7 +1,7 @@
 -- The columns that name a row, as a list of kinds.
-use Prim.Native.Nat.{ℕ, _/_, _%_}
 use mathlib.Core.Bool.{Bool, true, false, _||_}
 use mathlib.Core.List.{List, [], _∷_}
+use Prim.Native.Nat.{ℕ, _/_, _%_}
 use lib.Dec.{eqb}
 use lib.ListN.{getD}
 use Rattle.verdicts.specs.Facts.{Condition, anyRow, raw, whole, numeric, calibrated}

@@ -1,6 +1,7 @@
-// The kinds of namings, by their code, and the conditions that they ask of the named row.
+// The kinds of namings, by their code, the conditions that they ask of the named row, and the columns that count.
 ghost use mathlib.Core.Path.{_≡_};
 ghost use lib.ListN.{getD};
+ghost use Rattle.digests.specs.Said.{countColumn};
 ghost use Rattle.digests.specs.Namings.{namingKind, weight, metBy};
 
 const NAMING_COLUMN: [u8; 12] = [0, 1, 2, 8, 12, 12, 1, 1, 1, 4, 1, 6];
@@ -65,4 +66,16 @@ pub fn meets(marks: u8, condition: u8) -> bool
         return true;
     }
     marks / condition % 2 == 1
+}
+
+// The column that counts rows, by the number of its table; 0 where none does.
+pub fn count_column(table: u8) -> u8
+    ensures { λ r. ⌜ r ≡ countColumn table ⌝ }
+{
+    match table {
+        4 => 7,
+        6 => 4,
+        8 => 3,
+        _ => 0,
+    }
 }

@@ -11,12 +11,13 @@ use Rattle.laws.specs.Lists.{any, keep}
 use Rattle.laws.proofs.Cases.{bool-cases, and-left, and-right, and-both, false≢true}
 use Rattle.laws.proofs.Lists.{at-mem}
 use Rattle.laws.proofs.Tests.{any-keep}
-use Rattle.verdicts.specs.Facts.{Naming}
-use Rattle.verdicts.specs.Entries.{Entry, facts}
-use Rattle.verdicts.specs.Steps.{twin, holds}
+use Rattle.verdicts.specs.Facts.{Naming, Count}
+use Rattle.verdicts.specs.Entries.{Entry, own, facts}
+use Rattle.verdicts.specs.Steps.{twin, holds, belongs}
 use Rattle.verdicts.specs.Verdicts.{sound, asked}
 use Rattle.verdicts.proofs.SoundLaws.{alone}
 use Rattle.digests.specs.Namings.{namingKind, weight, metBy}
+use Rattle.digests.specs.Said.{countColumn}
 use Rattle.import.specs.Model.{findFrom, keyAt, secondAt}
 use Rattle.import.proofs.FindLaws.{Found, find-tells}
 use Rattle.import.proofs.IndexLaws.{same-test, any-place, place-any}
@@ -124,3 +125,40 @@ module _ (rows : List Entry) (w : Arrays) (k : Kept rows w) (n : Naming) (s : Sl
 
     pub met-is : any good (asked rows n) ≡ metWords
     met-is = same-test _ _ to-words to-rows
+
+-- ---- the namings of a row, in order, and their slots
+
+pub data Slotted (rows : List Entry) (w : Arrays) : List Naming → List Slot → Type 0 where
+  none : Slotted rows w [] []
+  more : {n : Naming} {s : Slot} {ns : List Naming} {ss : List Slot} → Answers rows w n s → Slotted rows w ns ss → Slotted rows w (n ∷ ns) (s ∷ ss)
+
+abbrev pub slotOne : Arrays → ℕ → Slot
+slotOne w i = record { code = getD (w .oc) i 0; a = getD (w .oa) i 0; b = getD (w .ob) i 0 }
+
+abbrev pub slotTwo : Arrays → ℕ → Slot
+slotTwo w i = record { code = getD (w .tc) i 0; a = getD (w .ta) i 0; b = getD (w .tb) i 0 }
+
+-- the slots of row i that have a naming
+abbrev pub slotsAt : Arrays → ℕ → List Slot
+slotsAt w i = keep (λ s. not (eqb (s .code) 0)) (slotOne w i ∷ slotTwo w i ∷ [])
+
+-- the namings of well-formed rows are kept; only a first slot is of the VALID chain
+pub record Names (rows : List Entry) (w : Arrays) : Type 0 where
+  pub slots : (i : ℕ) → i < length rows → own (rowAt rows i .reading) ≡ 0 → Slotted rows w (facts (rowAt rows i) .names) (slotsAt w i)
+  pub unchained : (i : ℕ) → i < length rows → namingKind (getD (w .tc) i 0) .chained ≡ false
+
+-- ---- the count of a row
+
+pub record Counting (rows : List Entry) (w : Arrays) (i : ℕ) : Type 0 where
+  pub count : Count
+  pub is : facts (rowAt rows i) .counts ≡ count ∷ []
+  pub column : count .column ≡ countColumn (kindAt w i)
+  pub number : count .number ≡ getD (w .number) i 0
+  pub members : (j : ℕ) → j < length rows → belongs (rowAt rows j) (count .group) ≡ true
+      → (kindAt w j ≡ kindAt w i + 1) × (getD (w .oa) j 0 ≡ getD (w .ka) i 0) × (getD (w .ob) j 0 ≡ getD (w .kb) i 0)
+  pub back : (j : ℕ) → j < length rows → own (rowAt rows j .reading) ≡ 0 → kindAt w j ≡ kindAt w i + 1
+      → getD (w .oa) j 0 ≡ getD (w .ka) i 0 → getD (w .ob) j 0 ≡ getD (w .kb) i 0 → belongs (rowAt rows j) (count .group) ≡ true
+
+pub record Counts (rows : List Entry) (w : Arrays) : Type 0 where
+  pub uncounted : (i : ℕ) → i < length rows → countColumn (kindAt w i) ≡ 0 → facts (rowAt rows i) .counts ≡ []
+  pub counting : (i : ℕ) → i < length rows → own (rowAt rows i .reading) ≡ 0 → (countColumn (kindAt w i) ≡ 0 → ⊥) → Counting rows w i

@@ -8,7 +8,7 @@ use lib.ListN.{getD}
 use Rattle.laws.specs.Lists.{orElse}
 use Rattle.schemas.specs.Reasons.{verdict}
 use Rattle.digests.specs.Namings.{namingKind, weight, metBy}
-use Rattle.import.specs.Columns.{countColumn}
+use Rattle.digests.specs.Said.{countColumn}
 
 -- ---- searches
 

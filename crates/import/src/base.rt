@@ -10,7 +10,7 @@ ghost use Rattle.schemas.specs.Reasons.{verdict};
 ghost use Prim.Native.Nat.{_≤_, _<_};
 ghost use lib.ListN.{length, getD};
 ghost use lib.Seq.{sets};
-ghost use Rattle.import.specs.Columns.{countColumn};
+ghost use Rattle.digests.specs.Said.{countColumn};
 ghost use Rattle.import.specs.Model.{countAt, circleAt, baseOf, tabulate, Ordered};
 
 // The column of a table that counts rows of the table after it, or 0.
