@@ -1,3 +1,4 @@
 pub mod FormedLaws
+pub mod Meaning
 pub mod PlaceLaws
 pub mod ValueLaws

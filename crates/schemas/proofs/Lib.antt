@@ -1,3 +1,4 @@
+pub mod Meaning
 pub mod RangeLaws
 pub mod ReasonLaws
 pub mod ShapeLaws

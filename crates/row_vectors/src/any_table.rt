@@ -1,0 +1,38 @@
+// Rows that are bad in the same way in every table.
+use crate::each::Asked;
+use crate::each::each;
+use crate::show::number;
+use rows::read::formed;
+use schemas::Table;
+
+fn of_512(name: &[u8], label: &[u8], table: Table, byte: u8) {
+    let line = [byte; 512];
+    io::write_all(1, name);
+    number(label, formed(table, &line, true) as u64);
+}
+
+fn of_513(name: &[u8], label: &[u8], table: Table, byte: u8) {
+    let line = [byte; 513];
+    io::write_all(1, name);
+    number(label, formed(table, &line, true) as u64);
+}
+
+fn of_70000(label: &[u8], table: Table, byte: u8) {
+    let line = [byte; 70000];
+    number(label, formed(table, &line, true) as u64);
+}
+
+pub(crate) fn all(name: &[u8], table: Table) {
+    each(name, Asked::Verdict(table), b"of LF alone: \n");
+    of_512(name, b"of 512 letters", table, b'A');
+    of_513(name, b"of 513 letters", table, b'A');
+    of_512(name, b"of 512 TABs", table, b'\t');
+    of_512(name, b"of 512 bytes 0xFF", table, 0xFF);
+    of_513(name, b"of 513 bytes 0xFF", table, 0xFF);
+}
+
+// Longer than a whole table may be.
+pub(crate) fn longest() {
+    of_70000(b"pid of 70000 letters", Table::Pid, b'A');
+    of_70000(b"pcf of 70000 TABs", Table::Pcf, b'\t');
+}
