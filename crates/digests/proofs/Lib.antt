@@ -1,0 +1,10 @@
+pub mod NumberLaws
+pub mod WordLaws
+pub mod NamingLaws
+pub mod ExactLaws
+pub mod BoundLaws
+pub mod RowLaws
+pub mod Given
+pub mod MarkLaws
+pub mod SaidLaws
+pub mod HoldLaws

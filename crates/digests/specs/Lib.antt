@@ -1,0 +1,4 @@
+pub mod Words
+pub mod Namings
+pub mod Digest
+pub mod Said
