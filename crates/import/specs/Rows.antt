@@ -33,21 +33,21 @@ abbrev pub heldOf : Digest → ℕ
 heldOf d = cond (eqb (d .verdict) 0) (d .keyed) 0
 
 -- the arrays have the words of a row at its place
-pub record Stored (r : KeptRow) (own kind held ka kb kc oa ob ta tb oc tc number marks : ℕ) : Type 0 where
-  pub own : own ≡ r .digest .verdict
-  pub kind : kind ≡ r .table
-  pub held : held ≡ heldOf (r .digest)
-  pub ka : ka ≡ r .digest .key .a
-  pub kb : kb ≡ r .digest .key .b
-  pub kc : kc ≡ r .digest .key .c
-  pub oa : oa ≡ r .digest .one .a
-  pub ob : ob ≡ r .digest .one .b
-  pub ta : ta ≡ r .digest .two .a
-  pub tb : tb ≡ r .digest .two .b
-  pub oc : oc ≡ r .digest .one .code
-  pub tc : tc ≡ r .digest .two .code
-  pub number : number ≡ r .digest .number
-  pub marks : marks ≡ r .digest .marks
+pub record Stored (r : KeptRow) (own′ kind′ held′ ka′ kb′ kc′ oa′ ob′ ta′ tb′ oc′ tc′ number′ marks′ : ℕ) : Type 0 where
+  pub own : own′ ≡ r .digest .verdict
+  pub kind : kind′ ≡ r .table
+  pub held : held′ ≡ heldOf (r .digest)
+  pub ka : ka′ ≡ r .digest .key .a
+  pub kb : kb′ ≡ r .digest .key .b
+  pub kc : kc′ ≡ r .digest .key .c
+  pub oa : oa′ ≡ r .digest .one .a
+  pub ob : ob′ ≡ r .digest .one .b
+  pub ta : ta′ ≡ r .digest .two .a
+  pub tb : tb′ ≡ r .digest .two .b
+  pub oc : oc′ ≡ r .digest .one .code
+  pub tc : tc′ ≡ r .digest .two .code
+  pub number : number′ ≡ r .digest .number
+  pub marks : marks′ ≡ r .digest .marks
 
 -- the arrays have the words of the first n rows
 abbrev pub Filled : List KeptRow → ℕ → List ℕ → List ℕ → List ℕ → List ℕ → List ℕ → List ℕ → List ℕ → List ℕ → List ℕ → List ℕ → List ℕ → List ℕ → List ℕ → List ℕ → KeptRow → Type 0
