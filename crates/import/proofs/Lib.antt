@@ -1,3 +1,4 @@
+pub mod BaseLaws
 pub mod ChainLaws
 pub mod FindLaws
 pub mod IndexLaws

@@ -4,26 +4,14 @@ use crate::find::tally;
 use crate::reads::byte_at;
 use crate::reads::half_at;
 use crate::reads::word_at;
+use digests::namings::count_column;
 ghost use mathlib.Core.Path.{_≡_};
 ghost use mathlib.Core.Bool.{cond};
 ghost use Rattle.schemas.specs.Reasons.{verdict};
-ghost use Prim.Native.Nat.{_≤_, _<_};
+ghost use Prim.Native.Nat.{_≤_};
 ghost use lib.ListN.{length, getD};
 ghost use lib.Seq.{sets};
-ghost use Rattle.digests.specs.Said.{countColumn};
 ghost use Rattle.import.specs.Model.{countAt, circleAt, baseOf, tabulate, Ordered};
-
-// The column of a table that counts rows of the table after it, or 0.
-fn count_column(t: u8) -> u16
-    ensures { λ r. ⌜ r ≡ countColumn t ⌝ }
-{
-    match t {
-        4 => 7,
-        6 => 4,
-        8 => 3,
-        _ => 0,
-    }
-}
 
 // 0, or reason 10.
 fn count_row(
@@ -42,7 +30,7 @@ fn count_row(
     ensures { λ r. ⌜ r ≡ countAt (now (kind .entry)) starts (now (sound .entry)) (now (ka .entry)) (now (kb .entry)) (now (oa .entry)) (now (ob .entry)) (now (number .entry)) i ⌝ }
 {
     let t = byte_at(kind, i);
-    let column = count_column(t);
+    let column = count_column(t) as u16;
     if column == 0 {
         return 0;
     }
