@@ -3,6 +3,7 @@ pub mod ChainLaws
 pub mod FindLaws
 pub mod IndexLaws
 pub mod KeptLaws
+pub mod MetLaws
 pub mod ReadLaws
 pub mod ResolveLaws
 pub mod SharedLaws

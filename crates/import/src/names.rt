@@ -7,8 +7,7 @@ use digests::namings::meets;
 use digests::namings::naming_column;
 use digests::namings::naming_condition;
 ghost use mathlib.Core.Path.{_≡_};
-ghost use mathlib.Core.Bool.{cond};
-ghost use Prim.Native.Nat.{_+_, _≤_, _<_};
+ghost use Prim.Native.Nat.{_≤_};
 ghost use lib.Dec.{eqb};
 ghost use lib.ListN.{length, getD};
 ghost use lib.Seq.{sets};
@@ -69,7 +68,7 @@ pub(crate) fn mark_clean(base: &[u16], clean: &mut [u8], n: usize)
 {
     let mut i: usize = 0;
     while i < n {
-        clean[i] = if half_at(base, i) == 0 { 1 } else { 0 };
+        clean[i] = as_flag(half_at(base, i) == 0);
         i += 1;
     }
 }
