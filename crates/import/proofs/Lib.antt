@@ -1,12 +1,17 @@
 pub mod BaseLaws
 pub mod ChainLaws
+pub mod ChainMeaning
+pub mod CountMeaning
 pub mod FindLaws
+pub mod GoodMeaning
 pub mod IndexLaws
 pub mod KeptLaws
 pub mod MetLaws
 pub mod ReadLaws
 pub mod ResolveLaws
 pub mod SharedLaws
+pub mod SlotMeaning
 pub mod SoundLaws
 pub mod TargetLaws
+pub mod VerdictMeaning
 pub mod WriteLaws

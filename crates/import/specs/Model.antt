@@ -4,7 +4,8 @@ use Prim.Native.Nat.{ℕ, zero, suc, _+_, _-_, _≤_, _<_}
 use mathlib.Core.Bool.{Bool, true, false, not, cond, _&&_, _||_}
 use mathlib.Core.List.{List, [], _∷_}
 use lib.Dec.{eqb, leb, ltb}
-use lib.ListN.{getD}
+use lib.ListN.{getD, replicate}
+use lib.Seq.{sets}
 use Rattle.laws.specs.Lists.{orElse}
 use Rattle.schemas.specs.Reasons.{verdict}
 use Rattle.digests.specs.Namings.{namingKind, weight, metBy}
@@ -167,3 +168,45 @@ goodAt clean marks good oc found1 tc found2 i =
 pub record Ordered (starts : List ℕ) (n : ℕ) : Type 0 where
   pub ordered : (t : ℕ) → t < 10 → getD starts t 0 ≤ getD starts (t + 1) 0
   pub within : (t : ℕ) → t < 11 → getD starts t 0 ≤ n
+
+-- ---- the passes together: each fills an array of 10,240 places from the front
+
+unfoldable pub filled : (ℕ → ℕ) → ℕ → List ℕ
+filled f n = sets (replicate 10240 0) 0 (tabulate f 0 n)
+
+-- the verdicts of n rows by the names, after the other reasons
+module _ (kind oc tc marks found1 found2 base : List ℕ) (n : ℕ) where
+  abbrev pub cleanRows : List ℕ
+  cleanRows = filled (λ i. flag (eqb (getD base i 0) 0)) n
+
+  abbrev pub wholeRows : List ℕ
+  wholeRows = filled (λ i. flag (metBy (getD marks i 0) 2)) n
+
+  abbrev pub linkedRows : List ℕ
+  linkedRows = filled (linkedAt cleanRows marks tc found2) n
+
+  abbrev pub chainedRows : List ℕ
+  chainedRows = filled (chainedAt kind oc found1 linkedRows wholeRows cleanRows (n + 1)) n
+
+  abbrev pub goodRows : List ℕ
+  goodRows = filled (goodAt cleanRows marks chainedRows oc found1 tc found2) n
+
+  unfoldable pub namedVerdicts : List ℕ
+  namedVerdicts = tabulate (λ i. finalOf marks goodRows (getD base i 0) (getD oc i 0) (getD found1 i 0) (getD tc i 0) (getD found2 i 0)) 0 n
+
+-- the verdicts of n rows by all that is kept of them
+module _ (own kind starts held ka kb kc oa ob ta tb oc tc number marks : List ℕ) (n : ℕ) where
+  abbrev pub soundRows : List ℕ
+  soundRows = filled (soundAt own kind starts ka kb kc oa held) n
+
+  abbrev pub foundOne : List ℕ
+  foundOne = filled (λ i. targetOf starts ka kb kc oa held (getD oc i 0) (getD oa i 0) (getD ob i 0)) n
+
+  abbrev pub foundTwo : List ℕ
+  foundTwo = filled (λ i. targetOf starts ka kb kc oa held (getD tc i 0) (getD ta i 0) (getD tb i 0)) n
+
+  abbrev pub baseRows : List ℕ
+  baseRows = filled (λ i. baseOf (getD own i 0) (getD soundRows i 0) (countAt kind starts soundRows ka kb oa ob number i) (circleAt oc foundOne soundRows n i)) n
+
+  unfoldable pub judgedVerdicts : List ℕ
+  judgedVerdicts = namedVerdicts kind oc tc marks foundOne foundTwo baseRows n

@@ -41,11 +41,11 @@ module _ (rows : List Entry) (good good′ : Entry → Bool) where
 
 module _ (rows : List Entry) where
   -- good by rows that are good within n names
-  abbrev goodIn : ℕ → Entry → Bool
+  abbrev pub goodIn : ℕ → Entry → Bool
   goodIn n o = eqb (within n rows o) 0
 
   -- good within n is good within one more
-  good-up : (n : ℕ) (a : Entry) → goodIn n a ≡ true → goodIn (suc n) a ≡ true
+  pub good-up : (n : ℕ) (a : Entry) → goodIn n a ≡ true → goodIn (suc n) a ≡ true
   unfolding within
   good-up zero a t = cc
   good-up (suc n) a t = eq-eqb _ _ (judge-up rows (goodIn n) (goodIn (suc n)) (good-up n) a (eqb-true _ _ t))
