@@ -1,6 +1,7 @@
 pub mod ChainLaws
 pub mod FindLaws
 pub mod IndexLaws
+pub mod KeepLaws
 pub mod KeptLaws
 pub mod ReadLaws
 pub mod ResolveLaws
