@@ -4,7 +4,7 @@ use mathlib.Core.Path.{_≡_}
 use mathlib.Core.Bool.{cond}
 use mathlib.Core.List.{List, [], _∷_, _++_}
 use lib.Dec.{eqb}
-use lib.ListN.{getD}
+use lib.ListN.{length, getD, set}
 use Rattle.lines.specs.Lines.{Line, linesOf}
 use Rattle.schemas.specs.declared.Table.{Table}
 use Rattle.verdicts.specs.Entries.{carried}
@@ -15,6 +15,22 @@ use Rattle.digests.specs.declared.records.Digest.{Digest}
 pub record KeptRow : Type 0 where
   pub table : ℕ
   pub digest : Digest
+
+-- what reads past the last row
+abbrev pub noKeptRow : KeptRow
+noKeptRow =
+    record {
+      table = 0;
+      digest = record {
+        verdict = 0;
+        keyed = 0;
+        key = record { a = 0; b = 0; c = 0 };
+        one = record { code = 0; a = 0; b = 0 };
+        two = record { code = 0; a = 0; b = 0 };
+        number = 0;
+        marks = 0;
+      };
+    }
 
 unfoldable pub keptOf : Table → ℕ → List Line → List KeptRow
 keptOf table t [] = []
@@ -62,3 +78,114 @@ Bytes texts = (t i : ℕ) → getD (getD texts t []) i 0 < 256
 -- where each table starts among all rows, and where the last one ends
 abbrev pub Starts : List (List ℕ) → List ℕ → Type 0
 Starts texts starts = (t : ℕ) → t ≤ 10 → getD starts t 0 ≡ rowsBefore texts t
+
+-- the fourteen arrays of the rows
+pub record Store : Type 0 where
+  pub own : List ℕ
+  pub kind : List ℕ
+  pub held : List ℕ
+  pub ka : List ℕ
+  pub kb : List ℕ
+  pub kc : List ℕ
+  pub oa : List ℕ
+  pub ob : List ℕ
+  pub ta : List ℕ
+  pub tb : List ℕ
+  pub oc : List ℕ
+  pub tc : List ℕ
+  pub number : List ℕ
+  pub marks : List ℕ
+
+abbrev pub store : List ℕ → List ℕ → List ℕ → List ℕ → List ℕ → List ℕ → List ℕ → List ℕ → List ℕ → List ℕ → List ℕ → List ℕ → List ℕ → List ℕ → Store
+store own′ kind′ held′ ka′ kb′ kc′ oa′ ob′ ta′ tb′ oc′ tc′ number′ marks′ =
+    record {
+      own = own′;
+      kind = kind′;
+      held = held′;
+      ka = ka′;
+      kb = kb′;
+      kc = kc′;
+      oa = oa′;
+      ob = ob′;
+      ta = ta′;
+      tb = tb′;
+      oc = oc′;
+      tc = tc′;
+      number = number′;
+      marks = marks′;
+    }
+
+-- each array has a place for each row that there may be
+pub record Room (s : Store) : Type 0 where
+  pub own : 10240 ≤ length (s .own)
+  pub kind : 10240 ≤ length (s .kind)
+  pub held : 10240 ≤ length (s .held)
+  pub ka : 10240 ≤ length (s .ka)
+  pub kb : 10240 ≤ length (s .kb)
+  pub kc : 10240 ≤ length (s .kc)
+  pub oa : 10240 ≤ length (s .oa)
+  pub ob : 10240 ≤ length (s .ob)
+  pub ta : 10240 ≤ length (s .ta)
+  pub tb : 10240 ≤ length (s .tb)
+  pub oc : 10240 ≤ length (s .oc)
+  pub tc : 10240 ≤ length (s .tc)
+  pub number : 10240 ≤ length (s .number)
+  pub marks : 10240 ≤ length (s .marks)
+
+-- the arrays with the words of a row stored at a place
+unfoldable pub putRow : Store → ℕ → KeptRow → Store
+putRow s at r =
+    record {
+      own = set (s .own) at (r .digest .verdict);
+      kind = set (s .kind) at (r .table);
+      held = set (s .held) at (heldOf (r .digest));
+      ka = set (s .ka) at (r .digest .key .a);
+      kb = set (s .kb) at (r .digest .key .b);
+      kc = set (s .kc) at (r .digest .key .c);
+      oa = set (s .oa) at (r .digest .one .a);
+      ob = set (s .ob) at (r .digest .one .b);
+      ta = set (s .ta) at (r .digest .two .a);
+      tb = set (s .tb) at (r .digest .two .b);
+      oc = set (s .oc) at (r .digest .one .code);
+      tc = set (s .tc) at (r .digest .two .code);
+      number = set (s .number) at (r .digest .number);
+      marks = set (s .marks) at (r .digest .marks);
+    }
+
+-- and of rows, from a place on
+unfoldable pub putRows : Store → ℕ → List KeptRow → Store
+putRows s at [] = s
+putRows s at (r ∷ rows) = putRows (putRow s at r) (suc at) rows
+
+-- one table's rows are kept, from a place to before another
+pub record KeptTable (table : Table) (t from : ℕ) (text : List ℕ) (before after : Store) (to : ℕ) : Type 0 where
+  pub ends : to ≡ from + length (linesOf text)
+  pub stored : after ≡ putRows before from (keptOf table t (linesOf text))
+  pub bytes : (i : ℕ) → getD text i 0 < 256
+
+-- each array is as long as it was
+pub record SameLengths (before after : Store) : Type 0 where
+  pub own : length (after .own) ≡ length (before .own)
+  pub kind : length (after .kind) ≡ length (before .kind)
+  pub held : length (after .held) ≡ length (before .held)
+  pub ka : length (after .ka) ≡ length (before .ka)
+  pub kb : length (after .kb) ≡ length (before .kb)
+  pub kc : length (after .kc) ≡ length (before .kc)
+  pub oa : length (after .oa) ≡ length (before .oa)
+  pub ob : length (after .ob) ≡ length (before .ob)
+  pub ta : length (after .ta) ≡ length (before .ta)
+  pub tb : length (after .tb) ≡ length (before .tb)
+  pub oc : length (after .oc) ≡ length (before .oc)
+  pub tc : length (after .tc) ≡ length (before .tc)
+  pub number : length (after .number) ≡ length (before .number)
+  pub marks : length (after .marks) ≡ length (before .marks)
+
+-- all rows are kept: how many there are, where each table's start, and their words
+pub record KeptAll (texts : List (List ℕ)) (starts′ : List ℕ) (rows′ : ℕ) (before after : Store) : Type 0 where
+  pub rows : rows′ ≡ length (keptRows texts)
+  pub count : rows′ ≡ rowsBefore texts 10
+  pub most : rows′ ≤ 10240
+  pub starts : Starts texts starts′
+  pub filled : Filled (keptRows texts) rows′ (after .own) (after .kind) (after .held) (after .ka) (after .kb) (after .kc) (after .oa) (after .ob) (after .ta) (after .tb) (after .oc) (after .tc) (after .number) (after .marks) noKeptRow
+  pub bytes : Bytes texts
+  pub lengths : SameLengths before after

@@ -2,6 +2,7 @@
 mod base;
 mod chains;
 mod find;
+mod keep;
 mod names;
 mod reads;
 mod resolve;
