@@ -1,61 +1,51 @@
--- Holding, sharing and belonging, asked of digests instead of rows. Assumes nothing.
+-- Holding, sharing, belonging and naming, asked of digests instead of rows. Assumes nothing.
 use mathlib.Core.Path.{_≡_, refl, ap, ap₂, _∙_}
 use mathlib.Core.Bool.{Bool, true, false, cond, _&&_, _||_, and-false, or-false}
 use mathlib.Core.List.{List, [], _∷_, map, List·Memᴰ, List·Memᴰ·head, List·Memᴰ·tail}
-use Prim.Native.Nat.{ℕ, zero, suc, _≤_, _<_}
+use Prim.Native.Nat.{ℕ, zero, suc, _≤_}
 use native.Mathlib.Omega.{arith}
 use lib.Dec.{eqb, ltb}
-use lib.ListN.{getD, take}
+use lib.ListN.{take}
 use borrow.Author.Tests.{ne-eqb, le-ltb}
 use Rattle.laws.specs.Lists.{any}
-use Rattle.lines.specs.Lines.{Line}
-use Rattle.schemas.specs.declared.Table.{Table}
-use Rattle.schemas.specs.declared.Table.the-variants.{Pid, Pic, Plf, Pcf, Caf, Cap, Txf, Txp, Ocf, Ocp}
-use Rattle.rows.specs.Records.{pidRow}
-use Rattle.rows.specs.declared.letters.Valid.{Valid}
-use Rattle.rows.specs.declared.letters.Valid.the-variants.{Yes, No}
 use Rattle.verdicts.specs.Key.{Key, sameKey}
-use Rattle.verdicts.specs.Facts.{factsOf}
-use Rattle.verdicts.specs.Entries.{carried}
+use Rattle.verdicts.specs.Facts.{Naming, Count}
+use Rattle.verdicts.specs.Entries.{Entry, facts}
+use Rattle.verdicts.specs.Steps.{holds, belongs}
 use Rattle.digests.specs.declared.words.Words.{Words}
 use Rattle.digests.specs.declared.records.Digest.{Digest}
 use Rattle.digests.specs.Words.{sameWords}
-use Rattle.digests.specs.Digest.{tableNumber, pidKeyed, digestOf, pidDigest, picDigest, plfDigest, pcfDigest, cafDigest, capDigest, txfDigest, txpDigest, ocfDigest, ocpDigest}
-use Rattle.digests.specs.Said.{Placed, placed, samePlaced, keyIn, heldBy, holdsPlaced, clash, keyNamed, isGrouped, groupsBy}
+use Rattle.digests.specs.Said.{Placed, placed, samePlaced, keyIn, heldBy, holdsPlaced, clash, Said, saidOf, saidBy, namesOf, keyNamed, Counted, countedOf, countsBy, isGrouped, groupsBy}
 use Rattle.digests.proofs.ExactLaws.{Bounded, placed-exact}
-use Rattle.digests.proofs.RowLaws.{row-bounded}
-use Rattle.digests.proofs.SaidLaws.{keys-placed, groups-placed}
+use Rattle.digests.proofs.Digested.{Digested}
 
--- the tables' numbers, in the order in which they are carried
-pub carried-numbers : map tableNumber carried ≡ 0 ∷ 1 ∷ 2 ∷ 3 ∷ 4 ∷ 5 ∷ 6 ∷ 7 ∷ 8 ∷ 9 ∷ []
-unfolding tableNumber
-carried-numbers = refl
+-- Lists
 
-pid-keyed-most : (v : Valid) → pidKeyed v ≤ 2
-unfolding pidKeyed
-pid-keyed-most Yes = omega arith
-pid-keyed-most No = omega arith
+-- a test of what a list is mapped to
+any-through : {A B : Type 0} (f : A → Bool) (g : B → Bool) (said : A → B) (l : List A) → ((a : A) → List·Memᴰ a l → f a ≡ g (said a)) → any f l ≡ any g (map said l)
+any-through f g said [] e = refl
+any-through f g said (a ∷ l) e = ap₂ _||_ (e a (List·Memᴰ·head refl)) (any-through f g said l (λ b m. e b (List·Memᴰ·tail m)))
 
--- a row holds at most two keys
-pub keyed-most : (t : Table) (line : Line) → digestOf t line .keyed ≤ 2
-unfolding digestOf pidDigest picDigest plfDigest pcfDigest cafDigest capDigest txfDigest txpDigest ocfDigest ocpDigest
-keyed-most Pid line = pid-keyed-most (pidRow (line .bytes) .valid)
-keyed-most Pic line = omega arith
-keyed-most Plf line = omega arith
-keyed-most Pcf line = omega arith
-keyed-most Caf line = omega arith
-keyed-most Cap line = omega arith
-keyed-most Txf line = omega arith
-keyed-most Txp line = omega arith
-keyed-most Ocf line = omega arith
-keyed-most Ocp line = omega arith
+map-through : {A B C : Type 0} (f : A → C) (g : B → C) (said : A → B) (l : List A) → ((a : A) → List·Memᴰ a l → f a ≡ g (said a)) → map f l ≡ map g (map said l)
+map-through f g said [] e = refl
+map-through {C = C} f g said (a ∷ l) e = ap₂ {C = List C} _∷_ (e a (List·Memᴰ·head refl)) (map-through f g said l (λ b m. e b (List·Memᴰ·tail m)))
+
+-- a test of a list that is there only under a condition
+when-any : {A : Type 0} (f : A → Bool) (z : Bool) (l : List A) → any f (cond z l []) ≡ (z && any f l)
+when-any f true l = refl
+when-any f false l = refl
+
+-- a test that goes on only under a condition
+any-and : {A : Type 0} (z : Bool) (f : A → Bool) (l : List A) → any (λ a. z && f a) l ≡ (z && any f l)
+any-and true f l = refl
+any-and false f [] = refl
+any-and false f (a ∷ l) = any-and false f l
 
 -- A key among others
 
 -- is one of them in words
 any-placed : (k : Key) → Bounded k → (l : List Key) → ((m : Key) → List·Memᴰ m l → Bounded m) → any (sameKey k) l ≡ any (samePlaced (placed k)) (map placed l)
-any-placed k h [] j = refl
-any-placed k h (m ∷ l) j = ap₂ _||_ (placed-exact k m h (j m (List·Memᴰ·head refl))) (any-placed k h l (λ n q. j n (List·Memᴰ·tail q)))
+any-placed k h l j = any-through (sameKey k) (samePlaced (placed k)) placed l (λ m q. placed-exact k m h (j m q))
 
 -- the keys of table t in the first n slots of a digest
 abbrev slots : ℕ → ℕ → Digest → List Placed
@@ -80,38 +70,6 @@ slot-any (suc (suc zero)) (suc (suc s)) x t d w h =
     )
 slot-any (suc (suc (suc n))) s x t d w h = absurd (omega arith)
 
--- Rows and their digests
-
-module _ (t : Table) (line : Line) where
-  held-any : (p : Placed) → any (samePlaced p) (heldBy t (digestOf t line)) ≡ holdsPlaced (tableNumber t) (digestOf t line) p
-  unfolding heldBy holdsPlaced
-  held-any p = slot-any (digestOf t line .keyed) (p .slot) (p .table) (tableNumber t) (digestOf t line) (p .words) (keyed-most t line)
-
-module _ (t : Table) (line : Line) (h : (i : ℕ) → getD (line .bytes) i 0 < 256) where
-  -- the row holds a key
-  pub holds-is : (k : Key) → Bounded k → any (sameKey k) (factsOf t (line .bytes) .keys) ≡ holdsPlaced (tableNumber t) (digestOf t line) (placed k)
-  holds-is k b =
-      any-placed k b (factsOf t (line .bytes) .keys) (row-bounded t (line .bytes) h .keys)
-      ∙ ap (any (samePlaced (placed k))) (keys-placed t line) ∙ held-any t line (placed k)
-
-  -- the row is counted in a group
-  pub belongs-is : (k : Key) → Bounded k
-      → any (sameKey k) (factsOf t (line .bytes) .groups) ≡ (isGrouped (digestOf t line .one .code) && samePlaced (placed k) (keyNamed (digestOf t line .one)))
-  unfolding groupsBy
-  belongs-is k b =
-      any-placed k b (factsOf t (line .bytes) .groups) (row-bounded t (line .bytes) h .groups)
-      ∙ ap (any (samePlaced (placed k))) (groups-placed t line) ∙ group-any (isGrouped (digestOf t line .one .code))
-    where
-      group-any : (g : Bool) → any (samePlaced (placed k)) (cond g (keyNamed (digestOf t line .one) ∷ []) []) ≡ (g && samePlaced (placed k) (keyNamed (digestOf t line .one)))
-      group-any true = or-false _
-      group-any false = refl
-
-  -- the row holds one of several keys
-  any-held : (l : List Key) → ((m : Key) → List·Memᴰ m l → Bounded m)
-      → any (λ k. any (sameKey k) (factsOf t (line .bytes) .keys)) l ≡ any (holdsPlaced (tableNumber t) (digestOf t line)) (map placed l)
-  any-held [] j = refl
-  any-held (m ∷ l) j = ap₂ _||_ (holds-is m (j m (List·Memᴰ·head refl))) (any-held l (λ n q. j n (List·Memᴰ·tail q)))
-
 -- a test that two share
 one-of : (b p v : Bool) → (b && p && v || false) ≡ (b && (p && v || false))
 one-of true p v = refl
@@ -132,12 +90,62 @@ clash-any (suc (suc zero)) t u d e h =
     two-of (eqb t u) (ltb 0 (e .keyed)) (sameWords (keyIn d 0) (keyIn e 0)) (ltb 1 (e .keyed)) (sameWords (keyIn d 1) (keyIn e 1))
 clash-any (suc (suc (suc n))) t u d e h = absurd (omega arith)
 
+-- A row that has a digest
+
+module _ (o : Entry) (d : Digest) (h : Digested o d) where
+  held-any : (p : Placed) → any (samePlaced p) (heldBy (o .table) d) ≡ holdsPlaced (o .table) d p
+  unfolding heldBy holdsPlaced
+  held-any p = slot-any (d .keyed) (p .slot) (p .table) (o .table) d (p .words) (h .keyedMost)
+
+  -- the row holds a key
+  pub holds-is : (k : Key) → Bounded k → holds o k ≡ (eqb (d .verdict) 0 && holdsPlaced (o .table) d (placed k))
+  unfolding holds
+  holds-is k b =
+      any-placed k b (facts o .keys) (h .keysBounded) ∙ ap (any (samePlaced (placed k))) (h .keys)
+      ∙ when-any (samePlaced (placed k)) (eqb (d .verdict) 0) (heldBy (o .table) d)
+      ∙ ap (λ (t : Bool). eqb (d .verdict) 0 && t) (held-any (placed k))
+
+  -- the row is counted in a group
+  pub belongs-is : (k : Key) → Bounded k
+      → belongs o k ≡ (eqb (d .verdict) 0 && (isGrouped (d .one .code) && samePlaced (placed k) (keyNamed (d .one))))
+  unfolding belongs groupsBy
+  belongs-is k b =
+      any-placed k b (facts o .groups) (h .groupsBounded) ∙ ap (any (samePlaced (placed k))) (h .groups)
+      ∙ when-any (samePlaced (placed k)) (eqb (d .verdict) 0) (groupsBy d)
+      ∙ ap (λ (t : Bool). eqb (d .verdict) 0 && t)
+      (when-any (samePlaced (placed k)) (isGrouped (d .one .code)) (keyNamed (d .one) ∷ [])
+      ∙ ap (λ (t : Bool). isGrouped (d .one .code) && t) (or-false (samePlaced (placed k) (keyNamed (d .one)))))
+
+  -- the row holds one of several keys
+  any-held : (l : List Key) → ((m : Key) → List·Memᴰ m l → Bounded m)
+      → any (holds o) l ≡ any (λ p. eqb (d .verdict) 0 && holdsPlaced (o .table) d p) (map placed l)
+  any-held l j = any-through (holds o) (λ p. eqb (d .verdict) 0 && holdsPlaced (o .table) d p) placed l (λ m q. holds-is m (j m q))
+
+  -- what a well-formed row names, one after the other
+  pub names-map : {B : Type 0} (f : Naming → B) (g : Said → B) → ((n : Naming) → Bounded (n .key) → f n ≡ g (saidOf n))
+      → map f (facts o .names) ≡ map g (cond (eqb (d .verdict) 0) (map saidBy (namesOf d)) [])
+  names-map f g e = map-through f g saidOf (facts o .names) (λ n m. e n (h .namesBounded n m)) ∙ ap (map g) (h .names)
+
+  -- what a well-formed row counts
+  pub counts-map : {B : Type 0} (f : Count → B) (g : Counted → B) → ((c : Count) → Bounded (c .group) → f c ≡ g (countedOf c))
+      → map f (facts o .counts) ≡ map g (cond (eqb (d .verdict) 0) (countsBy (o .table) d) [])
+  counts-map f g e = map-through f g countedOf (facts o .counts) (λ c m. e c (h .countsBounded c m)) ∙ ap (map g) (h .counts)
+
+  -- one of what a well-formed row names
+  pub names-any : (f : Naming → Bool) (g : Said → Bool) → ((n : Naming) → Bounded (n .key) → f n ≡ g (saidOf n))
+      → any f (facts o .names) ≡ (eqb (d .verdict) 0 && any g (map saidBy (namesOf d)))
+  names-any f g e =
+      any-through f g saidOf (facts o .names) (λ n m. e n (h .namesBounded n m)) ∙ ap (any g) (h .names)
+      ∙ when-any g (eqb (d .verdict) 0) (map saidBy (namesOf d))
+
 -- two rows hold a key in common
-pub shares-is : (t : Table) (line : Line) (u : Table) (other : Line) → ((i : ℕ) → getD (line .bytes) i 0 < 256) → ((i : ℕ) → getD (other .bytes) i 0 < 256)
-    → any (λ k. any (sameKey k) (factsOf u (other .bytes) .keys)) (factsOf t (line .bytes) .keys)
-    ≡ (eqb (tableNumber t) (tableNumber u) && clash (digestOf t line) (digestOf u other))
+pub shares-is : (e o : Entry) (d c : Digest) → Digested e d → Digested o c
+    → any (holds o) (facts e .keys) ≡ (eqb (d .verdict) 0 && (eqb (c .verdict) 0 && (eqb (e .table) (o .table) && clash d c)))
 unfolding clash heldBy
-shares-is t line u other h j =
-    any-held u other j (factsOf t (line .bytes) .keys) (row-bounded t (line .bytes) h .keys)
-    ∙ ap (any (holdsPlaced (tableNumber u) (digestOf u other))) (keys-placed t line)
-    ∙ clash-any (digestOf t line .keyed) (tableNumber t) (tableNumber u) (digestOf t line) (digestOf u other) (keyed-most t line)
+shares-is e o d c h j =
+    any-held o c j (facts e .keys) (h .keysBounded)
+    ∙ ap (any (λ p. eqb (c .verdict) 0 && holdsPlaced (o .table) c p)) (h .keys)
+    ∙ when-any (λ p. eqb (c .verdict) 0 && holdsPlaced (o .table) c p) (eqb (d .verdict) 0) (heldBy (e .table) d)
+    ∙ ap (λ (t : Bool). eqb (d .verdict) 0 && t)
+    (any-and (eqb (c .verdict) 0) (holdsPlaced (o .table) c) (heldBy (e .table) d)
+    ∙ ap (λ (t : Bool). eqb (c .verdict) 0 && t) (clash-any (d .keyed) (e .table) (o .table) d c (h .keyedMost)))

@@ -7,4 +7,5 @@ pub mod RowLaws
 pub mod Given
 pub mod MarkLaws
 pub mod SaidLaws
+pub mod Digested
 pub mod HoldLaws

@@ -2,7 +2,8 @@
 use mathlib.Core.Path.{_≡_, refl}
 use mathlib.Core.Bool.{Bool, true, false}
 use mathlib.Core.List.{[], _∷_, map}
-use Prim.Native.Nat.{ℕ}
+use Prim.Native.Nat.{ℕ, _≤_}
+use native.Mathlib.Omega.{arith}
 use lib.ListN.{take}
 use Rattle.lines.specs.Lines.{Line}
 use Rattle.schemas.specs.declared.Table.{Table}
@@ -21,6 +22,7 @@ use Rattle.rows.specs.declared.letters.LimitValue.{LimitValue}
 use Rattle.rows.specs.declared.letters.LimitValue.the-variants as LV
 use Rattle.verdicts.specs.Key.{packet, structure}
 use Rattle.verdicts.specs.Facts.{Condition, factsOf, pidFacts, pidKeys, picFacts, plfFacts, pcfFacts, cafFacts, capFacts, txfFacts, txpFacts, ocfFacts, ocpFacts}
+use Rattle.verdicts.specs.Entries.{carried}
 use Rattle.digests.specs.Words.{packed, nameWords, curveWords, tableOf, slotOf}
 use Rattle.digests.specs.Namings.{namingKinds, namingKind, weight, metBy}
 use Rattle.digests.specs.Digest.{tableNumber, marksOf, pidKeyed, curtxCode, underC, digestOf, pidDigest, picDigest, plfDigest, pcfDigest, cafDigest, capDigest, txfDigest, txpDigest, ocfDigest, ocpDigest}
@@ -42,6 +44,30 @@ verdict-is Txp line = refl
 verdict-is Ocf line = refl
 verdict-is Ocp line = refl
 
+-- the tables' numbers, in the order in which they are carried
+pub carried-numbers : map tableNumber carried ≡ 0 ∷ 1 ∷ 2 ∷ 3 ∷ 4 ∷ 5 ∷ 6 ∷ 7 ∷ 8 ∷ 9 ∷ []
+unfolding tableNumber
+carried-numbers = refl
+
+pid-keyed-most : (v : Valid) → pidKeyed v ≤ 2
+unfolding pidKeyed
+pid-keyed-most Yes = omega arith
+pid-keyed-most No = omega arith
+
+-- a row holds at most two keys
+pub keyed-most : (t : Table) (line : Line) → digestOf t line .keyed ≤ 2
+unfolding digestOf pidDigest picDigest plfDigest pcfDigest cafDigest capDigest txfDigest txpDigest ocfDigest ocpDigest
+keyed-most Pid line = pid-keyed-most (pidRow (line .bytes) .valid)
+keyed-most Pic line = omega arith
+keyed-most Plf line = omega arith
+keyed-most Pcf line = omega arith
+keyed-most Caf line = omega arith
+keyed-most Cap line = omega arith
+keyed-most Txf line = omega arith
+keyed-most Txp line = omega arith
+keyed-most Ocf line = omega arith
+keyed-most Ocp line = omega arith
+
 -- the keys that a row holds
 
 pid-keys : (v : Valid) (r : PidRow) → map placed (pidKeys v r) ≡ take (pidKeyed v) (placed (packet (r .ptype) (r .stype) (r .apid) (r .pi1) (r .pi2)) ∷ placed (structure (r .spid .0)) ∷ [])
@@ -49,7 +75,7 @@ unfolding pidKeys pidKeyed
 pid-keys Yes r = refl
 pid-keys No r = refl
 
-pub keys-placed : (t : Table) (line : Line) → map placed (factsOf t (line .bytes) .keys) ≡ heldBy t (digestOf t line)
+pub keys-placed : (t : Table) (line : Line) → map placed (factsOf t (line .bytes) .keys) ≡ heldBy (tableNumber t) (digestOf t line)
 unfolding factsOf pidFacts pidKeys picFacts plfFacts pcfFacts cafFacts capFacts txfFacts txpFacts ocfFacts ocpFacts digestOf pidDigest picDigest plfDigest pcfDigest cafDigest capDigest txfDigest txpDigest ocfDigest ocpDigest heldBy placed tableNumber tableOf slotOf packed
 keys-placed Pid line = pid-keys (pidRow (line .bytes) .valid) (pidRow (line .bytes))
 keys-placed Pic line = refl

@@ -5,7 +5,6 @@ use Prim.Native.Nat.{ℕ, zero, suc}
 use lib.Dec.{eqb, ltb}
 use lib.ListN.{take}
 use Rattle.laws.specs.Lists.{keep}
-use Rattle.schemas.specs.declared.Table.{Table}
 use Rattle.verdicts.specs.Key.{Key}
 use Rattle.verdicts.specs.Facts.{Condition, Naming, Count}
 use Rattle.digests.specs.declared.words.Words.{Words}
@@ -13,7 +12,6 @@ use Rattle.digests.specs.declared.records.Named.{Named}
 use Rattle.digests.specs.declared.records.Digest.{Digest}
 use Rattle.digests.specs.Words.{wordsOf, packed, sameWords, tableOf, slotOf}
 use Rattle.digests.specs.Namings.{namingKind}
-use Rattle.digests.specs.Digest.{tableNumber}
 
 -- a key in words: its key space, by the table and the slot, and its words
 pub record Placed : Type 0 where
@@ -33,11 +31,11 @@ abbrev pub keyIn : Digest → ℕ → Words
 keyIn d zero = d .key
 keyIn d (suc slot) = wordsOf (d .one .a) 0 0
 
--- the keys that a row holds
-unfoldable pub heldBy : Table → Digest → List Placed
+-- the keys that a row of table number t holds
+unfoldable pub heldBy : ℕ → Digest → List Placed
 heldBy t d =
     take (d .keyed)
-    (record { table = tableNumber t; slot = 0; words = keyIn d 0 } ∷ record { table = tableNumber t; slot = 1; words = keyIn d 1 } ∷ [])
+    (record { table = t; slot = 0; words = keyIn d 0 } ∷ record { table = t; slot = 1; words = keyIn d 1 } ∷ [])
 
 -- a row of table number t with this digest holds the key
 unfoldable pub holdsPlaced : ℕ → Digest → Placed → Bool
