@@ -4,6 +4,7 @@ pub mod IndexLaws
 pub mod KeptLaws
 pub mod ReadLaws
 pub mod ResolveLaws
+pub mod RowTies
 pub mod SharedLaws
 pub mod SoundLaws
 pub mod TargetLaws
