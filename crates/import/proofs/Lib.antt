@@ -10,6 +10,7 @@ pub mod KeptLaws
 pub mod MetLaws
 pub mod ReadLaws
 pub mod ResolveLaws
+pub mod RowTies
 pub mod SharedLaws
 pub mod SlotMeaning
 pub mod SoundLaws
