@@ -5,6 +5,7 @@ pub mod CountMeaning
 pub mod FindLaws
 pub mod GoodMeaning
 pub mod IndexLaws
+pub mod JudgedMeaning
 pub mod KeepLaws
 pub mod KeptLaws
 pub mod MetLaws
