@@ -2,6 +2,7 @@ pub mod ChainLaws
 pub mod FindLaws
 pub mod IndexLaws
 pub mod KeptLaws
+pub mod KeyTies
 pub mod ReadLaws
 pub mod ResolveLaws
 pub mod RowTies
