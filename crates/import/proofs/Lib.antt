@@ -3,6 +3,7 @@ pub mod FindLaws
 pub mod IndexLaws
 pub mod KeptLaws
 pub mod KeyTies
+pub mod NameTies
 pub mod ReadLaws
 pub mod ResolveLaws
 pub mod RowTies
