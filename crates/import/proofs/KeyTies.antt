@@ -1,13 +1,13 @@
 -- The places and the keys of the rows, as the arrays have them. Assumes nothing.
 use mathlib.Core.Path.{_≡_, refl, ap, ap₂, sym, _∙_}
 use mathlib.Core.Logic.{_⊎_, inl, inr}
-use mathlib.Core.Bool.{Bool, true, false, not, cond, _&&_, _||_, and-true, and-false, or-false}
+use mathlib.Core.Bool.{Bool, true, false, not, cond, _&&_, _||_, and-true, and-false}
 use mathlib.Core.List.{List}
 use Prim.Native.Nat.{ℕ, zero, suc, _+_, _-_, _≤_, _<_}
 use native.Mathlib.Omega.{arith}
 use native.Mathlib.Numerals.{add-one}
 use lib.Dec.{eqb, ltb}
-use lib.ListN.{length, getD}
+use lib.ListN.{length}
 use borrow.Author.Tests.{eqb-true, eq-eqb, ne-eqb, lt-ltb, ltb-true, ltb-false}
 use Rattle.laws.specs.Lists.{any}
 use Rattle.laws.proofs.Cases.{bool-cases, and-left, and-right}
@@ -19,32 +19,27 @@ use Rattle.verdicts.proofs.EntryLaws.{rows-before-next, length-rows}
 use Rattle.digests.specs.declared.records.Digest.{Digest}
 use Rattle.digests.specs.Words.{wordsOf, packed, sameWords, tableOf, slotOf}
 use Rattle.digests.specs.Digest.{tableNumber, digestOf}
-use Rattle.digests.specs.Said.{Placed, placed, keyIn, holdsPlaced, clash}
+use Rattle.digests.specs.Said.{Placed, placed, holdsPlaced, clash}
 use Rattle.digests.proofs.ExactLaws.{Bounded}
 use Rattle.digests.proofs.HoldLaws.{holds-is, shares-is}
 use Rattle.import.specs.Model.{keyAt, secondAt, Placed as PlacedRows}
 use Rattle.import.specs.Rows.{KeptRow, Bytes, Starts}
 use Rattle.import.proofs.IndexLaws.{same-test}
 use Rattle.import.proofs.KeptLaws.{Arrays, rowAt, kindAt, startAt, rivalWords, Kept}
-use Rattle.import.proofs.RowTies.{RowTie, row-tie, FilledWith, Tie, Ties, rows-tied}
+use Rattle.import.proofs.RowTies.{row-tie, FilledWith, Tie, Ties, rows-tied, table-tied}
 
 -- ---- places
 
 -- more tables, no fewer rows
 rows-up : (texts : List (List ℕ)) (t u : ℕ) → t ≤ u → rowsBefore texts t ≤ rowsBefore texts u
-rows-up texts t u h =
-    bool-cases (ltb t u)
-    (λ l. up u (ltb-true _ _ l))
-    (λ l. let e : t ≡ u = omega (arith, ltb-false t u l) in rw e (omega arith))
-  where
-    up : (u : ℕ) → t < u → rowsBefore texts t ≤ rowsBefore texts u
-    up zero h = absurd (omega arith)
-    up (suc u) h =
-        bool-cases (ltb t u)
-        (λ l. omega (arith, rows-before-next texts u, up u (ltb-true _ _ l)))
-        (λ l. let e : t ≡ u = omega (arith, ltb-false t u l) in rw e (omega (arith, rows-before-next texts u)))
+rows-up texts t zero h = let e : t ≡ 0 = omega arith in rw e (omega arith)
+rows-up texts t (suc u) h =
+    bool-cases (ltb u t)
+    (λ l. let e : t ≡ suc u = omega (arith, ltb-true u t l) in rw e (omega arith))
+    (λ l. omega (arith, rows-before-next texts u, rows-up texts t u (ltb-false u t l)))
 
 module _ (texts : List (List ℕ)) (own : List ℕ) (w : Arrays) (d : KeptRow) (b : Bytes texts) (f : FilledWith texts own w d) (s : Starts texts (w .starts)) where
+  -- where a table ends
   start-next : (t : ℕ) → t < 10 → startAt w (t + 1) ≡ rowsBefore texts (suc t)
   start-next t h = rw (add-one t) (s (suc t) (omega arith))
 
@@ -74,14 +69,13 @@ module _ (texts : List (List ℕ)) (own : List ℕ) (w : Arrays) (d : KeptRow) (
       (λ p. absurd (omega (arith, start-next t h, r .low, rows-up texts (suc t) (r .table) (ltb-true _ _ p))))
       (λ p. omega (arith, ltb-false (r .table) t q, ltb-false t (r .table) p)))
 
-  pub table-tied : (i : ℕ) → i < length (allRows texts) → rowAt (allRows texts) i .table ≡ kindAt w i
-  table-tied i h = let r = row-tie texts b i h in rw (kind-tied i h, r .row)
-
+  -- a row's number counts from where its table starts
   pub row-tied : (i : ℕ) → i < length (allRows texts) → rowAt (allRows texts) i .row ≡ suc (i - startAt w (kindAt w i))
   row-tied i h = let r = row-tie texts b i h in rw (kind-tied i h, s (r .table) (omega (arith, r .below)), r .row)
 
 -- ---- tests turned about
 
+-- an equation read the other way round
 eqb-turned : (a b : ℕ) → eqb a b ≡ eqb b a
 eqb-turned a b = same-test _ _ (λ e. eq-eqb b a (sym (eqb-true a b e))) (λ e. eq-eqb a b (sym (eqb-true b a e)))
 
@@ -98,6 +92,7 @@ second-held true (suc (suc zero)) h = refl
 second-held true (suc (suc (suc n))) h = absurd (omega arith)
 second-held false n h = refl
 
+-- a test that stands first put last
 last-first : (p x y v : Bool) → (p && (x && y && v)) ≡ (x && (y && (v && p)))
 last-first p true true true = and-true p
 last-first p true true false = and-false p
@@ -237,7 +232,7 @@ kept-tied texts own w d b f s =
     record {
       placed = places-tied texts own w d b f s;
       only = only-tied texts own w d b f s;
-      table = table-tied texts own w d b f s;
+      table = table-tied (allRows texts) own w ties;
       row = row-tied texts own w d b f s;
       rival = λ i j h k t.
           let e = sym (rival-tied (allRows texts) own w ties i j h k) ∙ t in

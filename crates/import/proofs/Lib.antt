@@ -1,4 +1,5 @@
 pub mod ChainLaws
+pub mod CountTies
 pub mod FindLaws
 pub mod IndexLaws
 pub mod KeptLaws
@@ -10,4 +11,5 @@ pub mod RowTies
 pub mod SharedLaws
 pub mod SoundLaws
 pub mod TargetLaws
+pub mod Ties
 pub mod WriteLaws
