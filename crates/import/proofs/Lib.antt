@@ -2,13 +2,16 @@ pub mod BaseLaws
 pub mod ChainLaws
 pub mod ChainMeaning
 pub mod CountMeaning
+pub mod CountTies
 pub mod FindLaws
 pub mod GoodMeaning
 pub mod IndexLaws
 pub mod JudgedMeaning
 pub mod KeepLaws
 pub mod KeptLaws
+pub mod KeyTies
 pub mod MetLaws
+pub mod NameTies
 pub mod ReadLaws
 pub mod ResolveLaws
 pub mod RowTies
@@ -16,5 +19,6 @@ pub mod SharedLaws
 pub mod SlotMeaning
 pub mod SoundLaws
 pub mod TargetLaws
+pub mod Ties
 pub mod VerdictMeaning
 pub mod WriteLaws

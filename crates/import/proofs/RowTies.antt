@@ -1,7 +1,7 @@
 -- The rows that an import keeps, beside the rows of the tables. Assumes nothing.
 use mathlib.Core.Path.{_≡_, refl, ap, sym, _∙_}
 use mathlib.Core.Bool.{Bool, true, false}
-use mathlib.Core.List.{List, [], _∷_, _++_}
+use mathlib.Core.List.{List, [], _∷_}
 use Prim.Native.Nat.{ℕ, zero, suc, _+_, _-_, _≤_, _<_}
 use native.Mathlib.Omega.{arith}
 use native.Mathlib.Nat.{le-of-suc-le-suc, not-suc-le-zero}
@@ -19,7 +19,7 @@ use Rattle.verdicts.proofs.EntryLaws.{rows-before-next, length-rows, row-at}
 use Rattle.digests.specs.Digest.{tableNumber, digestOf}
 use Rattle.digests.proofs.Digested.{Digested, digested}
 use Rattle.import.specs.Rows.{KeptRow, keptOf, keptFrom, keptRows, Stored, Filled, Bytes}
-use Rattle.import.proofs.KeptLaws.{Arrays, noEntry, rowAt}
+use Rattle.import.proofs.KeptLaws.{Arrays, noEntry, rowAt, kindAt}
 
 -- ---- the bytes of lines
 
@@ -87,7 +87,7 @@ from-at n m (suc u) j (table ∷ tables) y (text ∷ texts) d z e h k =
 -- ---- the table of a row
 
 -- one of the first n tables has row i
-pub record InTable (texts : List (List ℕ)) (n i : ℕ) : Type 0 where
+record InTable (texts : List (List ℕ)) (n i : ℕ) : Type 0 where
   pub table : ℕ
   pub below : table < n
   pub low : rowsBefore texts table ≤ i
@@ -112,6 +112,7 @@ pub record RowTie (texts : List (List ℕ)) (i : ℕ) : Type 0 where
   pub kept : (d : KeptRow) → getD (keptRows texts) i d ≡ record { table = table; digest = digestOf (getD carried table Ocp) line }
   pub bytes : (k : ℕ) → getD (line .bytes) k 0 < 256
 
+-- every row is
 pub row-tie : (texts : List (List ℕ)) → Bytes texts → (i : ℕ) → i < length (allRows texts) → RowTie texts i
 unfolding keptRows entryAt place
 row-tie texts b i h =
@@ -167,10 +168,11 @@ pub record Tie (rows : List Entry) (own : List ℕ) (w : Arrays) (i : ℕ) : Typ
   pub digested : Digested (rowAt rows i) (digestOf table line)
   pub stored : StoredAt (record { table = tableNumber table; digest = digestOf table line }) own w i
 
--- every row is so tied to the arrays
+-- each of the rows
 abbrev pub Ties : List Entry → List ℕ → Arrays → Type 0
 Ties rows own w = (i : ℕ) → i < length rows → Tie rows own w i
 
+-- arrays that are filled with the digests of the lines
 pub rows-tied : (texts : List (List ℕ)) (own : List ℕ) (w : Arrays) (d : KeptRow) → Bytes texts → FilledWith texts own w d → Ties (allRows texts) own w
 rows-tied texts own w d b f i h =
     let r = row-tie texts b i h in
@@ -188,3 +190,7 @@ rows-tied texts own w d b f i h =
 -- the first array has the verdicts of reasons 1 to 8
 pub own-tied : (rows : List Entry) (verdicts : List ℕ) (w : Arrays) → Ties rows verdicts w → (i : ℕ) → i < length rows → getD verdicts i 0 ≡ own (rowAt rows i .reading)
 own-tied rows verdicts w ties i h = let t = ties i h in t .stored .own ∙ sym (t .digested .verdict)
+
+-- and another the table of each row
+pub table-tied : (rows : List Entry) (verdicts : List ℕ) (w : Arrays) → Ties rows verdicts w → (i : ℕ) → i < length rows → rowAt rows i .table ≡ kindAt w i
+table-tied rows verdicts w ties i h = let t = ties i h in t .number ∙ sym (t .stored .kind)
