@@ -1,8 +1,7 @@
 -- The passes together: where the arrays have the rows' words, the verdicts are the definition's. Assumes nothing.
-use mathlib.Core.Path.{_≡_, refl, ap, sym, _∙_}
+use mathlib.Core.Path.{_≡_, ap, sym, _∙_}
 use mathlib.Core.List.{List, map}
-use mathlib.Core.Logic.{_⊎_, inl, inr}
-use Prim.Native.Nat.{ℕ, suc, _+_, _≤_, _<_}
+use Prim.Native.Nat.{ℕ, suc, _≤_, _<_}
 use native.Mathlib.Omega.{arith}
 use native.Mathlib.Numerals.{add-one}
 use lib.Dec.{eqb}
@@ -11,14 +10,14 @@ use lib.Seq.{length-sets, ext-getD}
 use Rattle.laws.proofs.Lists.{map-at}
 use Rattle.verdicts.specs.Entries.{Entry, own}
 use Rattle.verdicts.specs.Verdicts.{verdict}
-use Rattle.digests.specs.Namings.{namingKind, metBy}
-use Rattle.import.specs.Model.{flag, tabulate, filled, linkedAt, chainedAt, goodAt, finalOf, soundRows, foundOne, foundTwo, baseRows, cleanRows, wholeRows, linkedRows, chainedRows, goodRows, namedVerdicts, judgedVerdicts}
-use Rattle.import.proofs.KeptLaws.{Arrays, Kept, noEntry, rowAt, kindAt, sound-is}
+use Rattle.digests.specs.Namings.{metBy}
+use Rattle.import.specs.Model.{flag, filled, linkedAt, chainedAt, finalOf, soundRows, foundOne, foundTwo, baseRows, cleanRows, wholeRows, linkedRows, chainedRows, goodRows, namedVerdicts, judgedVerdicts}
+use Rattle.import.proofs.KeptLaws.{Arrays, Kept, noEntry, rowAt, sound-is}
 use Rattle.import.proofs.TargetLaws.{Names, Counts, slotOne, slotTwo}
 use Rattle.import.proofs.CountMeaning.{Marked}
 use Rattle.import.proofs.ChainMeaning.{FoundBy}
 use Rattle.import.proofs.VerdictMeaning.{baseIn, base-is}
-use Rattle.import.proofs.GoodMeaning.{Early, Codes, Says, isGood, final-is, good-is, early-says}
+use Rattle.import.proofs.GoodMeaning.{Early, Codes, Says, final-is, good-is, early-says}
 use Rattle.import.proofs.WriteLaws.{written-at, tabulate-at, tabulate-length}
 
 -- an array filled from the front

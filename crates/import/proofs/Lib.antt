@@ -1,12 +1,16 @@
+pub mod AnswerLaws
 pub mod BaseLaws
 pub mod ChainLaws
 pub mod ChainMeaning
+pub mod CodeTies
 pub mod CountMeaning
 pub mod CountTies
 pub mod FindLaws
 pub mod GoodMeaning
 pub mod IndexLaws
+pub mod JudgeLaws
 pub mod JudgedMeaning
+pub mod Judgement
 pub mod KeepLaws
 pub mod KeptLaws
 pub mod KeyTies
@@ -22,3 +26,4 @@ pub mod TargetLaws
 pub mod Ties
 pub mod VerdictMeaning
 pub mod WriteLaws
+pub mod ZeroLaws
