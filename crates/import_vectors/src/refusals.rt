@@ -1,0 +1,91 @@
+// Refusals 1 to 3, which touch no cell, and imports that leave further cells.
+use crate::show::into_4;
+
+// The first three tables and the last three.
+fn ends<'a>(
+    name: &[u8],
+    none: &'a [u8],
+    pid: &'a [u8],
+    pic: &'a [u8],
+    plf: &'a [u8],
+    txp: &'a [u8],
+    ocf: &'a [u8],
+    ocp: &'a [u8],
+) {
+    into_4(name, [pid, pic, plf, none, none, none, none, txp, ocf, ocp]);
+}
+
+fn curve<'a>(name: &[u8], none: &'a [u8], caf: &'a [u8], cap: &'a [u8]) {
+    into_4(
+        name,
+        [none, none, none, none, caf, cap, none, none, none, none],
+    );
+}
+
+fn too_many_rows() {
+    let many = [b'\n'; 1025];
+    ends(b"pic of 1025 rows", b"", b"", &many, b"", b"", b"", b"");
+    ends(
+        b"plf and txp of 1025 rows",
+        b"",
+        b"",
+        b"",
+        &many,
+        &many,
+        b"",
+        b"",
+    );
+}
+
+// 01: "The least number decides"
+fn too_long() {
+    let many = [b'\n'; 1025];
+    let long = [b'A'; 65537];
+    ends(b"ocp of 65537 bytes", b"", b"", b"", b"", b"", b"", &long);
+    ends(
+        b"pid of 1025 rows and ocp of 65537 bytes",
+        b"",
+        &many,
+        b"",
+        b"",
+        b"",
+        b"",
+        &long,
+    );
+}
+
+fn at_the_most() {
+    let many = [b'\n'; 1024];
+    let long = [b'A'; 65536];
+    curve(b"caf of 65536 bytes", b"", &long, b"");
+    curve(b"cap of 1024 rows into 4 cells", b"", b"", &many);
+}
+
+fn cells_left() {
+    curve(b"no rows into 4 cells", b"", b"", b"");
+    curve(
+        b"three rows into 4 cells",
+        b"",
+        b"C1\t\tI\tU\t\t\t3\t\n",
+        b"C1\t0\t0\nC1\t10\t-5\n",
+    );
+    curve(
+        b"four rows into 4 cells",
+        b"",
+        b"C1\t\tI\tU\t\t\t2\t\n",
+        b"C1\t0\t0\nC1\t10\t-5\nC1\t20\t100\n",
+    );
+    curve(
+        b"five rows into 4 cells",
+        b"",
+        b"C1\t\tI\tU\t\t\t4\t\n",
+        b"C1\t0\t0\nC1\t10\t-5\nC1\t20\t100\nC1\t30\t0\n",
+    );
+}
+
+pub(crate) fn all() {
+    too_many_rows();
+    too_long();
+    at_the_most();
+    cells_left();
+}
