@@ -2,6 +2,7 @@
 mod at;
 mod contradictions;
 mod decode;
+pub mod decoded;
 pub mod letters;
 pub mod read;
 pub mod records;
