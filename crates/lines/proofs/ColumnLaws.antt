@@ -141,9 +141,11 @@ module _ (line : List ℕ) (c : Columns) (a i : ℕ) (w : Walk line c a i) where
   }
 
   -- where the line ends, its last column does
-  pub walk-end : length line ≤ i → withColumn c a i ≡ divided line
+  pub walk-end : length line ≤ i → withColumn c a (length line) ≡ divided line
   unfolding columnsFrom placesFrom storeAll
-  walk-end h = rw (drop-of-length-le line h, ends-at) at (w .left)
+  walk-end h =
+      let n : i ≡ length line = omega arith in
+      rw (drop-of-length-le line h, ends-at, n) at (w .left)
 
 -- What stands at the places
 

@@ -1,7 +1,7 @@
 // The columns of a line, divided in one walk.
 ghost use mathlib.Core.Path.{_≡_};
-ghost use Prim.Native.Nat.{_<_, _^_};
-ghost use Rattle.lines.specs.Columns.{divided, withColumn, partOf, columnIn};
+ghost use lib.ListN.{set};
+ghost use Rattle.lines.specs.Columns.{divided, partOf, columnIn};
 
 // No table has more columns than this.
 pub const MOST_COLUMNS: usize = 24;
@@ -15,42 +15,42 @@ pub struct Columns {
     pub count: usize,
 }
 
-// One more column: it is counted, and its place is kept where there is room.
-fn with_column(c: Columns, start: usize, end: usize) -> Columns
-    requires { ⌜ c .count < 2 ^ 63 ⌝ }
-    ensures { λ r. ⌜ r ≡ withColumn c start end ⌝ }
+// Keeps a number at place k, where there is room.
+fn keep_at(numbers: &mut [usize], k: usize, number: usize)
+    ensures { λ r. ⌜ now (numbers .exit) ≡ set (now (numbers .entry)) k number ⌝ }
 {
-    let mut d = c;
-    let n = d.count;
-    d.count = n + 1;
-    if n < MOST_COLUMNS {
-        d.starts[n] = start;
-        d.ends[n] = end;
+    if k < numbers.len() {
+        numbers[k] = number;
     }
-    d
 }
 
 // The places of a line's columns.
 pub fn divide(line: &[u8]) -> Columns
     ensures { λ r. ⌜ r ≡ divided (now (line .entry)) ⌝ }
 {
-    let mut c = Columns {
-        starts: [0; MOST_COLUMNS],
-        ends: [0; MOST_COLUMNS],
-        count: 0,
-    };
+    let mut starts: [usize; MOST_COLUMNS] = [0; MOST_COLUMNS];
+    let mut ends: [usize; MOST_COLUMNS] = [0; MOST_COLUMNS];
+    let mut count: usize = 0;
     let mut start: usize = 0;
     let mut i: usize = 0;
     while i < line.len() {
         if line[i] == TAB {
-            c = with_column(c, start, i);
+            keep_at(&mut starts, count, start);
+            keep_at(&mut ends, count, i);
+            count += 1;
             i += 1;
             start = i;
         } else {
             i += 1;
         }
     }
-    with_column(c, start, i)
+    keep_at(&mut starts, count, start);
+    keep_at(&mut ends, count, line.len());
+    Columns {
+        starts,
+        ends,
+        count: count + 1,
+    }
 }
 
 // The bytes of a line from `start` to before `end`, as far as the line has them.

@@ -8,8 +8,8 @@ mod tables;
 use bytes::has_foreign;
 use column::column_reason;
 use lines::columns::Columns;
-use lines::columns::column;
 use lines::columns::divide;
+use lines::columns::part;
 use tables::CAF_KIND;
 use tables::CAF_MANDATORY;
 use tables::CAF_WIDTH;
@@ -79,8 +79,9 @@ fn columns_verdict(line: &[u8], columns: Columns, widths: &[u8], marks: &[u8], k
 {
     let mut k: usize = 0;
     while k < widths.len() {
-        let text = column(line, columns, k);
-        let reason = column_reason(text, widths[k], marks[k], kinds[k]);
+        let start = columns.starts[k];
+        let end = columns.ends[k];
+        let reason = column_reason(part(line, start, end), widths[k], marks[k], kinds[k]);
         if reason != 0 {
             return reason * 256 + (k as u16) + 1;
         }

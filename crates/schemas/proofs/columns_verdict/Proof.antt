@@ -10,14 +10,15 @@ use Rattle.schemas.specs.Reasons.{columnReason}
 use Rattle.schemas.specs.Constants.{schemaFrom, columnFrom}
 use Rattle.schemas.proofs.ReasonLaws.{reason-small}
 use Rattle.schemas.proofs.ShapeLaws.{Checking, checking-start, checking-end, checking-stop, checking-more}
+use borrow.Author.Needs.{needs}
 use Rattle.schemas.proofs.columns_verdict.Statement.{statement}
 use Rattle.schemas.proofs.columns_verdict.Tie as tie
 
 abbrev Inv-loop : tie.InvT-loop
-Inv-loop line columns widths marks kinds k₀ k = Checking (schemaFrom widths marks kinds) (columnsOf line) k
+Inv-loop line widths marks kinds columns k₀ k = Checking (schemaFrom widths marks kinds) (columnsOf line) k
 
 abbrev μ-loop : tie.MeasureT-loop
-μ-loop line columns widths marks kinds k₀ k = length widths - k
+μ-loop line widths marks kinds columns k₀ k = length widths - k
 
 -- a turn, its start, and what its calls told
 abbrev Turn : Type 0
@@ -33,7 +34,7 @@ abbrev start : Turn → Start
 start t = t .before .before .before .before .before .before
 
 abbrev turn : Told → Turn
-turn c = c .before .before .before .before .before
+turn c = c .before .before .before .before .before .before .before
 
 full : (s : Start) → length (columnsOf (s .args .line .now)) ≡ length (s .args .widths .now)
 full s = sym (count-is _ _ (s .pre .0 .0)) ∙ s .pre .0 .1
@@ -43,7 +44,7 @@ is : (c : Told)
 is c =
     let t = turn c in
     let s = start t in
-    c .column-reason .ensures ∙ ap (columnReason _) (c .before .before .before .before .column .ensures ∙ column-is (s .args .line .now) (s .args .columns) (t .before .loop .k) (s .pre .0 .0) (omega arith))
+    c .column-reason .ensures ∙ ap (columnReason _) (c .before .before .before .before .part .ensures ∙ column-is (s .args .line .now) (s .args .t2) (t .before .loop .k) (s .pre .0 .0) (omega arith))
 
 small : (c : Told) → c .column-reason .result ≤ 7
 small c = rw (c .column-reason .ensures) (reason-small _ _)
@@ -51,8 +52,20 @@ small c = rw (c .column-reason .ensures) (reason-small _ _)
 loop-holds : tie.Need-loop-holds Inv-loop μ-loop
 loop-holds c = checking-start _ _
 
-column-requires : tie.Need-column-requires Inv-loop μ-loop
-column-requires c κs = tt
+mul-start : tie.Need-mul-start Inv-loop μ-loop
+mul-start c = search needs
+
+element-copy-out-start : tie.Need-element-copy-out-start Inv-loop μ-loop
+element-copy-out-start c = search needs
+
+mul-end : tie.Need-mul-end Inv-loop μ-loop
+mul-end c = search needs
+
+element-copy-out-end : tie.Need-element-copy-out-end Inv-loop μ-loop
+element-copy-out-end c = search needs
+
+part-requires : tie.Need-part-requires Inv-loop μ-loop
+part-requires c κs = tt
 
 shared-slice-read-column-reason : tie.Need-shared-slice-read-column-reason Inv-loop μ-loop
 shared-slice-read-column-reason c = omega arith
@@ -105,7 +118,11 @@ columns-verdict-spec =
     Inv-loop
     μ-loop
     loop-holds
-    column-requires
+    mul-start
+    element-copy-out-start
+    mul-end
+    element-copy-out-end
+    part-requires
     shared-slice-read-column-reason
     shared-slice-read-column-reason-2
     shared-slice-read-column-reason-3
