@@ -1,4 +1,3 @@
 pub mod Meaning
-pub mod RangeLaws
 pub mod ReasonLaws
 pub mod ShapeLaws

@@ -9,7 +9,7 @@ ghost use Rattle.numbers.specs.Number.{numberOf};
 ghost use Rattle.schemas.specs.Reasons.{numberReason};
 ghost use Rattle.schemas.specs.Constants.{lowests, highests};
 
-// The kinds of columns of a number, by their range, and the ends of these.
+// The kinds of columns of a number, by their range.
 pub(crate) const TO_255: u8 = 1;
 
 pub(crate) const TO_65535: u8 = 2;
@@ -46,50 +46,6 @@ pub(crate) const FROM_1_TO_99: u8 = 17;
 
 pub(crate) const FROM_1_TO_16: u8 = 18;
 
-const LOWESTS: [i64; 19] = [
-    0,
-    0,
-    0,
-    0,
-    1,
-    -1,
-    0,
-    0,
-    0,
-    1,
-    0,
-    0,
-    -9999,
-    2,
-    -1073741824,
-    1,
-    -2147483648,
-    1,
-    1,
-];
-
-const HIGHESTS: [i64; 19] = [
-    0,
-    255,
-    65535,
-    2147483647,
-    4294967295,
-    8191,
-    32,
-    8191,
-    7,
-    9999,
-    32767,
-    99,
-    65535,
-    100,
-    1073741823,
-    999,
-    4294967295,
-    99,
-    16,
-];
-
 // Why a column of a number from `lowest` to `highest` is refused: 6, 7, or 0.
 fn range_reason(text: &[u8], lowest: i64, highest: i64) -> u16
     requires { ⌜ (natAbs lowest < 2 ^ 60) × (natAbs highest < 2 ^ 60) ⌝ }
@@ -110,11 +66,30 @@ fn range_reason(text: &[u8], lowest: i64, highest: i64) -> u16
     }
 }
 
-// The same by the number of the column's kind.
+// The same by the kind of the column. Each range stands in the code: an array of them would be made anew for each number.
 pub(crate) fn number_reason(text: &[u8], kind: u8) -> u16
     requires { ⌜ kind < 19 ⌝ }
     ensures { λ r. ⌜ r ≡ numberReason (getD lowests kind (pos 0)) (getD highests kind (pos 0)) (numberOf (now (text .entry))) ⌝ }
 {
-    let k = kind as usize;
-    range_reason(text, LOWESTS[k], HIGHESTS[k])
+    match kind {
+        TO_255 => range_reason(text, 0, 255),
+        TO_65535 => range_reason(text, 0, 65535),
+        TO_2147483647 => range_reason(text, 0, 2147483647),
+        SPID => range_reason(text, 1, 4294967295),
+        OFFSET_OR_UNUSED => range_reason(text, -1, 8191),
+        TO_32 => range_reason(text, 0, 32),
+        TO_8191 => range_reason(text, 0, 8191),
+        TO_7 => range_reason(text, 0, 7),
+        FROM_1_TO_9999 => range_reason(text, 1, 9999),
+        TO_32767 => range_reason(text, 0, 32767),
+        TO_99 => range_reason(text, 0, 99),
+        VALIDITY_VALUE => range_reason(text, -9999, 65535),
+        FROM_2_TO_100 => range_reason(text, 2, 100),
+        COORDINATE => range_reason(text, -1073741824, 1073741823),
+        FROM_1_TO_999 => range_reason(text, 1, 999),
+        RAW_VALUE => range_reason(text, -2147483648, 4294967295),
+        FROM_1_TO_99 => range_reason(text, 1, 99),
+        FROM_1_TO_16 => range_reason(text, 1, 16),
+        _ => range_reason(text, 0, 0),
+    }
 }

@@ -1,40 +1,192 @@
--- The constants are the definition's ends of each range, and small, by one computed test of each list.
-use mathlib.Core.Path.{_∙_}
+-- Each kind's range is the definition's; the kind left over is 0, whose range is 0 alone.
+use Prim.Native.Nat.{ℕ, _+_, _<_}
+use mathlib.Core.Path.{_≡_}
+use native.Mathlib.Omega.{arith}
 use Rattle.schemas.specs.Constants.{lowests, highests}
-use Rattle.schemas.proofs.RangeLaws.{allSmall, small-at, word-at}
 use borrow.Author.Needs.{needs}
 use Rattle.schemas.proofs.ranges.number_reason.Statement.{statement}
 use Rattle.schemas.proofs.ranges.number_reason.Tie as tie
 
-mul-range-reason : tie.Need-mul-range-reason
-mul-range-reason c = search needs
-
-array-copy-out-range-reason : tie.Need-array-copy-out-range-reason
-array-copy-out-range-reason c = search needs
-
-mul-range-reason-2 : tie.Need-mul-range-reason-2
-mul-range-reason-2 c = search needs
-
-array-copy-out-range-reason-2 : tie.Need-array-copy-out-range-reason-2
-array-copy-out-range-reason-2 c = search needs
-
 range-reason-requires : tie.Need-range-reason-requires
-unfolding lowests highests allSmall
-range-reason-requires c κs = let k = c .before .before .before .args .kind in
-    (rw (word-at lowests tt k) (small-at lowests tt k), rw (word-at highests tt k) (small-at highests tt k))
+range-reason-requires c κs = search needs
+
+range-reason-requires-2 : tie.Need-range-reason-requires-2
+range-reason-requires-2 c κs = search needs
+
+range-reason-requires-3 : tie.Need-range-reason-requires-3
+range-reason-requires-3 c κs = search needs
+
+range-reason-requires-4 : tie.Need-range-reason-requires-4
+range-reason-requires-4 c κs = search needs
+
+range-reason-requires-5 : tie.Need-range-reason-requires-5
+range-reason-requires-5 c κs = search needs
+
+range-reason-requires-6 : tie.Need-range-reason-requires-6
+range-reason-requires-6 c κs = search needs
+
+range-reason-requires-7 : tie.Need-range-reason-requires-7
+range-reason-requires-7 c κs = search needs
+
+range-reason-requires-8 : tie.Need-range-reason-requires-8
+range-reason-requires-8 c κs = search needs
+
+range-reason-requires-9 : tie.Need-range-reason-requires-9
+range-reason-requires-9 c κs = search needs
+
+range-reason-requires-10 : tie.Need-range-reason-requires-10
+range-reason-requires-10 c κs = search needs
+
+range-reason-requires-11 : tie.Need-range-reason-requires-11
+range-reason-requires-11 c κs = search needs
+
+range-reason-requires-12 : tie.Need-range-reason-requires-12
+range-reason-requires-12 c κs = search needs
+
+range-reason-requires-13 : tie.Need-range-reason-requires-13
+range-reason-requires-13 c κs = search needs
+
+range-reason-requires-14 : tie.Need-range-reason-requires-14
+range-reason-requires-14 c κs = search needs
+
+range-reason-requires-15 : tie.Need-range-reason-requires-15
+range-reason-requires-15 c κs = search needs
+
+range-reason-requires-16 : tie.Need-range-reason-requires-16
+range-reason-requires-16 c κs = search needs
+
+range-reason-requires-17 : tie.Need-range-reason-requires-17
+range-reason-requires-17 c κs = search needs
+
+range-reason-requires-18 : tie.Need-range-reason-requires-18
+range-reason-requires-18 c κs = search needs
+
+range-reason-requires-19 : tie.Need-range-reason-requires-19
+range-reason-requires-19 c κs = search needs
 
 returns : tie.Need-returns
-unfolding lowests highests allSmall
-returns c = let k = c .before .before .before .before .args .kind in
-    c .range-reason .ensures ∙ rw (word-at lowests tt k, word-at highests tt k)
+unfolding lowests highests
+returns c = let e : c .before .before .before .args .kind ≡ 1 = omega arith in rw e (c .range-reason .ensures)
+
+returns-2 : tie.Need-returns-2
+unfolding lowests highests
+returns-2 c = let e : c .before .before .before .args .kind ≡ 2 = omega arith in rw e (c .range-reason2 .ensures)
+
+returns-3 : tie.Need-returns-3
+unfolding lowests highests
+returns-3 c = let e : c .before .before .before .args .kind ≡ 3 = omega arith in rw e (c .range-reason3 .ensures)
+
+returns-4 : tie.Need-returns-4
+unfolding lowests highests
+returns-4 c = let e : c .before .before .before .args .kind ≡ 4 = omega arith in rw e (c .range-reason4 .ensures)
+
+returns-5 : tie.Need-returns-5
+unfolding lowests highests
+returns-5 c = let e : c .before .before .before .args .kind ≡ 5 = omega arith in rw e (c .range-reason5 .ensures)
+
+returns-6 : tie.Need-returns-6
+unfolding lowests highests
+returns-6 c = let e : c .before .before .before .args .kind ≡ 6 = omega arith in rw e (c .range-reason6 .ensures)
+
+returns-7 : tie.Need-returns-7
+unfolding lowests highests
+returns-7 c = let e : c .before .before .before .args .kind ≡ 7 = omega arith in rw e (c .range-reason7 .ensures)
+
+returns-8 : tie.Need-returns-8
+unfolding lowests highests
+returns-8 c = let e : c .before .before .before .args .kind ≡ 8 = omega arith in rw e (c .range-reason8 .ensures)
+
+returns-9 : tie.Need-returns-9
+unfolding lowests highests
+returns-9 c = let e : c .before .before .before .args .kind ≡ 9 = omega arith in rw e (c .range-reason9 .ensures)
+
+returns-10 : tie.Need-returns-10
+unfolding lowests highests
+returns-10 c = let e : c .before .before .before .args .kind ≡ 10 = omega arith in rw e (c .range-reason10 .ensures)
+
+returns-11 : tie.Need-returns-11
+unfolding lowests highests
+returns-11 c = let e : c .before .before .before .args .kind ≡ 11 = omega arith in rw e (c .range-reason11 .ensures)
+
+returns-12 : tie.Need-returns-12
+unfolding lowests highests
+returns-12 c = let e : c .before .before .before .args .kind ≡ 12 = omega arith in rw e (c .range-reason12 .ensures)
+
+returns-13 : tie.Need-returns-13
+unfolding lowests highests
+returns-13 c = let e : c .before .before .before .args .kind ≡ 13 = omega arith in rw e (c .range-reason13 .ensures)
+
+returns-14 : tie.Need-returns-14
+unfolding lowests highests
+returns-14 c = let e : c .before .before .before .args .kind ≡ 14 = omega arith in rw e (c .range-reason14 .ensures)
+
+returns-15 : tie.Need-returns-15
+unfolding lowests highests
+returns-15 c = let e : c .before .before .before .args .kind ≡ 15 = omega arith in rw e (c .range-reason15 .ensures)
+
+returns-16 : tie.Need-returns-16
+unfolding lowests highests
+returns-16 c = let e : c .before .before .before .args .kind ≡ 16 = omega arith in rw e (c .range-reason16 .ensures)
+
+returns-17 : tie.Need-returns-17
+unfolding lowests highests
+returns-17 c = let e : c .before .before .before .args .kind ≡ 17 = omega arith in rw e (c .range-reason17 .ensures)
+
+returns-18 : tie.Need-returns-18
+unfolding lowests highests
+returns-18 c = let e : c .before .before .before .args .kind ≡ 18 = omega arith in rw e (c .range-reason18 .ensures)
+
+below : {k : ℕ} (n : ℕ) → k < n + 1 → (k ≡ n → ⊥) → k < n
+below n h e = omega arith
+
+first : {k : ℕ} → k < 1 → k ≡ 0
+first h = omega arith
+
+returns-19 : tie.Need-returns-19
+unfolding lowests highests
+returns-19 c = let s = c .before .before .before in
+    let r = c .before .match .rest in
+    rw (first (below 1 (below 2 (below 3 (below 4 (below 5 (below 6 (below 7 (below 8 (below 9 (below 10 (below 11 (below 12 (below 13 (below 14 (below 15 (below 16 (below 17 (below 18 (s .pre) (r .1)) (r .0 .1)) (r .0 .0 .1)) (r .0 .0 .0 .1)) (r .0 .0 .0 .0 .1)) (r .0 .0 .0 .0 .0 .1)) (r .0 .0 .0 .0 .0 .0 .1)) (r .0 .0 .0 .0 .0 .0 .0 .1)) (r .0 .0 .0 .0 .0 .0 .0 .0 .1)) (r .0 .0 .0 .0 .0 .0 .0 .0 .0 .1)) (r .0 .0 .0 .0 .0 .0 .0 .0 .0 .0 .1)) (r .0 .0 .0 .0 .0 .0 .0 .0 .0 .0 .0 .1)) (r .0 .0 .0 .0 .0 .0 .0 .0 .0 .0 .0 .0 .1)) (r .0 .0 .0 .0 .0 .0 .0 .0 .0 .0 .0 .0 .0 .1)) (r .0 .0 .0 .0 .0 .0 .0 .0 .0 .0 .0 .0 .0 .0 .1)) (r .0 .0 .0 .0 .0 .0 .0 .0 .0 .0 .0 .0 .0 .0 .0 .1)) (r .0 .0 .0 .0 .0 .0 .0 .0 .0 .0 .0 .0 .0 .0 .0 .0 .1)) (r .0 .0 .0 .0 .0 .0 .0 .0 .0 .0 .0 .0 .0 .0 .0 .0 .0 .1))) (c .range-reason19 .ensures)
 
 pub number-reason-spec : {M : Type 1} → statement M
 number-reason-spec =
     tie.close
     (tie.spec
-    mul-range-reason
-    array-copy-out-range-reason
-    mul-range-reason-2
-    array-copy-out-range-reason-2
     range-reason-requires
-    returns)
+    range-reason-requires-2
+    range-reason-requires-3
+    range-reason-requires-4
+    range-reason-requires-5
+    range-reason-requires-6
+    range-reason-requires-7
+    range-reason-requires-8
+    range-reason-requires-9
+    range-reason-requires-10
+    range-reason-requires-11
+    range-reason-requires-12
+    range-reason-requires-13
+    range-reason-requires-14
+    range-reason-requires-15
+    range-reason-requires-16
+    range-reason-requires-17
+    range-reason-requires-18
+    range-reason-requires-19
+    returns
+    returns-2
+    returns-3
+    returns-4
+    returns-5
+    returns-6
+    returns-7
+    returns-8
+    returns-9
+    returns-10
+    returns-11
+    returns-12
+    returns-13
+    returns-14
+    returns-15
+    returns-16
+    returns-17
+    returns-18
+    returns-19)
