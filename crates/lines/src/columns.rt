@@ -16,7 +16,7 @@ pub struct Columns {
 }
 
 // Keeps a number at place k, where there is room.
-fn keep_at(numbers: &mut [usize], k: usize, number: usize)
+pub fn keep_at(numbers: &mut [usize], k: usize, number: usize)
     ensures { λ r. ⌜ now (numbers .exit) ≡ set (now (numbers .entry)) k number ⌝ }
 {
     if k < numbers.len() {

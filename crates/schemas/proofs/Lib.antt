@@ -1,3 +1,4 @@
+pub mod ForeignLaws
 pub mod Meaning
 pub mod ReasonLaws
 pub mod ShapeLaws

@@ -12,6 +12,7 @@ use Rattle.laws.specs.Lists.{any}
 use Rattle.numbers.specs.Number.{numberOf, meaning, spelt, after, digitOn, digitOf}
 use Rattle.lines.specs.Lines.{Line}
 use Rattle.lines.specs.Columns.{columnsOf, columnsFrom, divided, tab}
+use Rattle.lines.specs.declared.columns.Columns.{Columns}
 use Rattle.schemas.specs.Schema.{Kind, anyText, aNumber, aLetter, Column}
 use Rattle.schemas.specs.Tables.{schema, cap}
 use Rattle.schemas.specs.declared.Table.the-variants.{Cap}
@@ -77,6 +78,10 @@ shape columns line =
 
 abbrev pub lineOf : List ℕ → Bool → Line
 lineOf bytes ended = record { bytes = bytes; ended = ended }
+
+-- the places of columns kept as two lists, and the number of columns
+abbrev pub placed : List ℕ → List ℕ → ℕ → Columns
+placed starts ends count = record { starts = starts; ends = ends; count = count }
 
 -- the verdict, and the places of the columns, divided once
 unfoldable pub checkedBy : List Column → Line → Checked

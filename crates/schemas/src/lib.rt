@@ -5,10 +5,11 @@ mod letters;
 mod ranges;
 mod tables;
 
-use bytes::has_foreign;
+use bytes::is_allowed;
 use column::column_reason;
 use lines::columns::Columns;
-use lines::columns::divide;
+use lines::columns::MOST_COLUMNS;
+use lines::columns::keep_at;
 use lines::columns::part;
 use tables::CAF_KIND;
 use tables::CAF_MANDATORY;
@@ -45,7 +46,7 @@ ghost use Prim.Native.Nat.{_≤_};
 ghost use lib.ListN.{length};
 ghost use Rattle.lines.specs.Columns.{columnsOf, divided};
 ghost use Rattle.schemas.specs.Tables.{schema};
-ghost use Rattle.schemas.specs.Reasons.{firstReason, shape, lineOf, checkedBy};
+ghost use Rattle.schemas.specs.Reasons.{firstReason, foreignIn, shape, lineOf, placed, checkedBy};
 ghost use Rattle.schemas.specs.Constants.{schemaFrom};
 
 // The tables that the rack carries, in their order.
@@ -72,16 +73,27 @@ pub struct Checked {
 }
 
 // The first reason of the columns, with its column, or 0.
-fn columns_verdict(line: &[u8], columns: Columns, widths: &[u8], marks: &[u8], kinds: &[u8]) -> u16
-    requires { ⌜ (columns ≡ divided (now line)) × (columns .count ≡ length (now widths)) ⌝ }
+fn columns_verdict(
+    line: &[u8],
+    starts: &[usize],
+    ends: &[usize],
+    widths: &[u8],
+    marks: &[u8],
+    kinds: &[u8],
+) -> u16
+    requires { ⌜ placed (now starts) (now ends) (length (now widths)) ≡ divided (now line) ⌝ }
+    requires { ⌜ (length (now starts) ≡ 24) × (length (now ends) ≡ 24) ⌝ }
     requires { ⌜ (length (now widths) ≤ 24) × (length (now marks) ≡ length (now widths)) × (length (now kinds) ≡ length (now widths)) ⌝ }
     ensures { λ r. ⌜ r ≡ firstReason 1 (schemaFrom (now (widths .entry)) (now (marks .entry)) (now (kinds .entry))) (columnsOf (now (line .entry))) ⌝ }
 {
     let mut k: usize = 0;
     while k < widths.len() {
-        let start = columns.starts[k];
-        let end = columns.ends[k];
-        let reason = column_reason(part(line, start, end), widths[k], marks[k], kinds[k]);
+        let reason = column_reason(
+            part(line, starts[k], ends[k]),
+            widths[k],
+            marks[k],
+            kinds[k],
+        );
         if reason != 0 {
             return reason * 256 + (k as u16) + 1;
         }
@@ -94,12 +106,16 @@ fn columns_verdict(line: &[u8], columns: Columns, widths: &[u8], marks: &[u8], k
 fn row_verdict(
     line: &[u8],
     ended: bool,
-    columns: Columns,
+    foreign: bool,
+    count: usize,
+    starts: &[usize],
+    ends: &[usize],
     widths: &[u8],
     marks: &[u8],
     kinds: &[u8],
 ) -> u16
-    requires { ⌜ columns ≡ divided (now line) ⌝ }
+    requires { ⌜ (placed (now starts) (now ends) count ≡ divided (now line)) × (foreign ≡ foreignIn (now line)) ⌝ }
+    requires { ⌜ (length (now starts) ≡ 24) × (length (now ends) ≡ 24) ⌝ }
     requires { ⌜ (length (now widths) ≤ 24) × (length (now marks) ≡ length (now widths)) × (length (now kinds) ≡ length (now widths)) ⌝ }
     ensures { λ r. ⌜ r ≡ shape (schemaFrom (now (widths .entry)) (now (marks .entry)) (now (kinds .entry))) (lineOf (now (line .entry)) ended) ⌝ }
 {
@@ -107,25 +123,63 @@ fn row_verdict(
         if LONGEST_ROW < line.len() {
             return 256;
         }
-        if has_foreign(line) {
+        if foreign {
             return 512;
         }
-        if columns.count == widths.len() {
-            return columns_verdict(line, columns, widths, marks, kinds);
+        if count == widths.len() {
+            return columns_verdict(line, starts, ends, widths, marks, kinds);
         }
         return 768;
     }
     256
 }
 
+// One walk divides the row, as `divide` does, and looks for a byte that may not stand in it.
 fn check_row(line: &[u8], ended: bool, widths: &[u8], marks: &[u8], kinds: &[u8]) -> Checked
     requires { ⌜ (length (now widths) ≤ 24) × (length (now marks) ≡ length (now widths)) × (length (now kinds) ≡ length (now widths)) ⌝ }
     ensures { λ r. ⌜ r ≡ checkedBy (schemaFrom (now (widths .entry)) (now (marks .entry)) (now (kinds .entry))) (lineOf (now (line .entry)) ended) ⌝ }
 {
-    let columns = divide(line);
+    let mut starts: [usize; MOST_COLUMNS] = [0; MOST_COLUMNS];
+    let mut ends: [usize; MOST_COLUMNS] = [0; MOST_COLUMNS];
+    let mut count: usize = 0;
+    let mut start: usize = 0;
+    let mut foreign = false;
+    let mut i: usize = 0;
+    while i < line.len() {
+        let b = line[i];
+        if b == b'\t' {
+            keep_at(&mut starts, count, start);
+            keep_at(&mut ends, count, i);
+            count += 1;
+            i += 1;
+            start = i;
+        } else if is_allowed(b) {
+            i += 1;
+        } else {
+            foreign = true;
+            i += 1;
+        }
+    }
+    keep_at(&mut starts, count, start);
+    keep_at(&mut ends, count, line.len());
+    count += 1;
     Checked {
-        verdict: row_verdict(line, ended, columns, widths, marks, kinds),
-        columns,
+        verdict: row_verdict(
+            line,
+            ended,
+            foreign,
+            count,
+            &starts,
+            &ends,
+            widths,
+            marks,
+            kinds,
+        ),
+        columns: Columns {
+            starts,
+            ends,
+            count,
+        },
     }
 }
 

@@ -15,10 +15,10 @@ use Rattle.schemas.proofs.columns_verdict.Statement.{statement}
 use Rattle.schemas.proofs.columns_verdict.Tie as tie
 
 abbrev Inv-loop : tie.InvT-loop
-Inv-loop line widths marks kinds columns k₀ k = Checking (schemaFrom widths marks kinds) (columnsOf line) k
+Inv-loop line starts ends widths marks kinds k₀ k = Checking (schemaFrom widths marks kinds) (columnsOf line) k
 
 abbrev μ-loop : tie.MeasureT-loop
-μ-loop line widths marks kinds columns k₀ k = length widths - k
+μ-loop line starts ends widths marks kinds k₀ k = length widths - k
 
 -- a turn, its start, and what its calls told
 abbrev Turn : Type 0
@@ -31,20 +31,20 @@ abbrev Start : Type 0
 Start = tie.Start Inv-loop μ-loop
 
 abbrev start : Turn → Start
-start t = t .before .before .before .before .before .before
+start t = t .before .before .before .before .before .before .before .before
 
 abbrev turn : Told → Turn
 turn c = c .before .before .before .before .before .before .before
 
 full : (s : Start) → length (columnsOf (s .args .line .now)) ≡ length (s .args .widths .now)
-full s = sym (count-is _ _ (s .pre .0 .0)) ∙ s .pre .0 .1
+full s = sym (count-is _ _ (s .pre .0))
 
 is : (c : Told)
     → (let t = turn c in let a = start t .args in let k = t .before .loop .k in c .column-reason .result ≡ columnReason (columnFrom (getD (a .widths .now) k 0) (getD (a .marks .now) k 0) (getD (a .kinds .now) k 0)) (getD (columnsOf (a .line .now)) k []))
 is c =
     let t = turn c in
     let s = start t in
-    c .column-reason .ensures ∙ ap (columnReason _) (c .before .before .before .before .part .ensures ∙ column-is (s .args .line .now) (s .args .t2) (t .before .loop .k) (s .pre .0 .0) (omega arith))
+    c .column-reason .ensures ∙ ap (columnReason _) (c .before .before .before .before .part .ensures ∙ column-is (s .args .line .now) _ (t .before .loop .k) (s .pre .0) (omega arith))
 
 small : (c : Told) → c .column-reason .result ≤ 7
 small c = rw (c .column-reason .ensures) (reason-small _ _)
@@ -52,17 +52,17 @@ small c = rw (c .column-reason .ensures) (reason-small _ _)
 loop-holds : tie.Need-loop-holds Inv-loop μ-loop
 loop-holds c = checking-start _ _
 
-mul-start : tie.Need-mul-start Inv-loop μ-loop
-mul-start c = search needs
+mul-part : tie.Need-mul-part Inv-loop μ-loop
+mul-part c = search needs
 
-element-copy-out-start : tie.Need-element-copy-out-start Inv-loop μ-loop
-element-copy-out-start c = search needs
+shared-slice-read-part : tie.Need-shared-slice-read-part Inv-loop μ-loop
+shared-slice-read-part c = search needs
 
-mul-end : tie.Need-mul-end Inv-loop μ-loop
-mul-end c = search needs
+mul-part-2 : tie.Need-mul-part-2 Inv-loop μ-loop
+mul-part-2 c = search needs
 
-element-copy-out-end : tie.Need-element-copy-out-end Inv-loop μ-loop
-element-copy-out-end c = search needs
+shared-slice-read-part-2 : tie.Need-shared-slice-read-part-2 Inv-loop μ-loop
+shared-slice-read-part-2 c = search needs
 
 part-requires : tie.Need-part-requires Inv-loop μ-loop
 part-requires c κs = tt
@@ -94,7 +94,7 @@ add-result-2 c = omega (arith, small (c .before))
 returns : tie.Need-returns Inv-loop μ-loop
 returns c = let t = turn (c .before) in
     let s = start t in
-    checking-stop _ _ _ (s .pre .1 .1) (s .pre .1 .2) _ (full s) _ (t .before .loop .inv) (t .loop-test .taken) _ (is (c .before)) (c .if1 .taken)
+    checking-stop _ _ _ (s .pre .1 .1 .1) (s .pre .1 .1 .2) _ (full s) _ (t .before .loop .inv) (t .loop-test .taken) _ (is (c .before)) (c .if1 .taken)
 
 add-k : tie.Need-add-k Inv-loop μ-loop
 add-k c = omega arith
@@ -105,11 +105,11 @@ loop-less c = omega arith
 loop-again : tie.Need-loop-again Inv-loop μ-loop
 loop-again c = let t = turn (c .before) in
     let s = start t in
-    checking-more _ _ _ (s .pre .1 .1) (s .pre .1 .2) _ (full s) _ (t .before .loop .inv) (t .loop-test .taken) _ (is (c .before)) (c .if1 .left)
+    checking-more _ _ _ (s .pre .1 .1 .1) (s .pre .1 .1 .2) _ (full s) _ (t .before .loop .inv) (t .loop-test .taken) _ (is (c .before)) (c .if1 .left)
 
 returns-2 : tie.Need-returns-2 Inv-loop μ-loop
-returns-2 c = let s = c .before .before .before .before .before .before in
-    checking-end _ _ _ (s .pre .1 .1) (s .pre .1 .2) _ (full s) _ (c .before .loop .inv) (c .loop-test .left)
+returns-2 c = let s = c .before .before .before .before .before .before .before .before in
+    checking-end _ _ _ (s .pre .1 .1 .1) (s .pre .1 .1 .2) _ (full s) _ (c .before .loop .inv) (c .loop-test .left)
 
 pub columns-verdict-spec : {M : Type 1} → statement M
 columns-verdict-spec =
@@ -118,10 +118,10 @@ columns-verdict-spec =
     Inv-loop
     μ-loop
     loop-holds
-    mul-start
-    element-copy-out-start
-    mul-end
-    element-copy-out-end
+    mul-part
+    shared-slice-read-part
+    mul-part-2
+    shared-slice-read-part-2
     part-requires
     shared-slice-read-column-reason
     shared-slice-read-column-reason-2
