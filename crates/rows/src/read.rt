@@ -28,7 +28,16 @@ use crate::records::PlfRow;
 use crate::records::TxfRow;
 use crate::records::TxpRow;
 use schemas::Table;
-use schemas::check;
+use schemas::by_table::check_caf;
+use schemas::by_table::check_cap;
+use schemas::by_table::check_ocf;
+use schemas::by_table::check_ocp;
+use schemas::by_table::check_pcf;
+use schemas::by_table::check_pic;
+use schemas::by_table::check_pid;
+use schemas::by_table::check_plf;
+use schemas::by_table::check_txf;
+use schemas::by_table::check_txp;
 ghost use mathlib.Core.Path.{_≡_};
 ghost use Rattle.schemas.specs.declared.Table.the-variants.{Pid, Pic, Plf, Pcf, Caf, Cap, Txf, Txp, Ocf, Ocp};
 ghost use Rattle.schemas.specs.Reasons.{lineOf};
@@ -56,7 +65,7 @@ pub struct PidRead {
 pub fn read_pid(line: &[u8], ended: bool) -> PidRead
     ensures { λ r. ⌜ (r .verdict ≡ formed Pid (lineOf (now (line .entry)) ended)) × (r .row ≡ pidRow (now (line .entry))) ⌝ }
 {
-    let checked = check(Table::Pid, line, ended);
+    let checked = check_pid(line, ended);
     let columns = checked.columns;
     let row = pid_row(line, columns);
     PidRead {
@@ -73,7 +82,7 @@ pub struct PicRead {
 pub fn read_pic(line: &[u8], ended: bool) -> PicRead
     ensures { λ r. ⌜ (r .verdict ≡ formed Pic (lineOf (now (line .entry)) ended)) × (r .row ≡ picRow (now (line .entry))) ⌝ }
 {
-    let checked = check(Table::Pic, line, ended);
+    let checked = check_pic(line, ended);
     let columns = checked.columns;
     let row = pic_row(line, columns);
     PicRead {
@@ -90,7 +99,7 @@ pub struct PlfRead {
 pub fn read_plf(line: &[u8], ended: bool) -> PlfRead
     ensures { λ r. ⌜ (r .verdict ≡ formed Plf (lineOf (now (line .entry)) ended)) × (r .row ≡ plfRow (now (line .entry))) ⌝ }
 {
-    let checked = check(Table::Plf, line, ended);
+    let checked = check_plf(line, ended);
     let columns = checked.columns;
     let row = plf_row(line, columns);
     PlfRead {
@@ -107,7 +116,7 @@ pub struct PcfRead {
 pub fn read_pcf(line: &[u8], ended: bool) -> PcfRead
     ensures { λ r. ⌜ (r .verdict ≡ formed Pcf (lineOf (now (line .entry)) ended)) × (r .row ≡ pcfRow (now (line .entry))) ⌝ }
 {
-    let checked = check(Table::Pcf, line, ended);
+    let checked = check_pcf(line, ended);
     let columns = checked.columns;
     let row = pcf_row(line, columns);
     PcfRead {
@@ -124,7 +133,7 @@ pub struct CafRead {
 pub fn read_caf(line: &[u8], ended: bool) -> CafRead
     ensures { λ r. ⌜ (r .verdict ≡ formed Caf (lineOf (now (line .entry)) ended)) × (r .row ≡ cafRow (now (line .entry))) ⌝ }
 {
-    let checked = check(Table::Caf, line, ended);
+    let checked = check_caf(line, ended);
     let columns = checked.columns;
     let row = caf_row(line, columns);
     CafRead {
@@ -141,7 +150,7 @@ pub struct CapRead {
 pub fn read_cap(line: &[u8], ended: bool) -> CapRead
     ensures { λ r. ⌜ (r .verdict ≡ formed Cap (lineOf (now (line .entry)) ended)) × (r .row ≡ capRow (now (line .entry))) ⌝ }
 {
-    let checked = check(Table::Cap, line, ended);
+    let checked = check_cap(line, ended);
     let columns = checked.columns;
     let row = cap_row(line, columns);
     CapRead {
@@ -158,7 +167,7 @@ pub struct TxfRead {
 pub fn read_txf(line: &[u8], ended: bool) -> TxfRead
     ensures { λ r. ⌜ (r .verdict ≡ formed Txf (lineOf (now (line .entry)) ended)) × (r .row ≡ txfRow (now (line .entry))) ⌝ }
 {
-    let checked = check(Table::Txf, line, ended);
+    let checked = check_txf(line, ended);
     let columns = checked.columns;
     let row = txf_row(line, columns);
     TxfRead {
@@ -175,7 +184,7 @@ pub struct TxpRead {
 pub fn read_txp(line: &[u8], ended: bool) -> TxpRead
     ensures { λ r. ⌜ (r .verdict ≡ formed Txp (lineOf (now (line .entry)) ended)) × (r .row ≡ txpRow (now (line .entry))) ⌝ }
 {
-    let checked = check(Table::Txp, line, ended);
+    let checked = check_txp(line, ended);
     let columns = checked.columns;
     let row = txp_row(line, columns);
     TxpRead {
@@ -192,7 +201,7 @@ pub struct OcfRead {
 pub fn read_ocf(line: &[u8], ended: bool) -> OcfRead
     ensures { λ r. ⌜ (r .verdict ≡ formed Ocf (lineOf (now (line .entry)) ended)) × (r .row ≡ ocfRow (now (line .entry))) ⌝ }
 {
-    let checked = check(Table::Ocf, line, ended);
+    let checked = check_ocf(line, ended);
     let columns = checked.columns;
     let row = ocf_row(line, columns);
     OcfRead {
@@ -209,7 +218,7 @@ pub struct OcpRead {
 pub fn read_ocp(line: &[u8], ended: bool) -> OcpRead
     ensures { λ r. ⌜ (r .verdict ≡ formed Ocp (lineOf (now (line .entry)) ended)) × (r .row ≡ ocpRow (now (line .entry))) ⌝ }
 {
-    let checked = check(Table::Ocp, line, ended);
+    let checked = check_ocp(line, ended);
     let columns = checked.columns;
     let row = ocp_row(line, columns);
     OcpRead {

@@ -1,46 +1,27 @@
 // The columns of the ten tables, and reasons 1 to 7 of a row's verdict.
+pub mod by_table;
 mod bytes;
 mod column;
 mod letters;
 mod ranges;
 mod tables;
 
+use by_table::check_caf;
+use by_table::check_cap;
+use by_table::check_ocf;
+use by_table::check_ocp;
+use by_table::check_pcf;
+use by_table::check_pic;
+use by_table::check_pid;
+use by_table::check_plf;
+use by_table::check_txf;
+use by_table::check_txp;
 use bytes::is_allowed;
 use column::column_reason;
 use lines::columns::Columns;
 use lines::columns::MOST_COLUMNS;
 use lines::columns::keep_at;
 use lines::columns::part;
-use tables::CAF_KIND;
-use tables::CAF_MANDATORY;
-use tables::CAF_WIDTH;
-use tables::CAP_KIND;
-use tables::CAP_MANDATORY;
-use tables::CAP_WIDTH;
-use tables::OCF_KIND;
-use tables::OCF_MANDATORY;
-use tables::OCF_WIDTH;
-use tables::OCP_KIND;
-use tables::OCP_MANDATORY;
-use tables::OCP_WIDTH;
-use tables::PCF_KIND;
-use tables::PCF_MANDATORY;
-use tables::PCF_WIDTH;
-use tables::PIC_KIND;
-use tables::PIC_MANDATORY;
-use tables::PIC_WIDTH;
-use tables::PID_KIND;
-use tables::PID_MANDATORY;
-use tables::PID_WIDTH;
-use tables::PLF_KIND;
-use tables::PLF_MANDATORY;
-use tables::PLF_WIDTH;
-use tables::TXF_KIND;
-use tables::TXF_MANDATORY;
-use tables::TXF_WIDTH;
-use tables::TXP_KIND;
-use tables::TXP_MANDATORY;
-use tables::TXP_WIDTH;
 ghost use mathlib.Core.Path.{_≡_};
 ghost use Prim.Native.Nat.{_≤_};
 ghost use lib.ListN.{length};
@@ -135,7 +116,13 @@ fn row_verdict(
 }
 
 // One walk divides the row, as `divide` does, and looks for a byte that may not stand in it.
-fn check_row(line: &[u8], ended: bool, widths: &[u8], marks: &[u8], kinds: &[u8]) -> Checked
+pub(crate) fn check_row(
+    line: &[u8],
+    ended: bool,
+    widths: &[u8],
+    marks: &[u8],
+    kinds: &[u8],
+) -> Checked
     requires { ⌜ (length (now widths) ≤ 24) × (length (now marks) ≡ length (now widths)) × (length (now kinds) ≡ length (now widths)) ⌝ }
     ensures { λ r. ⌜ r ≡ checkedBy (schemaFrom (now (widths .entry)) (now (marks .entry)) (now (kinds .entry))) (lineOf (now (line .entry)) ended) ⌝ }
 {
@@ -183,20 +170,20 @@ fn check_row(line: &[u8], ended: bool, widths: &[u8], marks: &[u8], kinds: &[u8]
     }
 }
 
-// The check of a row of any table: each is driven by its constants.
+// The check of a row of any table.
 pub fn check(table: Table, line: &[u8], ended: bool) -> Checked
     ensures { λ r. ⌜ r ≡ checkedBy (schema table) (lineOf (now (line .entry)) ended) ⌝ }
 {
     match table {
-        Table::Pid => check_row(line, ended, &PID_WIDTH, &PID_MANDATORY, &PID_KIND),
-        Table::Pic => check_row(line, ended, &PIC_WIDTH, &PIC_MANDATORY, &PIC_KIND),
-        Table::Plf => check_row(line, ended, &PLF_WIDTH, &PLF_MANDATORY, &PLF_KIND),
-        Table::Pcf => check_row(line, ended, &PCF_WIDTH, &PCF_MANDATORY, &PCF_KIND),
-        Table::Caf => check_row(line, ended, &CAF_WIDTH, &CAF_MANDATORY, &CAF_KIND),
-        Table::Cap => check_row(line, ended, &CAP_WIDTH, &CAP_MANDATORY, &CAP_KIND),
-        Table::Txf => check_row(line, ended, &TXF_WIDTH, &TXF_MANDATORY, &TXF_KIND),
-        Table::Txp => check_row(line, ended, &TXP_WIDTH, &TXP_MANDATORY, &TXP_KIND),
-        Table::Ocf => check_row(line, ended, &OCF_WIDTH, &OCF_MANDATORY, &OCF_KIND),
-        Table::Ocp => check_row(line, ended, &OCP_WIDTH, &OCP_MANDATORY, &OCP_KIND),
+        Table::Pid => check_pid(line, ended),
+        Table::Pic => check_pic(line, ended),
+        Table::Plf => check_plf(line, ended),
+        Table::Pcf => check_pcf(line, ended),
+        Table::Caf => check_caf(line, ended),
+        Table::Cap => check_cap(line, ended),
+        Table::Txf => check_txf(line, ended),
+        Table::Txp => check_txp(line, ended),
+        Table::Ocf => check_ocf(line, ended),
+        Table::Ocp => check_ocp(line, ended),
     }
 }

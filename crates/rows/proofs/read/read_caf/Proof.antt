@@ -7,11 +7,11 @@ use borrow.Author.Needs.{needs}
 use Rattle.rows.proofs.read.read_caf.Statement.{statement}
 use Rattle.rows.proofs.read.read_caf.Tie as tie
 
-check-requires : tie.Need-check-requires
-check-requires c κs = search needs
+check-caf-requires : tie.Need-check-caf-requires
+check-caf-requires c κs = search needs
 
 caf-row-requires : tie.Need-caf-row-requires
-caf-row-requires c κs = checked-columns _ _ (c .before .check .ensures)
+caf-row-requires c κs = checked-columns _ _ (c .before .check-caf .ensures)
 
 caf-contradiction-requires : tie.Need-caf-contradiction-requires
 caf-contradiction-requires c κs = search needs
@@ -22,13 +22,13 @@ or-contradiction-requires c κs = search needs
 returns : tie.Need-returns
 unfolding contradiction
 returns c = let row = c .before .before .caf-row .ensures in
-    (formed-is Caf _ (c .before .before .before .before .check .ensures) (c .before .caf-contradiction .ensures ∙ ap cafContradiction row) (c .or-contradiction .ensures), row)
+    (formed-is Caf _ (c .before .before .before .before .check-caf .ensures) (c .before .caf-contradiction .ensures ∙ ap cafContradiction row) (c .or-contradiction .ensures), row)
 
 pub read-caf-spec : {M : Type 1} → statement M
 read-caf-spec =
     tie.close
     (tie.spec
-    check-requires
+    check-caf-requires
     caf-row-requires
     caf-contradiction-requires
     or-contradiction-requires

@@ -7,11 +7,11 @@ use borrow.Author.Needs.{needs}
 use Rattle.rows.proofs.read.read_ocf.Statement.{statement}
 use Rattle.rows.proofs.read.read_ocf.Tie as tie
 
-check-requires : tie.Need-check-requires
-check-requires c κs = search needs
+check-ocf-requires : tie.Need-check-ocf-requires
+check-ocf-requires c κs = search needs
 
 ocf-row-requires : tie.Need-ocf-row-requires
-ocf-row-requires c κs = checked-columns _ _ (c .before .check .ensures)
+ocf-row-requires c κs = checked-columns _ _ (c .before .check-ocf .ensures)
 
 ocf-contradiction-requires : tie.Need-ocf-contradiction-requires
 ocf-contradiction-requires c κs = search needs
@@ -22,13 +22,13 @@ or-contradiction-requires c κs = search needs
 returns : tie.Need-returns
 unfolding contradiction
 returns c = let row = c .before .before .ocf-row .ensures in
-    (formed-is Ocf _ (c .before .before .before .before .check .ensures) (c .before .ocf-contradiction .ensures ∙ ap ocfContradiction row) (c .or-contradiction .ensures), row)
+    (formed-is Ocf _ (c .before .before .before .before .check-ocf .ensures) (c .before .ocf-contradiction .ensures ∙ ap ocfContradiction row) (c .or-contradiction .ensures), row)
 
 pub read-ocf-spec : {M : Type 1} → statement M
 read-ocf-spec =
     tie.close
     (tie.spec
-    check-requires
+    check-ocf-requires
     ocf-row-requires
     ocf-contradiction-requires
     or-contradiction-requires

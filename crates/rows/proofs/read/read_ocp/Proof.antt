@@ -7,11 +7,11 @@ use borrow.Author.Needs.{needs}
 use Rattle.rows.proofs.read.read_ocp.Statement.{statement}
 use Rattle.rows.proofs.read.read_ocp.Tie as tie
 
-check-requires : tie.Need-check-requires
-check-requires c κs = search needs
+check-ocp-requires : tie.Need-check-ocp-requires
+check-ocp-requires c κs = search needs
 
 ocp-row-requires : tie.Need-ocp-row-requires
-ocp-row-requires c κs = checked-columns _ _ (c .before .check .ensures)
+ocp-row-requires c κs = checked-columns _ _ (c .before .check-ocp .ensures)
 
 ocp-contradiction-requires : tie.Need-ocp-contradiction-requires
 ocp-contradiction-requires c κs = search needs
@@ -22,13 +22,13 @@ or-contradiction-requires c κs = search needs
 returns : tie.Need-returns
 unfolding contradiction
 returns c = let row = c .before .before .ocp-row .ensures in
-    (formed-is Ocp _ (c .before .before .before .before .check .ensures) (c .before .ocp-contradiction .ensures ∙ ap ocpContradiction row) (c .or-contradiction .ensures), row)
+    (formed-is Ocp _ (c .before .before .before .before .check-ocp .ensures) (c .before .ocp-contradiction .ensures ∙ ap ocpContradiction row) (c .or-contradiction .ensures), row)
 
 pub read-ocp-spec : {M : Type 1} → statement M
 read-ocp-spec =
     tie.close
     (tie.spec
-    check-requires
+    check-ocp-requires
     ocp-row-requires
     ocp-contradiction-requires
     or-contradiction-requires

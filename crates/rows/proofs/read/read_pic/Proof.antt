@@ -7,11 +7,11 @@ use borrow.Author.Needs.{needs}
 use Rattle.rows.proofs.read.read_pic.Statement.{statement}
 use Rattle.rows.proofs.read.read_pic.Tie as tie
 
-check-requires : tie.Need-check-requires
-check-requires c κs = search needs
+check-pic-requires : tie.Need-check-pic-requires
+check-pic-requires c κs = search needs
 
 pic-row-requires : tie.Need-pic-row-requires
-pic-row-requires c κs = checked-columns _ _ (c .before .check .ensures)
+pic-row-requires c κs = checked-columns _ _ (c .before .check-pic .ensures)
 
 pic-contradiction-requires : tie.Need-pic-contradiction-requires
 pic-contradiction-requires c κs = search needs
@@ -22,13 +22,13 @@ or-contradiction-requires c κs = search needs
 returns : tie.Need-returns
 unfolding contradiction
 returns c = let row = c .before .before .pic-row .ensures in
-    (formed-is Pic _ (c .before .before .before .before .check .ensures) (c .before .pic-contradiction .ensures ∙ ap picContradiction row) (c .or-contradiction .ensures), row)
+    (formed-is Pic _ (c .before .before .before .before .check-pic .ensures) (c .before .pic-contradiction .ensures ∙ ap picContradiction row) (c .or-contradiction .ensures), row)
 
 pub read-pic-spec : {M : Type 1} → statement M
 read-pic-spec =
     tie.close
     (tie.spec
-    check-requires
+    check-pic-requires
     pic-row-requires
     pic-contradiction-requires
     or-contradiction-requires

@@ -7,11 +7,11 @@ use borrow.Author.Needs.{needs}
 use Rattle.rows.proofs.read.read_txf.Statement.{statement}
 use Rattle.rows.proofs.read.read_txf.Tie as tie
 
-check-requires : tie.Need-check-requires
-check-requires c κs = search needs
+check-txf-requires : tie.Need-check-txf-requires
+check-txf-requires c κs = search needs
 
 txf-row-requires : tie.Need-txf-row-requires
-txf-row-requires c κs = checked-columns _ _ (c .before .check .ensures)
+txf-row-requires c κs = checked-columns _ _ (c .before .check-txf .ensures)
 
 txf-contradiction-requires : tie.Need-txf-contradiction-requires
 txf-contradiction-requires c κs = search needs
@@ -22,13 +22,13 @@ or-contradiction-requires c κs = search needs
 returns : tie.Need-returns
 unfolding contradiction
 returns c = let row = c .before .before .txf-row .ensures in
-    (formed-is Txf _ (c .before .before .before .before .check .ensures) (c .before .txf-contradiction .ensures ∙ ap txfContradiction row) (c .or-contradiction .ensures), row)
+    (formed-is Txf _ (c .before .before .before .before .check-txf .ensures) (c .before .txf-contradiction .ensures ∙ ap txfContradiction row) (c .or-contradiction .ensures), row)
 
 pub read-txf-spec : {M : Type 1} → statement M
 read-txf-spec =
     tie.close
     (tie.spec
-    check-requires
+    check-txf-requires
     txf-row-requires
     txf-contradiction-requires
     or-contradiction-requires
