@@ -12,6 +12,7 @@ use Rattle.laws.proofs.Cases.{bool-cases}
 use Rattle.schemas.specs.Reasons.{verdict}
 use Rattle.digests.specs.Said.{countColumn}
 use Rattle.import.specs.Model.{countFrom, groupAt, countAt, comesTo, circleAt, baseOf, Ordered}
+use Rattle.import.specs.Trails.{RowIndex, TableIndex, noWords}
 
 -- the first of two numbers where it isn't 0
 pub or-here : (a b : ℕ) → (a ≡ 0 → ⊥) → a ≡ orElse a b
@@ -51,10 +52,10 @@ module _ (kind starts sound ka kb oa ob number : List ℕ) (i t column : ℕ) (r
 pub count-table : (t column : ℕ) → column ≡ countColumn t → (column ≡ 0 → ⊥) → t < 9
 count-table t column counts some = column-table t (λ e. some (counts ∙ e))
 
-module _ (starts : List ℕ) (n : ℕ) (placed : Ordered starts n) (t : ℕ) (h : t < 9) where
-  pub count-ordered : getD starts (t + 1) 0 ≤ getD starts (t + 1 + 1) 0
-  count-ordered = placed .ordered (t + 1) (omega arith)
+pub count-index : (starts oa ob groups : List ℕ) → TableIndex starts oa ob noWords groups → (t : ℕ) → t < 9 → RowIndex oa ob noWords groups (t + 1) (getD starts (t + 1) 0) (getD starts (t + 1 + 1) 0)
+count-index starts oa ob groups x t h = x (t + 1) (omega arith)
 
+module _ (starts : List ℕ) (n : ℕ) (placed : Ordered starts n) (t : ℕ) (h : t < 9) where
   pub count-within : getD starts (t + 1 + 1) 0 ≤ n
   count-within = placed .within (t + 1 + 1) (omega arith)
 

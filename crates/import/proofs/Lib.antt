@@ -1,5 +1,6 @@
 pub mod AnswerLaws
 pub mod BaseLaws
+pub mod BucketLaws
 pub mod ChainLaws
 pub mod ChainMeaning
 pub mod CodeTies
@@ -14,16 +15,19 @@ pub mod Judgement
 pub mod KeepLaws
 pub mod KeptLaws
 pub mod KeyTies
+pub mod LinkLaws
 pub mod MetLaws
 pub mod NameTies
 pub mod ReadLaws
 pub mod ResolveLaws
 pub mod RowTies
+pub mod SeekLaws
 pub mod SharedLaws
 pub mod SlotMeaning
 pub mod SoundLaws
 pub mod TargetLaws
 pub mod Ties
+pub mod TrailLaws
 pub mod VerdictMeaning
 pub mod WriteLaws
 pub mod ZeroLaws

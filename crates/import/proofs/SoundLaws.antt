@@ -7,6 +7,7 @@ use native.Mathlib.Omega.{arith}
 use lib.ListN.{getD}
 use borrow.Author.Tests.{eq-eqb, ne-eqb}
 use Rattle.import.specs.Model.{sharedRow, soundAt, Placed}
+use Rattle.import.specs.Trails.{TableRow}
 
 module _ (cells kind starts ka kb kc oa held : List ℕ) (i : ℕ) where
   pub sound-reason : (getD cells i 0 ≡ 0 → ⊥) → 0 ≡ soundAt cells kind starts ka kb kc oa held i
@@ -24,8 +25,8 @@ module _ (cells kind starts ka kb kc oa held : List ℕ) (i : ℕ) where
 
 -- row i of n has its table's places about it
 module _ (kind starts : List ℕ) (n : ℕ) (placed : Placed kind starts n) (i : ℕ) (h : i < n) where
-  pub place-ordered : getD starts (getD kind i 0) 0 ≤ getD starts (getD kind i 0 + 1) 0
-  place-ordered = placed .ordered (getD kind i 0) (placed .table i h)
+  pub place-row : TableRow starts (getD kind i 0) i
+  place-row = record { ten = placed .table i h; low = placed .low i h; high = placed .high i h }
 
   pub place-within : getD starts (getD kind i 0 + 1) 0 ≤ n
   place-within = placed .within (getD kind i 0 + 1) (omega (arith, placed .table i h))

@@ -1,3 +1,4 @@
 pub mod Judged
 pub mod Model
 pub mod Rows
+pub mod Trails

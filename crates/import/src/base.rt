@@ -1,4 +1,5 @@
 // The verdict of a row without its names: reasons 1 to 10, and 12.
+use crate::buckets::first_row;
 use crate::chains::comes_to;
 use crate::find::tally;
 use crate::reads::byte_at;
@@ -12,8 +13,9 @@ ghost use Prim.Native.Nat.{_≤_};
 ghost use lib.ListN.{length, getD};
 ghost use lib.Seq.{sets};
 ghost use Rattle.import.specs.Model.{countAt, circleAt, baseOf, tabulate, Ordered};
+ghost use Rattle.import.specs.Trails.{TableIndex, noWords};
 
-// 0, or reason 10.
+// 0, or reason 10. `groups` is the index by the words of a group.
 fn count_row(
     kind: &[u8],
     starts: [usize; 11],
@@ -22,11 +24,13 @@ fn count_row(
     kb: &[u64],
     oa: &[u64],
     ob: &[u64],
+    groups: &[u16],
     number: &[u64],
     n: usize,
     i: usize,
 ) -> u16
     requires { ⌜ Ordered starts n × (n ≤ length (now sound)) × (n ≤ length (now oa)) × (n ≤ length (now ob)) ⌝ }
+    requires { ⌜ TableIndex starts (now oa) (now ob) noWords (now groups) ⌝ }
     ensures { λ r. ⌜ r ≡ countAt (now (kind .entry)) starts (now (sound .entry)) (now (ka .entry)) (now (kb .entry)) (now (oa .entry)) (now (ob .entry)) (now (number .entry)) i ⌝ }
 {
     let t = byte_at(kind, i);
@@ -35,9 +39,11 @@ fn count_row(
         return 0;
     }
     let group = t as usize + 1;
-    let lo = starts[group];
     let hi = starts[group + 1];
-    let counted = tally(sound, oa, ob, lo, hi, word_at(ka, i), word_at(kb, i));
+    let a = word_at(ka, i);
+    let b = word_at(kb, i);
+    let from = first_row(groups, group, a, b, 0);
+    let counted = tally(sound, oa, ob, groups, from, hi, a, b);
     if counted as u64 == word_at(number, i) {
         return 0;
     }
@@ -71,6 +77,7 @@ fn base_row(
     kb: &[u64],
     oa: &[u64],
     ob: &[u64],
+    groups: &[u16],
     oc: &[u8],
     found: &[u16],
     number: &[u64],
@@ -78,9 +85,10 @@ fn base_row(
     i: usize,
 ) -> u16
     requires { ⌜ Ordered starts n × (n ≤ length (now sound)) × (n ≤ length (now oa)) × (n ≤ length (now ob)) ⌝ }
+    requires { ⌜ TableIndex starts (now oa) (now ob) noWords (now groups) ⌝ }
     ensures { λ r. ⌜ r ≡ baseOf (getD (now (cells .entry)) i 0) (getD (now (sound .entry)) i 0) (countAt (now (kind .entry)) starts (now (sound .entry)) (now (ka .entry)) (now (kb .entry)) (now (oa .entry)) (now (ob .entry)) (now (number .entry)) i) (circleAt (now (oc .entry)) (now (found .entry)) (now (sound .entry)) n i) ⌝ }
 {
-    let count = count_row(kind, starts, sound, ka, kb, oa, ob, number, n, i);
+    let count = count_row(kind, starts, sound, ka, kb, oa, ob, groups, number, n, i);
     let circle = comes_to(oc, found, sound, i, n, i);
     first_of(half_at(cells, i), byte_at(sound, i), count, circle)
 }
@@ -95,6 +103,7 @@ pub(crate) fn base_rows(
     kb: &[u64],
     oa: &[u64],
     ob: &[u64],
+    groups: &[u16],
     oc: &[u8],
     found: &[u16],
     number: &[u64],
@@ -102,6 +111,7 @@ pub(crate) fn base_rows(
     n: usize,
 )
     requires { ⌜ Ordered starts n × (n ≤ length (now sound)) × (n ≤ length (now oa)) × (n ≤ length (now ob)) × (n ≤ length (now base)) ⌝ }
+    requires { ⌜ TableIndex starts (now oa) (now ob) noWords (now groups) ⌝ }
     ensures { λ r. ⌜ now (base .exit) ≡ sets (now (base .entry)) 0 (tabulate (λ i. baseOf (getD (now (cells .entry)) i 0) (getD (now (sound .entry)) i 0) (countAt (now (kind .entry)) starts (now (sound .entry)) (now (ka .entry)) (now (kb .entry)) (now (oa .entry)) (now (ob .entry)) (now (number .entry)) i) (circleAt (now (oc .entry)) (now (found .entry)) (now (sound .entry)) n i)) 0 n) ⌝ }
 {
     let mut i: usize = 0;
@@ -115,6 +125,7 @@ pub(crate) fn base_rows(
             kb,
             oa,
             ob,
+            groups,
             oc,
             found,
             number,

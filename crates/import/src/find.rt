@@ -1,38 +1,42 @@
-// Searches over the words that are kept of the rows.
+// Searches over the words that are kept of the rows. Each follows an index of the rows from a row on.
+use crate::buckets::row_after;
 ghost use mathlib.Core.Path.{_≡_};
 ghost use Prim.Native.Nat.{_-_, _≤_, _<_};
 ghost use lib.ListN.{length};
 ghost use lib.Dec.{eqb};
 ghost use mathlib.Core.Bool.{not, _&&_};
-ghost use Rattle.import.specs.Model.{findFrom, countFrom, keyAt, secondAt, groupAt};
+ghost use Rattle.import.specs.Model.{countFrom, keyAt, secondAt, groupAt};
+ghost use Rattle.import.specs.Trails.{Trail, seekFrom};
 
-// The first row from `lo` to before `hi` that holds the key with these words, or `hi`.
+// The first row from `from` to before `hi` that holds the key with these words, or `hi`.
 pub(crate) fn find_key(
     ka: &[u64],
     kb: &[u64],
     kc: &[u64],
     held: &[u8],
-    lo: usize,
+    index: &[u16],
+    from: usize,
     hi: usize,
     a: u64,
     b: u64,
     c: u64,
 ) -> usize
-    requires { ⌜ (lo ≤ hi) × (hi ≤ length (now ka)) × (hi ≤ length (now kb)) × (hi ≤ length (now kc)) × (hi ≤ length (now held)) ⌝ }
-    ensures { λ r. ⌜ r ≡ findFrom (keyAt (now (ka .entry)) (now (kb .entry)) (now (kc .entry)) (now (held .entry)) a b c) lo (hi - lo) ⌝ }
+    requires { ⌜ (hi ≤ 10240) × (hi ≤ length (now ka)) × (hi ≤ length (now kb)) × (hi ≤ length (now kc)) × (hi ≤ length (now held)) ⌝ }
+    requires { ⌜ Trail (keyAt (now ka) (now kb) (now kc) (now held) a b c) (now index) hi from ⌝ }
+    ensures { λ r. ⌜ r ≡ seekFrom (keyAt (now (ka .entry)) (now (kb .entry)) (now (kc .entry)) (now (held .entry)) a b c) hi from ⌝ }
 {
-    let mut i = lo;
+    let mut i = from;
     while i < hi {
         if ka[i] == a {
             if is_rest(kb[i], kc[i], held[i], b, c) {
                 return i;
             }
-            i += 1;
+            i = row_after(index, i);
         } else {
-            i += 1;
+            i = row_after(index, i);
         }
     }
-    i
+    hi
 }
 
 // The words after the first, and the mark.
@@ -48,46 +52,56 @@ fn is_rest(kb: u64, kc: u64, held: u8, b: u64, c: u64) -> bool
     false
 }
 
-// The first row from `lo` to before `hi` that holds a second key with this word, or `hi`.
-pub(crate) fn find_second(oa: &[u64], held: &[u8], lo: usize, hi: usize, a: u64) -> usize
-    requires { ⌜ (lo ≤ hi) × (hi ≤ length (now oa)) × (hi ≤ length (now held)) ⌝ }
-    ensures { λ r. ⌜ r ≡ findFrom (secondAt (now (oa .entry)) (now (held .entry)) a) lo (hi - lo) ⌝ }
+// The first row from `from` to before `hi` that holds a second key with this word, or `hi`.
+pub(crate) fn find_second(
+    oa: &[u64],
+    held: &[u8],
+    index: &[u16],
+    from: usize,
+    hi: usize,
+    a: u64,
+) -> usize
+    requires { ⌜ (hi ≤ 10240) × (hi ≤ length (now oa)) × (hi ≤ length (now held)) ⌝ }
+    requires { ⌜ Trail (secondAt (now oa) (now held) a) (now index) hi from ⌝ }
+    ensures { λ r. ⌜ r ≡ seekFrom (secondAt (now (oa .entry)) (now (held .entry)) a) hi from ⌝ }
 {
-    let mut i = lo;
+    let mut i = from;
     while i < hi {
         if oa[i] == a {
             if held[i] == 2 {
                 return i;
             }
-            i += 1;
+            i = row_after(index, i);
         } else {
-            i += 1;
+            i = row_after(index, i);
         }
     }
-    i
+    hi
 }
 
-// How many rows from `lo` to before `hi` are sound and in the group with these words.
+// How many rows from `from` to before `hi` are sound and in the group with these words.
 pub(crate) fn tally(
     sound: &[u8],
     oa: &[u64],
     ob: &[u64],
-    lo: usize,
+    index: &[u16],
+    from: usize,
     hi: usize,
     a: u64,
     b: u64,
 ) -> usize
-    requires { ⌜ (lo ≤ hi) × (hi ≤ length (now sound)) × (hi ≤ length (now oa)) × (hi ≤ length (now ob)) ⌝ }
-    ensures { λ r. ⌜ r ≡ countFrom (groupAt (now (sound .entry)) (now (oa .entry)) (now (ob .entry)) a b) lo (hi - lo) ⌝ }
+    requires { ⌜ (hi ≤ 10240) × (hi ≤ length (now sound)) × (hi ≤ length (now oa)) × (hi ≤ length (now ob)) ⌝ }
+    requires { ⌜ Trail (groupAt (now sound) (now oa) (now ob) a b) (now index) hi from ⌝ }
+    ensures { λ r. ⌜ r ≡ countFrom (groupAt (now (sound .entry)) (now (oa .entry)) (now (ob .entry)) a b) from (hi - from) ⌝ }
 {
     let mut n: usize = 0;
-    let mut i = lo;
+    let mut i = from;
     while i < hi {
         if is_counted(oa[i], ob[i], sound[i], a, b) {
             n += 1;
-            i += 1;
+            i = row_after(index, i);
         } else {
-            i += 1;
+            i = row_after(index, i);
         }
     }
     n

@@ -12,6 +12,7 @@ ghost use Rattle.import.specs.Judged.{said};
 
 mod all_rows;
 mod base;
+mod buckets;
 mod chains;
 mod find;
 mod good;

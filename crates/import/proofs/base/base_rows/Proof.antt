@@ -8,16 +8,16 @@ use Rattle.import.proofs.base.base_rows.Statement.{statement}
 use Rattle.import.proofs.base.base_rows.Tie as tie
 
 abbrev Inv-loop : tie.InvT-loop
-Inv-loop cells kind starts sound ka kb oa ob oc found number base₀ n i₀ base i = Writing (λ k. baseOf (getD cells k 0) (getD sound k 0) (countAt kind starts sound ka kb oa ob number k) (circleAt oc found sound n k)) n base₀ base i
+Inv-loop cells kind starts sound ka kb oa ob groups oc found number base₀ n i₀ base i = Writing (λ k. baseOf (getD cells k 0) (getD sound k 0) (countAt kind starts sound ka kb oa ob number k) (circleAt oc found sound n k)) n base₀ base i
 
 abbrev μ-loop : tie.MeasureT-loop
-μ-loop cells kind starts sound ka kb oa ob oc found number base₀ n i₀ base i = n - i
+μ-loop cells kind starts sound ka kb oa ob groups oc found number base₀ n i₀ base i = n - i
 
 loop-holds : tie.Need-loop-holds Inv-loop μ-loop
 loop-holds c = write-start _ _ _
 
 base-row-requires : tie.Need-base-row-requires Inv-loop μ-loop
-base-row-requires c κs = let s = c .before .before .before .before .before .before .before .before .before .before .before .before .before in (s .pre .0, s .pre .1, s .pre .2, s .pre .3)
+base-row-requires c κs = let s = c .before .before .before .before .before .before .before .before .before .before .before .before .before .before in ((s .pre .0 .0, s .pre .0 .1, s .pre .0 .2, s .pre .0 .3), s .pre .1)
 
 mul-base : tie.Need-mul-base Inv-loop μ-loop
 mul-base c = omega arith

@@ -1,87 +1,80 @@
--- Each pass reads what the passes before it left: `judged-law`.
+-- The indexes of the rows lead to the rows of each table: `table-index`.
+use Rattle.import.proofs.BucketLaws.{table-index}
+use Rattle.import.proofs.LinkLaws.{fresh-index}
 use borrow.Author.Needs.{needs}
-use Rattle.import.proofs.JudgeLaws.{fill-room, judged-law}
 use Rattle.import.proofs.judge.judge_rows.Statement.{statement}
 use Rattle.import.proofs.judge.judge_rows.Tie as tie
 
-slice-aggregate-mark-sound : tie.Need-slice-aggregate-mark-sound
-slice-aggregate-mark-sound c = search needs
+slice-aggregate-none : tie.Need-slice-aggregate-none
+slice-aggregate-none c = search needs
 
-mark-sound-requires : tie.Need-mark-sound-requires
-mark-sound-requires c κs = search needs
+cast-keys : tie.Need-cast-keys
+cast-keys c = search needs
 
-slice-aggregate-resolve-rows : tie.Need-slice-aggregate-resolve-rows
-slice-aggregate-resolve-rows c = search needs
+cast-seconds : tie.Need-cast-seconds
+cast-seconds c = search needs
 
-resolve-rows-requires : tie.Need-resolve-rows-requires
-resolve-rows-requires c κs = search needs
+cast-groups : tie.Need-cast-groups
+cast-groups c = search needs
 
-slice-aggregate-resolve-rows-2 : tie.Need-slice-aggregate-resolve-rows-2
-slice-aggregate-resolve-rows-2 c = search needs
+slice-aggregate-index-rows : tie.Need-slice-aggregate-index-rows
+slice-aggregate-index-rows c = search needs
 
-resolve-rows-requires-2 : tie.Need-resolve-rows-requires-2
-resolve-rows-requires-2 c κs =
-    let s = c .before .before .before .before .before .before .before .before .before .before .before .before .before .before .before .before .before .before .before .before .before .before in
-    let k = s .pre .1 in
-    ((s .pre .0 .1, s .pre .0 .2, s .pre .0 .2), (k .0, k .1, k .2, k .3, k .5))
+index-rows-requires : tie.Need-index-rows-requires
+index-rows-requires c κs = let s = c .before .before .before .before .before .before .before .before .before .before .before .before .before .before .before .before .before in ((s .pre .0 .2, s .pre .0 .0 .table), fresh-index (s .args .n))
 
-slice-aggregate-base-rows : tie.Need-slice-aggregate-base-rows
-slice-aggregate-base-rows c = search needs
+slice-aggregate-index-rows-2 : tie.Need-slice-aggregate-index-rows-2
+slice-aggregate-index-rows-2 c = search needs
 
-slice-aggregate-base-rows-2 : tie.Need-slice-aggregate-base-rows-2
-slice-aggregate-base-rows-2 c = search needs
+index-rows-requires-2 : tie.Need-index-rows-requires-2
+index-rows-requires-2 c κs = let s = c .before .before .before .before .before .before .before .before .before .before .before .before .before .before .before .before .before .before .before .before in ((s .pre .0 .2, s .pre .0 .0 .table), fresh-index (s .args .n))
 
-slice-aggregate-base-rows-3 : tie.Need-slice-aggregate-base-rows-3
-slice-aggregate-base-rows-3 c = search needs
+slice-aggregate-index-rows-3 : tie.Need-slice-aggregate-index-rows-3
+slice-aggregate-index-rows-3 c = search needs
 
-base-rows-requires : tie.Need-base-rows-requires
-base-rows-requires c κs =
-    let m = c .before .before .before .before .before .before .before .before .before .before in
-    let s = m .before .before .before .before .before .before .before .before .before .before .before .before .before .before .before .before .before in
-    (s .pre .0 .1, fill-room _ _ _ (m .mark-sound .ensures) (s .pre .0 .2), s .pre .1 .3, s .pre .1 .4, s .pre .0 .2)
+index-rows-requires-3 : tie.Need-index-rows-requires-3
+index-rows-requires-3 c κs = let s = c .before .before .before .before .before .before .before .before .before .before .before .before .before .before .before .before .before .before .before .before .before .before .before in ((s .pre .0 .2, s .pre .0 .0 .table), fresh-index (s .args .n))
 
-slice-aggregate-judge-names : tie.Need-slice-aggregate-judge-names
-slice-aggregate-judge-names c = search needs
+slice-aggregate-judge-indexed : tie.Need-slice-aggregate-judge-indexed
+slice-aggregate-judge-indexed c = search needs
 
-slice-aggregate-judge-names-2 : tie.Need-slice-aggregate-judge-names-2
-slice-aggregate-judge-names-2 c = search needs
+slice-aggregate-judge-indexed-2 : tie.Need-slice-aggregate-judge-indexed-2
+slice-aggregate-judge-indexed-2 c = search needs
 
-slice-aggregate-judge-names-3 : tie.Need-slice-aggregate-judge-names-3
-slice-aggregate-judge-names-3 c = search needs
+slice-aggregate-judge-indexed-3 : tie.Need-slice-aggregate-judge-indexed-3
+slice-aggregate-judge-indexed-3 c = search needs
 
-judge-names-requires : tie.Need-judge-names-requires
-judge-names-requires c κs =
-    let s = c .before .before .before .before .before .before .before .before .before .before .before .before .before .before .before .before .before .before .before .before .before .before .before .before .before .before .before .before .before .before .before .before .before in
-    (s .pre .0 .2, s .pre .0 .3)
+judge-indexed-requires : tie.Need-judge-indexed-requires
+judge-indexed-requires c κs = let g = c .before .before .before .before .before in
+    let d = g .before .before .before in
+    let k = d .before .before .before in
+    let s = k .before .before .before .before .before .before .before .before .before .before .before .before .before .before .before .before .before .before in
+    let p = s .pre .0 .0 in
+    (s .pre .0, (s .pre .1, (table-index _ _ _ _ _ (s .args .starts) _ p (s .pre .0 .2) (k .index-rows .ensures), table-index _ _ _ _ _ (s .args .starts) _ p (s .pre .0 .2) (d .index-rows2 .ensures), table-index _ _ _ _ _ (s .args .starts) _ p (s .pre .0 .2) (g .index-rows3 .ensures))))
 
 same-length : tie.Need-same-length
 same-length c = search needs
 
 returns : tie.Need-returns
-returns c =
-    let v = c .before .before in
-    let b = v .before .before .before .before .before .before in
-    let t = b .before .before .before .before .before in
-    let f = t .before .before .before in
-    judged-law _ _ _ _ _ _ _ _ _ _ _ _ _ _ _ _ _ _ _ _ _ _ (f .before .before .before .mark-sound .ensures) (f .resolve-rows .ensures) (t .resolve-rows2 .ensures) (b .base-rows .ensures) (v .judge-names .ensures)
+returns c = search needs
 
 pub judge-rows-spec : {M : Type 1} → statement M
 judge-rows-spec =
     tie.close
     (tie.spec
-    slice-aggregate-mark-sound
-    mark-sound-requires
-    slice-aggregate-resolve-rows
-    resolve-rows-requires
-    slice-aggregate-resolve-rows-2
-    resolve-rows-requires-2
-    slice-aggregate-base-rows
-    slice-aggregate-base-rows-2
-    slice-aggregate-base-rows-3
-    base-rows-requires
-    slice-aggregate-judge-names
-    slice-aggregate-judge-names-2
-    slice-aggregate-judge-names-3
-    judge-names-requires
+    slice-aggregate-none
+    cast-keys
+    cast-seconds
+    cast-groups
+    slice-aggregate-index-rows
+    index-rows-requires
+    slice-aggregate-index-rows-2
+    index-rows-requires-2
+    slice-aggregate-index-rows-3
+    index-rows-requires-3
+    slice-aggregate-judge-indexed
+    slice-aggregate-judge-indexed-2
+    slice-aggregate-judge-indexed-3
+    judge-indexed-requires
     same-length
     returns)

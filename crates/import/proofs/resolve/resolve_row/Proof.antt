@@ -10,7 +10,7 @@ abbrev Here : Type 0
 Here = tie.After-naming-target
 
 abbrev start : Here → tie.Start
-start c = c .before .before .before .before .before .before .before .before .before .before
+start c = c .before .before .before .before .before .before .before .before .before .before .before .before
 
 table : (c : Here) → c .naming-target .result < 10
 table c = target-table _ _ (c .naming-target .ensures)
@@ -24,21 +24,6 @@ naming-target-requires c κs = search needs
 cast-t : tie.Need-cast-t
 cast-t c = search needs
 
-mul-lo : tie.Need-mul-lo
-mul-lo c = search needs
-
-array-read-lo : tie.Need-array-read-lo
-array-read-lo c = omega (arith, table c)
-
-add-hi : tie.Need-add-hi
-add-hi c = search needs
-
-mul-hi : tie.Need-mul-hi
-mul-hi c = search needs
-
-array-read-hi : tie.Need-array-read-hi
-array-read-hi c = omega (arith, table c)
-
 word-at-requires : tie.Need-word-at-requires
 word-at-requires c κs = search needs
 
@@ -49,7 +34,7 @@ target-of-requires : tie.Need-target-of-requires
 target-of-requires c κs = let k = c .before .before in
     let p = start k .pre in
     let w = target-within _ _ (p .0 .0) _ (table k) in
-    ((target-ordered _ _ (p .0 .0) _ (table k), omega arith), (omega arith, omega arith, omega arith, omega arith, omega arith))
+    ((table k, target-ordered _ _ (p .0 .0) _ (table k)), ((p .1 .1 .0 _ (table k), p .1 .1 .1 _ (table k)), (omega arith, omega arith, omega arith, omega arith, omega arith)))
 
 returns : tie.Need-returns
 returns c = let w = c .before in
@@ -63,11 +48,6 @@ resolve-row-spec =
     byte-at-requires
     naming-target-requires
     cast-t
-    mul-lo
-    array-read-lo
-    add-hi
-    mul-hi
-    array-read-hi
     word-at-requires
     word-at-requires-2
     target-of-requires

@@ -8,16 +8,16 @@ use Rattle.import.proofs.resolve.resolve_rows.Statement.{statement}
 use Rattle.import.proofs.resolve.resolve_rows.Tie as tie
 
 abbrev Inv-loop : tie.InvT-loop
-Inv-loop codes na nb starts ka kb kc oa held found₀ n i₀ found i = Writing (λ k. targetOf starts ka kb kc oa held (getD codes k 0) (getD na k 0) (getD nb k 0)) n found₀ found i
+Inv-loop codes na nb starts ka kb kc oa held keys seconds found₀ n i₀ found i = Writing (λ k. targetOf starts ka kb kc oa held (getD codes k 0) (getD na k 0) (getD nb k 0)) n found₀ found i
 
 abbrev μ-loop : tie.MeasureT-loop
-μ-loop codes na nb starts ka kb kc oa held found₀ n i₀ found i = n - i
+μ-loop codes na nb starts ka kb kc oa held keys seconds found₀ n i₀ found i = n - i
 
 loop-holds : tie.Need-loop-holds Inv-loop μ-loop
 loop-holds c = write-start _ _ _
 
 resolve-row-requires : tie.Need-resolve-row-requires Inv-loop μ-loop
-resolve-row-requires c κs = let s = c .before .before .before .before .before .before .before .before .before .before .before in ((s .pre .0 .0, s .pre .0 .1), s .pre .1)
+resolve-row-requires c κs = let s = c .before .before .before .before .before .before .before .before .before .before .before .before .before in ((s .pre .0 .0, s .pre .0 .1), s .pre .1)
 
 mul-found : tie.Need-mul-found Inv-loop μ-loop
 mul-found c = omega arith

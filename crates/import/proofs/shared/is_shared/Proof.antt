@@ -5,8 +5,8 @@ use borrow.Author.Needs.{needs}
 use Rattle.import.proofs.shared.is_shared.Statement.{statement}
 use Rattle.import.proofs.shared.is_shared.Tie as tie
 
-shared-slice-read-keys : tie.Need-shared-slice-read-keys
-shared-slice-read-keys c = search needs
+shared-slice-read-count : tie.Need-shared-slice-read-count
+shared-slice-read-count c = search needs
 
 returns : tie.Need-returns
 returns c = row-none _ _ _ _ _ _ _ _ (c .if1 .taken)
@@ -32,7 +32,7 @@ pub is-shared-spec : {M : Type 1} → statement M
 is-shared-spec =
     tie.close
     (tie.spec
-    shared-slice-read-keys
+    shared-slice-read-count
     returns
     shares-key-requires
     returns-2

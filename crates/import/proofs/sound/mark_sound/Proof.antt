@@ -7,16 +7,16 @@ use Rattle.import.proofs.sound.mark_sound.Statement.{statement}
 use Rattle.import.proofs.sound.mark_sound.Tie as tie
 
 abbrev Inv-loop : tie.InvT-loop
-Inv-loop cells kind starts ka kb kc oa held sound₀ n i₀ sound i = Writing (soundAt cells kind starts ka kb kc oa held) n sound₀ sound i
+Inv-loop cells kind starts ka kb kc oa held keys seconds sound₀ n i₀ sound i = Writing (soundAt cells kind starts ka kb kc oa held) n sound₀ sound i
 
 abbrev μ-loop : tie.MeasureT-loop
-μ-loop cells kind starts ka kb kc oa held sound₀ n i₀ sound i = n - i
+μ-loop cells kind starts ka kb kc oa held keys seconds sound₀ n i₀ sound i = n - i
 
 loop-holds : tie.Need-loop-holds Inv-loop μ-loop
 loop-holds c = write-start _ _ _
 
 sound-row-requires : tie.Need-sound-row-requires Inv-loop μ-loop
-sound-row-requires c κs = let s = c .before .before .before .before .before .before .before .before .before .before in
+sound-row-requires c κs = let s = c .before .before .before .before .before .before .before .before .before .before .before .before in
     ((c .loop-test .taken, s .pre .0 .0, s .pre .0 .1, s .pre .0 .2), s .pre .1)
 
 slice-write-sound : tie.Need-slice-write-sound Inv-loop μ-loop

@@ -1,17 +1,17 @@
--- The row's table is known, so its places are in order and within the rows.
+-- The row's table is known, so that the indexes lead to its rows.
 use native.Mathlib.Omega.{arith}
 use Prim.Native.Nat.{_<_}
 use lib.ListN.{getD}
-use Rattle.import.proofs.SoundLaws.{sound-reason, sound-shares, sound-alone, place-ordered, place-within}
+use Rattle.import.proofs.SoundLaws.{sound-reason, sound-shares, sound-alone, place-row, place-within}
 use borrow.Author.Needs.{needs}
 use Rattle.import.proofs.sound.sound_row.Statement.{statement}
 use Rattle.import.proofs.sound.sound_row.Tie as tie
 
 abbrev Here : Type 0
-Here = tie.After-shared-slice-known9
+Here = tie.After-shared-slice-known11
 
 abbrev start : Here → tie.Start
-start c = c .before .before .before .before .before .before .before .before .before .before
+start c = c .before .before .before .before .before .before .before .before .before .before .before .before
 
 -- the row's table is one of ten
 table : (c : Here) → getD (start c .args .kind .now) (start c .args .i) 0 < 10
@@ -32,27 +32,12 @@ shared-slice-read-t c = search needs
 cast-t : tie.Need-cast-t
 cast-t c = omega (arith, table c)
 
-mul-lo : tie.Need-mul-lo
-mul-lo c = omega (arith, table c)
-
-array-read-lo : tie.Need-array-read-lo
-array-read-lo c = omega (arith, table c)
-
-add-hi : tie.Need-add-hi
-add-hi c = omega (arith, table c)
-
-mul-hi : tie.Need-mul-hi
-mul-hi c = omega (arith, table c)
-
-array-read-hi : tie.Need-array-read-hi
-array-read-hi c = omega (arith, table c)
-
 is-shared-requires : tie.Need-is-shared-requires
 is-shared-requires c κs = let s = start c in
     let p = s .pre .0 .1 in
     let h = s .pre .0 .0 in
     let w = place-within _ _ _ p _ h in
-    (place-ordered _ _ _ p _ h, p .high _ h, omega arith, omega arith, omega arith, omega arith, omega arith)
+    (place-row _ _ _ p _ h, ((s .pre .1 .1 .0 _ (table c), s .pre .1 .1 .1 _ (table c)), (omega arith, omega arith, omega arith, omega arith, omega arith)))
 
 returns-2 : tie.Need-returns-2
 returns-2 c = sound-shares _ _ _ _ _ _ _ _ _ (c .before .before .before .if1 .left) _ (c .before .is-shared .ensures) (c .if2 .taken)
@@ -69,11 +54,6 @@ sound-row-spec =
     returns
     shared-slice-read-t
     cast-t
-    mul-lo
-    array-read-lo
-    add-hi
-    mul-hi
-    array-read-hi
     is-shared-requires
     returns-2
     returns-3)
