@@ -4,7 +4,7 @@ use crate::reads::half_at;
 use crate::reads::word_at;
 ghost use mathlib.Core.Path.{_≡_};
 ghost use Prim.Native.Nat.{ℕ, _+_, _≤_, _<_};
-ghost use lib.ListN.{length, getD, replicate};
+ghost use lib.ListN.{length, getD};
 ghost use lib.Seq.{sets};
 ghost use Rattle.import.specs.Model.{tabulate};
 ghost use Rattle.import.specs.Trails.{bucketOf, slotAt, Indexed};
