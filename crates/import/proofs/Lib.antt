@@ -3,6 +3,7 @@ pub mod BaseLaws
 pub mod BucketLaws
 pub mod ChainLaws
 pub mod ChainMeaning
+pub mod CircleLaws
 pub mod CodeTies
 pub mod CountMeaning
 pub mod CountTies

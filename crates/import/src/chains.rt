@@ -23,12 +23,21 @@ fn next_row(oc: &[u8], found: &[u16], sound: &[u8], i: usize) -> usize
     NO_ROW
 }
 
-// Whether within n steps the chain from row i comes to row z.
+// Twice as many steps, up to a number that no chain reaches.
+fn longer(steps: usize) -> usize {
+    if steps < 16384 { steps * 2 } else { steps }
+}
+
+// Whether within n steps the chain from row i comes to row z. A row that was passed is kept, after more steps each time a later
+// one: where it is met again, the chain goes round without coming to z.
 pub(crate) fn comes_to(oc: &[u8], found: &[u16], sound: &[u8], z: usize, n: usize, i: usize) -> bool
     ensures { λ r. ⌜ r ≡ comesTo (now (oc .entry)) (now (found .entry)) (now (sound .entry)) z n i ⌝ }
 {
     let mut left = n;
     let mut at = i;
+    let mut passed = i;
+    let mut steps: usize = 1;
+    let mut wait: usize = 1;
     while 0 < left {
         let next = next_row(oc, found, sound, at);
         if next == NO_ROW {
@@ -37,8 +46,18 @@ pub(crate) fn comes_to(oc: &[u8], found: &[u16], sound: &[u8], z: usize, n: usiz
         if next == z {
             return true;
         }
+        if next == passed {
+            return false;
+        }
         at = next;
         left -= 1;
+        if wait == 0 {
+            passed = next;
+            steps = longer(steps);
+            wait = steps;
+        } else {
+            wait -= 1;
+        }
     }
     false
 }
