@@ -1,0 +1,20 @@
+-- Past the end it is 0. Assumes nothing.
+use Rattle.lookup.proofs.FindLaws.{past-end}
+use borrow.Author.Needs.{needs}
+use Rattle.lookup.proofs.find.start_at.Statement.{statement}
+use Rattle.lookup.proofs.find.start_at.Tie as tie
+
+mul-result : tie.Need-mul-result
+mul-result c = search needs
+
+shared-slice-read-result : tie.Need-shared-slice-read-result
+shared-slice-read-result c = search needs
+
+returns : tie.Need-returns
+returns c = search needs
+
+returns-2 : tie.Need-returns-2
+returns-2 c = past-end (c .before .args .starts .now) (c .before .args .i) (c .if1 .left)
+
+pub start-at-spec : {M : Type 1} → statement M
+start-at-spec = tie.close (tie.spec mul-result shared-slice-read-result returns returns-2)

@@ -1,0 +1,4 @@
+pub mod GoodRows
+pub mod Holder
+pub mod Listed
+pub mod Walk
