@@ -8,7 +8,7 @@ use native.Mathlib.Omega.{arith}
 use lib.Dec.{eqb, ltb}
 use lib.IntN.{pos}
 use lib.ListN.{length}
-use borrow.Author.Tests.{eq-eqb, ne-eqb, eqb-true, lt-ltb, le-ltb}
+use borrow.Author.Tests.{eq-eqb, ne-eqb, eqb-true, lt-ltb, le-ltb, ltb-false}
 use Rattle.laws.proofs.Cases.{false≢true}
 use Rattle.laws.specs.Said.{value}
 use Rattle.fields.specs.Bits.{numberAt}
@@ -85,3 +85,32 @@ module _ (p : List ℕ) where
             go : (b ≡ false) ⊎ ((b ≡ true) × (9 ≤ length p)) → heading b a n ≡ cond (b && ltb (length p) 9) (refused 23) (heading b a n)
             go (inl e) = rw e
             go (inr e) = rw (e .0, le-ltb _ _ (e .1))
+
+-- what a header that passes tells
+pub record Headed (p : List ℕ) (f : Bool) (a : ℕ) : Type 0 where
+  pub flag : f ≡ flagged p
+  pub id : a ≡ apid p
+  pub long : 7 ≤ length p
+  pub short : length p ≤ 8192
+  pub room : f ≡ true → 9 ≤ length p
+
+module _ (p : List ℕ) {f : Bool} {a c : ℕ} where
+  last-test : (b r : Bool) → flagged p ≡ b → ltb (length p) 9 ≡ r → 7 ≤ length p → length p ≤ 8192
+      → heading f a c ≡ cond (b && r) (refused 23) (heading b (apid p) (sequenceCount p)) → Headed p f a
+  last-test true true g q l s e = absurd (false≢true cc)
+  last-test true false g q l s e = record { flag = cc; id = cc; long = l; short = s; room = λ t. ltb-false _ _ q }
+  last-test false r g q l s e = record { flag = cc; id = cc; long = l; short = s; room = λ t. absurd (false≢true cc) }
+
+  tests : (s l v w : Bool) → ltb (length p) 7 ≡ s → ltb 8192 (length p) ≡ l
+      → heading f a c ≡ cond (s || l) (refused 20) (cond v (refused 21) (cond w (refused 22) (cond (flagged p && ltb (length p) 9) (refused 23) (heading (flagged p) (apid p) (sequenceCount p)))))
+      → Headed p f a
+  tests true l v w x y e = absurd (false≢true cc)
+  tests false true v w x y e = absurd (false≢true cc)
+  tests false false true w x y e = absurd (false≢true cc)
+  tests false false false true x y e = absurd (false≢true cc)
+  tests false false false false x y e = last-test (flagged p) (ltb (length p) 9) refl refl (ltb-false _ _ x) (ltb-false _ _ y) e
+
+  pub header-told : heading f a c ≡ headerOf p → Headed p f a
+  unfolding headerOf
+  header-told e =
+      tests (ltb (length p) 7) (ltb 8192 (length p)) (not (eqb (version p) 0) || not (eqb (typeBit p) 0)) (not (eqb (lengthField p + 7) (length p))) refl refl e
