@@ -1,0 +1,3 @@
+pub mod RawLaws
+pub mod ReadingLaws
+pub mod ValidityLaw

@@ -1,0 +1,127 @@
+// The raw value of an occurrence.
+use crate::place::FieldStart;
+use crate::place::start_of;
+use fields::field::Unsigned;
+use fields::field::read_unsigned;
+use fields::sign::Signed;
+use fields::sign::read_signed;
+use fields::text::StringAt;
+use fields::text::string_at;
+use rows::decoded::pcf_of;
+use rows::decoded::plf_of;
+use rows::width::Width;
+use rows::width::width_of;
+use units::BitOffset;
+use units::ByteOffset;
+ghost use mathlib.Core.Path.{_≡_};
+ghost use Prim.Native.Nat.{_+_, _*_, _<_, _≤_};
+ghost use lib.ListN.{length};
+ghost use Rattle.rows.specs.declared.width.Width.the-variants.{Bits};
+ghost use Rattle.rows.specs.Records.{plfRow, pcfRow};
+ghost use Rattle.fields.specs.Field.{unsignedAt};
+ghost use Rattle.fields.specs.Sign.{signedAt};
+ghost use Rattle.fields.specs.Text.{stringAt};
+ghost use Rattle.readings.specs.RawValues.{saidRaw, integerRaw, stringRaw, isString, Wide, fieldRaw, rawIn, rawOf};
+
+// A packet has at most so many bytes.
+const PACKET_BYTES: usize = 8192;
+
+// An integer, or the part of the packet that a string is; or why there is none, with the byte in which the field starts.
+pub enum RawValue {
+    Number(i64),
+    Part(ByteOffset, usize),
+    PacketTooLong,
+    NoField,
+    NoOccurrence,
+    Outside(ByteOffset),
+    OffByte(ByteOffset),
+}
+
+fn is_string(ptc: u32) -> bool
+    ensures { λ r. ⌜ r ≡ isString ptc ⌝ }
+{
+    if ptc == 7 {
+        return true;
+    }
+    ptc == 8
+}
+
+fn string_raw(p: &[u8], at: BitOffset, bytes: usize) -> RawValue
+    ensures { λ r. ⌜ saidRaw r ≡ stringRaw (at .0) bytes (stringAt (now (p .entry)) (at .0) bytes) ⌝ }
+{
+    let byte = ByteOffset(at.0 / 8);
+    match string_at(p, at, bytes) {
+        StringAt::Inside(from) => RawValue::Part(byte, bytes),
+        StringAt::Outside => RawValue::Outside(byte),
+        StringAt::OffByte => RawValue::OffByte(byte),
+        StringAt::NoBytes => RawValue::NoField,
+    }
+}
+
+fn signed_raw(p: &[u8], at: BitOffset, width: u32) -> RawValue
+    ensures { λ r. ⌜ saidRaw r ≡ integerRaw (at .0) (signedAt (now (p .entry)) (at .0) width) ⌝ }
+{
+    match read_signed(p, at, width) {
+        Signed::Is(v) => RawValue::Number(v),
+        Signed::Outside => RawValue::Outside(ByteOffset(at.0 / 8)),
+        Signed::NoWidth => RawValue::NoField,
+    }
+}
+
+// Of at most 32 bits, which an i64 holds.
+fn unsigned_raw(p: &[u8], at: BitOffset, width: u32) -> RawValue
+    requires { ⌜ width ≤ 32 ⌝ }
+    ensures { λ r. ⌜ saidRaw r ≡ integerRaw (at .0) (unsignedAt (now (p .entry)) (at .0) width) ⌝ }
+{
+    match read_unsigned(p, at, width) {
+        Unsigned::Is(v) => RawValue::Number(v as i64),
+        Unsigned::Outside => RawValue::Outside(ByteOffset(at.0 / 8)),
+        Unsigned::NoWidth => RawValue::NoField,
+    }
+}
+
+// A field of `width` bits at a byte that the packet may not have.
+fn field_raw(p: &[u8], ptc: u32, width: u32, start: FieldStart) -> RawValue
+    requires { ⌜ (length (now p) ≤ 8192) × (start .bit < 8) × Wide ptc width ⌝ }
+    ensures { λ r. ⌜ saidRaw r ≡ fieldRaw (now (p .entry)) ptc width (8 * start .byte .0 + start .bit) ⌝ }
+{
+    let byte = start.byte.0;
+    if p.len() < byte {
+        return RawValue::Outside(ByteOffset(byte));
+    }
+    let at = 8 * byte + start.bit;
+    if is_string(ptc) {
+        return string_raw(p, BitOffset(at), (width / 8) as usize);
+    }
+    if ptc == 4 {
+        return signed_raw(p, BitOffset(at), width);
+    }
+    unsigned_raw(p, BitOffset(at), width)
+}
+
+// Occurrence k of a field of `width` bits, by the line of its plf row.
+fn occurrence_raw(p: &[u8], plf: &[u8], ptc: u32, width: u32, k: usize) -> RawValue
+    requires { ⌜ (length (now p) ≤ 8192) × Wide ptc width ⌝ }
+    ensures { λ r. ⌜ saidRaw r ≡ rawIn (now (p .entry)) (plfRow (now (plf .entry))) ptc k (Bits width) ⌝ }
+{
+    let row = plf_of(plf);
+    if row.nbocc as usize <= k {
+        return RawValue::NoOccurrence;
+    }
+    let start = start_of(row.offby, row.offbi, row.lgocc, k);
+    field_raw(p, ptc, width, start)
+}
+
+// The raw value of occurrence k by the lines of its rows.
+pub fn raw_of(p: &[u8], plf: &[u8], pcf: &[u8], k: usize) -> RawValue
+    ensures { λ r. ⌜ saidRaw r ≡ rawOf (now (p .entry)) (plfRow (now (plf .entry))) (pcfRow (now (pcf .entry))) k ⌝ }
+{
+    if PACKET_BYTES < p.len() {
+        return RawValue::PacketTooLong;
+    }
+    let what = pcf_of(pcf);
+    match width_of(what.ptc, what.pfc) {
+        Width::Bits(width) => occurrence_raw(p, plf, what.ptc, width, k),
+        Width::Refused => RawValue::NoField,
+    }
+}
