@@ -1,0 +1,5 @@
+pub mod ExtractLaws
+pub mod FoundLaws
+pub mod IdentifierLaws
+pub mod IdentifyLaws
+pub mod TakenLaws

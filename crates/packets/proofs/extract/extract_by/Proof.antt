@@ -1,0 +1,50 @@
+-- By the sizes of the tables.
+use mathlib.Core.Path.{sym, _∙_}
+use borrow.Author.Needs.{needs}
+use Rattle.packets.specs.Refusals.{numberOf, placeOf}
+use Rattle.readings.specs.Readings.{refused}
+use Rattle.packets.specs.Extraction.{said, extractBy}
+use Rattle.packets.proofs.TakenLaws.{size-long, size-many, size-fit, small-answer}
+use Rattle.packets.proofs.extract.extract_by.Statement.{statement}
+use Rattle.packets.proofs.extract.extract_by.Tie as tie
+
+check-sizes-requires : tie.Need-check-sizes-requires
+check-sizes-requires c κs = search needs
+
+enum-known-table : tie.Need-enum-known-table
+enum-known-table c = search needs
+
+enum-known-table-2 : tie.Need-enum-known-table-2
+enum-known-table-2 c = search needs
+
+enum-told : tie.Need-enum-told
+enum-told c = search needs
+
+extract-fitting-requires : tie.Need-extract-fitting-requires
+extract-fitting-requires c κs = size-fit _ (sym (c .before .before .check-sizes .ensures) ∙ c .enum-told .given .1) .few
+
+returns : tie.Need-returns
+unfolding said numberOf placeOf extractBy
+returns c = size-long refused _ _ (sym (c .before .before .before .check-sizes .ensures) ∙ c .before .table .given .1)
+
+returns-2 : tie.Need-returns-2
+unfolding said numberOf placeOf extractBy
+returns-2 c = size-many refused _ _ (sym (c .before .before .before .check-sizes .ensures) ∙ c .before .table2 .given .1)
+
+returns-3 : tie.Need-returns-3
+unfolding extractBy
+returns-3 c =
+    c .extract-fitting .ensures ∙ small-answer refused _ _ (size-fit _ (sym (c .before .before .before .check-sizes .ensures) ∙ c .before .enum-told .given .1))
+
+pub extract-by-spec : {M : Type 1} → statement M
+extract-by-spec =
+    tie.close
+    (tie.spec
+    check-sizes-requires
+    enum-known-table
+    enum-known-table-2
+    enum-told
+    extract-fitting-requires
+    returns
+    returns-2
+    returns-3)
