@@ -1,0 +1,23 @@
+-- `calibration::ints::item` meets its contract: past the end the element is 0. Assumes nothing.
+use lib.IntN.{pos}
+use lib.ListN.{List·getD-eq-default}
+use mathlib.Core.Path.{sym}
+use native.Mathlib.Omega.{arith}
+use borrow.Author.Needs.{needs}
+use Rattle.calibration.proofs.ints.item.Statement.{statement}
+use Rattle.calibration.proofs.ints.item.Tie as tie
+
+mul-result : tie.Need-mul-result
+mul-result c = search needs
+
+shared-slice-copy-out-result : tie.Need-shared-slice-copy-out-result
+shared-slice-copy-out-result c = search needs
+
+returns : tie.Need-returns
+returns c = search needs
+
+returns-2 : tie.Need-returns-2
+returns-2 c = sym (List·getD-eq-default (c .before .args .xs .now) (pos 0) {n = c .before .args .i} (omega arith))
+
+pub item-spec : {M : Type 1} → statement M
+item-spec = tie.close (tie.spec mul-result shared-slice-copy-out-result returns returns-2)
