@@ -1,10 +1,8 @@
 // One import of full tables, for its time and its stack.
 // Each table has 1,024 rows, and all are good but 512 of caf: a good row of caf has two rows of cap or more, and cap has 1,024.
+use full_tables::full;
 use import::Imported;
 use import::import;
-
-mod fill;
-mod full;
 
 fn number(label: &[u8], n: usize) {
     io::write_all(1, label);

@@ -2,7 +2,7 @@
 use crate::fill::number_rows;
 use crate::fill::repeat;
 
-pub(crate) fn pid(table: &mut [u8]) {
+pub fn pid(table: &mut [u8]) {
     repeat(
         table,
         0,
@@ -12,12 +12,23 @@ pub(crate) fn pid(table: &mut [u8]) {
     number_rows(table, 64, 20, 1000, 1);
 }
 
-pub(crate) fn pic(table: &mut [u8]) {
+// The same rows without identification fields: the first is that of a packet with APID 1000, type 3 and subtype 25.
+pub fn pid_without_fields(table: &mut [u8]) {
+    repeat(
+        table,
+        0,
+        b"3\t25\t1000\t0\t0\t4000001000\tHousekeeping\track\t-1\t10\tY\t5\tY\t1\tN\tnone\n",
+    );
+    number_rows(table, 64, 5, 1000, 1);
+    number_rows(table, 64, 20, 1000, 1);
+}
+
+pub fn pic(table: &mut [u8]) {
     repeat(table, 0, b"255\t255\t0x1FF\t040\t07777\t0x8\t51000\n");
     number_rows(table, 34, 29, 1000, 1);
 }
 
-pub(crate) fn plf(table: &mut [u8]) {
+pub fn plf(table: &mut [u8]) {
     repeat(
         table,
         0,
@@ -27,8 +38,18 @@ pub(crate) fn plf(table: &mut [u8]) {
     number_rows(table, 59, 15, 1000, 1);
 }
 
+// All parameters in one packet, each of eight bits at byte 12.
+pub fn plf_of_one_packet(table: &mut [u8]) {
+    repeat(
+        table,
+        0,
+        b"PARA1000\t4000001000\t00014\t0\t0001\t00000\tABCDEFGHI\tABCDEFGHI\n",
+    );
+    number_rows(table, 59, 4, 1000, 1);
+}
+
 // Each row names the next by VALID, and the last none: one chain of all rows.
-pub(crate) fn pcf(table: &mut [u8]) {
+pub fn pcf(table: &mut [u8]) {
     repeat(
         table,
         0,
@@ -45,7 +66,7 @@ pub(crate) fn pcf(table: &mut [u8]) {
 }
 
 // Two rows of cap are there for each of the first 512.
-pub(crate) fn caf(table: &mut [u8]) {
+pub fn caf(table: &mut [u8]) {
     repeat(
         table,
         0,
@@ -54,13 +75,13 @@ pub(crate) fn caf(table: &mut [u8]) {
     number_rows(table, 61, 6, 1000, 1);
 }
 
-pub(crate) fn cap(table: &mut [u8]) {
+pub fn cap(table: &mut [u8]) {
     repeat(table, 0, b"CURVES1000\t0x000000001000\t0x00000000000F\n");
     number_rows(table, 41, 6, 1000, 2);
     number_rows(table, 41, 21, 1000, 1);
 }
 
-pub(crate) fn txf(table: &mut [u8]) {
+pub fn txf(table: &mut [u8]) {
     repeat(
         table,
         0,
@@ -69,7 +90,7 @@ pub(crate) fn txf(table: &mut [u8]) {
     number_rows(table, 50, 6, 1000, 1);
 }
 
-pub(crate) fn txp(table: &mut [u8]) {
+pub fn txp(table: &mut [u8]) {
     repeat(
         table,
         0,
@@ -78,12 +99,12 @@ pub(crate) fn txp(table: &mut [u8]) {
     number_rows(table, 56, 6, 1000, 1);
 }
 
-pub(crate) fn ocf(table: &mut [u8]) {
+pub fn ocf(table: &mut [u8]) {
     repeat(table, 0, b"PARA1000\t99\t01\tC\tI\n");
     number_rows(table, 19, 4, 1000, 1);
 }
 
-pub(crate) fn ocp(table: &mut [u8]) {
+pub fn ocp(table: &mut [u8]) {
     repeat(
         table,
         0,
