@@ -1,0 +1,94 @@
+// 01: "A validity parameter that can't be read makes it invalid."
+use crate::sets::parameter;
+
+// ELSE is in another packet, NONE and DERIVED in none; the plf row of BAD is bad, and OUT leaves the packet.
+fn of(name: &[u8]) {
+    parameter(
+        b"",
+        b"\
+            3\t25\t11\t\t\t6\t\t\t\t\t\t\t\t\t\t\n\
+            3\t25\t10\t\t\t7\t\t\t\t\t\t\t\t\t\t\n\
+        ",
+        b"\
+            ELSE\t6\t11\t0\t\t\t\t\n\
+            BAD\t7\t8192\t0\t\t\t\t\n\
+            OUT\t7\t13\t0\t\t\t\t\n\
+            IFELSE\t7\t13\t0\t\t\t\t\n\
+            IFNONE\t7\t13\t0\t\t\t\t\n\
+            IFDERIVE\t7\t13\t0\t\t\t\t\n\
+            IFBAD\t7\t13\t0\t\t\t\t\n\
+            IFOUT\t7\t12\t0\t\t\t\t\n\
+            IFIFOUT\t7\t13\t0\t\t\t\t\n\
+            OUTTOO\t7\t13\t0\t\t\t\t\n\
+        ",
+        b"\
+            ELSE\t\t\t\t3\t4\t\t\t\tN\tR\t\t\t\t\t\t\t\t\t\t\t\t\n\
+            NONE\t\t\t\t3\t4\t\t\t\tN\tR\t\t\t\t\t\t\t\t\t\t\t\t\n\
+            DERIVED\t\t\t\t3\t4\t\t\t\tN\tD\t\t\t\t\t\t\t\t\t\t\t\t\n\
+            BAD\t\t\t\t3\t4\t\t\t\tN\tR\t\t\t\t\t\t\t\t\t\t\t\t\n\
+            OUT\t\t\t\t3\t12\t\t\t\tN\tR\t\t\t\t\t\t\t\t\t\t\t\t\n\
+            IFELSE\t\t\t\t3\t4\t\tELSE\t\tN\tR\t\t\t\t\t\t\t133\t\t\t\t\t\n\
+            IFNONE\t\t\t\t3\t4\t\tNONE\t\tN\tR\t\t\t\t\t\t\t0\t\t\t\t\t\n\
+            IFDERIVE\t\t\t\t3\t4\t\tDERIVED\t\tN\tR\t\t\t\t\t\t\t0\t\t\t\t\t\n\
+            IFBAD\t\t\t\t3\t4\t\tBAD\t\tN\tR\t\t\t\t\t\t\t0\t\t\t\t\t\n\
+            IFOUT\t\t\t\t3\t4\t\tOUT\t\tN\tR\t\t\t\t\t\t\t13312\t\t\t\t\t\n\
+            IFIFOUT\t\t\t\t3\t4\t\tIFOUT\t\tN\tR\t\t\t\t\t\t\t18\t\t\t\t\t\n\
+            OUTTOO\t\t\t\t3\t12\t\tOUT\t\tN\tR\t\t\t\t\t\t\t\t\t\t\t\t\n\
+        ",
+        name,
+        0,
+    );
+}
+
+// SELF is on a circle and TOSELF leads to it; PTC 6 is no validity parameter's.
+fn bad_chains(name: &[u8]) {
+    parameter(
+        b"",
+        b"3\t25\t10\t\t\t7\t\t\t\t\t\t\t\t\t\t\n",
+        b"\
+            SELF\t7\t10\t0\t\t\t\t\n\
+            TOSELF\t7\t10\t0\t\t\t\t\n\
+            BITS\t7\t10\t0\t\t\t\t\n\
+            IFBITS\t7\t10\t0\t\t\t\t\n\
+        ",
+        b"\
+            SELF\t\t\t\t3\t4\t\tSELF\t\tN\tR\t\t\t\t\t\t\t255\t\t\t\t\t\n\
+            TOSELF\t\t\t\t3\t4\t\tSELF\t\tN\tR\t\t\t\t\t\t\t255\t\t\t\t\t\n\
+            BITS\t\t\t\t6\t8\t\t\t\tN\tR\t\t\t\t\t\t\t\t\t\t\t\t\n\
+            IFBITS\t\t\t\t3\t4\t\tBITS\t\tN\tR\t\t\t\t\t\t\t255\t\t\t\t\t\n\
+        ",
+        name,
+        0,
+    );
+}
+
+fn not_there() {
+    of(b"ELSE");
+    of(b"IFELSE");
+    of(b"NONE");
+    of(b"IFNONE");
+    of(b"DERIVED");
+    of(b"IFDERIVE");
+    of(b"BAD");
+    of(b"IFBAD");
+}
+
+fn outside() {
+    of(b"OUT");
+    of(b"IFOUT");
+    of(b"IFIFOUT");
+    of(b"OUTTOO");
+}
+
+fn bad_rows() {
+    bad_chains(b"SELF");
+    bad_chains(b"TOSELF");
+    bad_chains(b"BITS");
+    bad_chains(b"IFBITS");
+}
+
+pub(crate) fn all() {
+    not_there();
+    outside();
+    bad_rows();
+}
