@@ -118,6 +118,16 @@ fn limit_counts() {
         b"P1\t0\tS\t0\t10\t\t\n",
     );
     limits(
+        b"NBOOL 1 with two ocp rows",
+        b"",
+        b"P1\t\t\t\t3\t4\t\t\t\tN\tR\t\t\t\t\t\t\t\t\t\t\t\t\n",
+        b"P1\t2\t1\tU\tI\n",
+        b"\
+            P1\t0\tS\t0\t10\t\t\n\
+            P1\t1\tH\t0\t20\t\t\n\
+        ",
+    );
+    limits(
         b"NBOOL 1 with an ocp row of reason 11",
         b"",
         b"P1\t\t\t\t3\t4\t\t\t\tN\tR\t\t\t\t\t\t\t\t\t\t\t\t\n",

@@ -43,6 +43,16 @@ fn too_long() {
     let long = [b'A'; 65537];
     ends(b"ocp of 65537 bytes", b"", b"", b"", b"", b"", b"", &long);
     ends(
+        b"plf and ocp of 65537 bytes",
+        b"",
+        b"",
+        b"",
+        &long,
+        b"",
+        b"",
+        &long,
+    );
+    ends(
         b"pid of 1025 rows and ocp of 65537 bytes",
         b"",
         &many,

@@ -13,7 +13,7 @@ fn numbers_of(name: &[u8]) {
             PAST8\t7\t14\t0\t\t\t\t\n\
             SIGNED8\t7\t13\t1\t\t\t\t\n\
             ENUM9\t7\t13\t0\t\t\t\t\n\
-            BITS32\t7\t10\t1\t\t\t\t\n\
+            OUTBITS\t7\t10\t1\t\t\t\t\n\
         ",
         b"\
             FIT24\t\t\t\t3\t13\t\t\t\tN\tR\t\t\t\t\t\t\t\t\t\t\t\t\n\
@@ -23,7 +23,7 @@ fn numbers_of(name: &[u8]) {
             PAST8\t\t\t\t3\t4\t\t\t\tN\tR\t\t\t\t\t\t\t\t\t\t\t\t\n\
             SIGNED8\t\t\t\t4\t4\t\t\t\tN\tR\t\t\t\t\t\t\t\t\t\t\t\t\n\
             ENUM9\t\t\t\t2\t9\t\t\t\tN\tR\t\t\t\t\t\t\t\t\t\t\t\t\n\
-            BITS32\t\t\t\t6\t32\t\t\t\tN\tR\t\t\t\t\t\t\t\t\t\t\t\t\n\
+            OUTBITS\t\t\t\t6\t32\t\t\t\tN\tR\t\t\t\t\t\t\t\t\t\t\t\t\n\
         ",
         name,
         0,
@@ -37,7 +37,7 @@ fn strings_of(name: &[u8], occurrence: usize) {
         b"\
             FIT4\t7\t10\t0\t\t\t\t\n\
             OUT5\t7\t10\t0\t\t\t\t\n\
-            TEXT2\t7\t13\t0\t\t\t\t\n\
+            OUTTEXT\t7\t13\t0\t\t\t\t\n\
             OFF1\t7\t10\t4\t\t\t\t\n\
             TEXTOFF3\t7\t10\t7\t\t\t\t\n\
             OFFOUT2\t7\t13\t4\t\t\t\t\n\
@@ -47,7 +47,7 @@ fn strings_of(name: &[u8], occurrence: usize) {
         b"\
             FIT4\t\t\t\t7\t4\t\t\t\tN\tR\t\t\t\t\t\t\t\t\t\t\t\t\n\
             OUT5\t\t\t\t7\t5\t\t\t\tN\tR\t\t\t\t\t\t\t\t\t\t\t\t\n\
-            TEXT2\t\t\t\t8\t2\t\t\t\tT\tR\t\t\t\t\t\t\t\t\t\t\t\t\n\
+            OUTTEXT\t\t\t\t8\t2\t\t\t\tT\tR\t\t\t\t\t\t\t\t\t\t\t\t\n\
             OFF1\t\t\t\t7\t1\t\t\t\tN\tR\t\t\t\t\t\t\t\t\t\t\t\t\n\
             TEXTOFF3\t\t\t\t8\t3\t\t\t\tT\tR\t\t\t\t\t\t\t\t\t\t\t\t\n\
             OFFOUT2\t\t\t\t7\t2\t\t\t\tN\tR\t\t\t\t\t\t\t\t\t\t\t\t\n\
@@ -68,13 +68,13 @@ fn numbers_at_the_end() {
     numbers_of(b"PAST8");
     numbers_of(b"SIGNED8");
     numbers_of(b"ENUM9");
-    numbers_of(b"BITS32");
+    numbers_of(b"OUTBITS");
 }
 
 fn strings_at_the_end() {
     strings_of(b"FIT4", 0);
     strings_of(b"OUT5", 0);
-    strings_of(b"TEXT2", 0);
+    strings_of(b"OUTTEXT", 0);
 }
 
 // Off a byte is 29, and 28 where it is outside too.

@@ -11,7 +11,7 @@ fn of(name: &[u8]) {
             3\t25\t10\t\t\t7\t\t\t\t\t\t\t\t\t\t\n\
         ",
         b"\
-            U16\t0x7\t12\t0\t\t\t\t\n\
+            THERE\t0x7\t12\t0\t\t\t\t\n\
             ABCDEFGH\t7\t10\t0\t\t\t\t\n\
             ELSE\t6\t12\t0\t\t\t\t\n\
             DYNAMIC\t7\t12\t0\t\t\t\t\n\
@@ -22,7 +22,7 @@ fn of(name: &[u8]) {
             PAST8191\t7\t8192\t0\t\t\t\t\n\
         ",
         b"\
-            U16\t\t\t\t3\t12\t\t\t\tN\tR\t\t\t\t\t\t\t\t\t\t\t\t\n\
+            THERE\t\t\t\t3\t12\t\t\t\tN\tR\t\t\t\t\t\t\t\t\t\t\t\t\n\
             ABCDEFGH\t\t\t\t3\t4\t\t\t\tN\tR\t\t\t\t\t\t\t\t\t\t\t\t\n\
             ELSE\t\t\t\t3\t12\t\t\t\tN\tR\t\t\t\t\t\t\t\t\t\t\t\t\n\
             DYNAMIC\t\t\t\t3\t12\t\t\t\tN\tD\t\t\t\t\t\t\t\t\t\t\t\t\n\
@@ -37,7 +37,7 @@ fn of(name: &[u8]) {
 }
 
 fn rows_of() {
-    of(b"U16");
+    of(b"THERE");
     of(b"NOPLF");
     of(b"ELSE");
     of(b"DYNAMIC");

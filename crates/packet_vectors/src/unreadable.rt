@@ -1,7 +1,7 @@
 // 01: "A validity parameter that can't be read makes it invalid."
 use crate::sets::parameter;
 
-// ELSE is in another packet, NONE and DERIVED in none; the plf row of BAD is bad, and OUT leaves the packet.
+// OTHER is in another packet, NONE and DERIVED in none; the plf row of BAD is bad, and OUT leaves the packet.
 fn of(name: &[u8]) {
     parameter(
         b"",
@@ -10,10 +10,10 @@ fn of(name: &[u8]) {
             3\t25\t10\t\t\t7\t\t\t\t\t\t\t\t\t\t\n\
         ",
         b"\
-            ELSE\t6\t11\t0\t\t\t\t\n\
+            OTHER\t6\t11\t0\t\t\t\t\n\
             BAD\t7\t8192\t0\t\t\t\t\n\
             OUT\t7\t13\t0\t\t\t\t\n\
-            IFELSE\t7\t13\t0\t\t\t\t\n\
+            IFOTHER\t7\t13\t0\t\t\t\t\n\
             IFNONE\t7\t13\t0\t\t\t\t\n\
             IFDERIVE\t7\t13\t0\t\t\t\t\n\
             IFBAD\t7\t13\t0\t\t\t\t\n\
@@ -22,12 +22,12 @@ fn of(name: &[u8]) {
             OUTTOO\t7\t13\t0\t\t\t\t\n\
         ",
         b"\
-            ELSE\t\t\t\t3\t4\t\t\t\tN\tR\t\t\t\t\t\t\t\t\t\t\t\t\n\
+            OTHER\t\t\t\t3\t4\t\t\t\tN\tR\t\t\t\t\t\t\t\t\t\t\t\t\n\
             NONE\t\t\t\t3\t4\t\t\t\tN\tR\t\t\t\t\t\t\t\t\t\t\t\t\n\
             DERIVED\t\t\t\t3\t4\t\t\t\tN\tD\t\t\t\t\t\t\t\t\t\t\t\t\n\
             BAD\t\t\t\t3\t4\t\t\t\tN\tR\t\t\t\t\t\t\t\t\t\t\t\t\n\
             OUT\t\t\t\t3\t12\t\t\t\tN\tR\t\t\t\t\t\t\t\t\t\t\t\t\n\
-            IFELSE\t\t\t\t3\t4\t\tELSE\t\tN\tR\t\t\t\t\t\t\t133\t\t\t\t\t\n\
+            IFOTHER\t\t\t\t3\t4\t\tOTHER\t\tN\tR\t\t\t\t\t\t\t133\t\t\t\t\t\n\
             IFNONE\t\t\t\t3\t4\t\tNONE\t\tN\tR\t\t\t\t\t\t\t0\t\t\t\t\t\n\
             IFDERIVE\t\t\t\t3\t4\t\tDERIVED\t\tN\tR\t\t\t\t\t\t\t0\t\t\t\t\t\n\
             IFBAD\t\t\t\t3\t4\t\tBAD\t\tN\tR\t\t\t\t\t\t\t0\t\t\t\t\t\n\
@@ -63,8 +63,8 @@ fn bad_chains(name: &[u8]) {
 }
 
 fn not_there() {
-    of(b"ELSE");
-    of(b"IFELSE");
+    of(b"OTHER");
+    of(b"IFOTHER");
     of(b"NONE");
     of(b"IFNONE");
     of(b"DERIVED");
