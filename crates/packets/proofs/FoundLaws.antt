@@ -5,7 +5,7 @@ use mathlib.Core.Option.{Option, none, some}
 use Prim.Native.Nat.{ℕ, _≤_, _<_}
 use native.Mathlib.Omega.{arith}
 use lib.ListN.{length, getD, replicate, length-replicate}
-use lib.Seq.{sets, length-sets}
+use lib.Seq.{sets}
 use Rattle.schemas.specs.declared.Table.{Table}
 use Rattle.schemas.specs.declared.Table.the-variants.{Pid, Pic}
 use Rattle.rows.specs.Records.{picRow, pidRow}
@@ -20,7 +20,7 @@ use Rattle.lookup.specs.declared.FiveNumbers.{FiveNumbers}
 use Rattle.lookup.specs.declared.Wanted.{Wanted}
 use Rattle.lookup.specs.declared.Space.{Space}
 use Rattle.lookup.specs.declared.Space.the-variants.{Packet, Identification, IdentificationOfAny}
-use Rattle.lookup.proofs.LookupLaws.{holder-found, holder-none, row-bytes}
+use Rattle.lookup.proofs.LookupLaws.{holder-found, holder-none, row-bytes, listed-length}
 use Rattle.packets.specs.Found.{RowFound}
 use Rattle.packets.specs.Identifiers.{Identifiers, are, identifiersBy}
 use Rattle.packets.specs.Numbers.{orOther, picRowFor, identifiersFrom}
@@ -28,7 +28,7 @@ use Rattle.packets.specs.Identification.{refused, identified, chosen, ch
 
 -- an array that was listed into has its 1,024 places
 pub places : (f : Row → ℕ) (text cells : List ℕ) {xs : List ℕ} → xs ≡ sets (replicate 1024 0) 0 (map f (looked text cells)) → 1024 ≡ length xs
-places f text cells e = sym (ap length e ∙ length-sets (replicate 1024 0) 0 (map f (looked text cells)) ∙ length-replicate {A = ℕ} 1024 0)
+places f text cells {xs} e = listed-length f text cells (replicate 1024 0) xs (length-replicate {A = ℕ} 1024 0) e
 
 -- the row that a search finds
 pub found-by : (w : Wanted) (table : Table) (key : Key) {text cells words starts : List ℕ} {n r : ℕ} → tableOf (w .space) ≡ table → keyOf w ≡ key
