@@ -1,0 +1,5 @@
+// Engineering values: curves and texts.
+mod curve;
+pub mod engineer;
+mod members;
+mod text;
