@@ -1,0 +1,96 @@
+// One line for each answer.
+use curves::ints::size;
+use fields::text::string_part;
+use packets::refusal::Refusal;
+use tables::TABLES;
+use tables::table_at;
+use units::ByteOffset;
+use units::RowNumber;
+use values::engineer::Engineered;
+use values::engineer::engineer;
+
+fn number(label: &[u8], n: u64) {
+    io::write_all(1, label);
+    io::print_decimal(1, n);
+}
+
+fn at(refusal: u64, place: usize) {
+    number(b"refused ", refusal);
+    number(b" at ", place as u64);
+}
+
+// 01: "A refusal writes nothing and returns number and place"
+fn refused(refusal: Refusal) {
+    match refusal {
+        Refusal::TableTooLong(table) => at(1, table),
+        Refusal::TooManyRows(table) => at(2, table),
+        Refusal::PacketLength => at(20, 0),
+        Refusal::Version => at(21, 0),
+        Refusal::LengthField => at(22, 0),
+        Refusal::DataField => at(23, 0),
+        Refusal::IdentificationLeaves(byte) => at(24, byte.0),
+        Refusal::NoPidRow => at(25, 0),
+        Refusal::NoPlfRow => at(26, 0),
+        Refusal::NoOccurrence => at(27, 0),
+        Refusal::FieldLeaves(byte) => at(28, byte.0),
+        Refusal::StringOffByte(byte) => at(29, byte.0),
+    }
+}
+
+fn integer(v: i64) {
+    if v < 0 {
+        io::write_all(1, b"-");
+    }
+    io::print_decimal(1, size(v));
+}
+
+// The first byte of a string and its length.
+fn part(from: ByteOffset, bytes: usize) {
+    number(b"part ", from.0 as u64);
+    number(b" ", bytes as u64);
+}
+
+// The row of a text, its first byte in txp, its length and its bytes.
+fn text(txp: &[u8], row: RowNumber, from: ByteOffset, bytes: usize) {
+    number(b"text row ", row.0 as u64);
+    number(b" at ", from.0 as u64);
+    number(b" ", bytes as u64);
+    io::write_all(1, b" ");
+    io::write_all(1, string_part(txp, from, bytes));
+}
+
+fn answer(tables: [&[u8]; TABLES], p: &[u8], name: &[u8], occurrence: usize) {
+    match engineer(tables, p, name, occurrence) {
+        Engineered::Number(v) => integer(v),
+        Engineered::Part(from, bytes) => part(from, bytes),
+        Engineered::Text(row, from, bytes) => text(table_at(tables, 7), row, from, bytes),
+        Engineered::OffCurve => at(30, 0),
+        Engineered::OutOfRange => at(31, 0),
+        Engineered::NoText => at(32, 0),
+        Engineered::Refused(refusal) => refused(refusal),
+    }
+    io::write_all(1, b"\n");
+}
+
+// By the name and the occurrence.
+pub(crate) fn engineered(tables: [&[u8]; TABLES], p: &[u8], name: &[u8], occurrence: usize) {
+    io::write_all(1, b"engineer ");
+    io::write_all(1, name);
+    number(b" ", occurrence as u64);
+    io::write_all(1, b": ");
+    answer(tables, p, name, occurrence);
+}
+
+// By a label, where the name doesn't say what is asked.
+pub(crate) fn labelled(
+    label: &[u8],
+    tables: [&[u8]; TABLES],
+    p: &[u8],
+    name: &[u8],
+    occurrence: usize,
+) {
+    io::write_all(1, b"engineer ");
+    io::write_all(1, label);
+    io::write_all(1, b": ");
+    answer(tables, p, name, occurrence);
+}
