@@ -5,7 +5,7 @@ use mathlib.Core.List.{List, [], _++_}
 use Prim.Native.Nat.{ℕ, zero, suc, _+_, _*_, _≤_, _<_}
 use native.Mathlib.Omega.{arith}
 use lib.Dec.{eqb, ltb}
-use lib.ListN.{length, getD, take, drop, length-take, length-append}
+use lib.ListN.{length, getD, take, drop, replicate, length-take, length-append}
 use lib.Seq.{take-at}
 use borrow.Author.Tests.{eqb-true, le-ltb}
 use Rattle.laws.proofs.Cases.{false≢true}
@@ -16,6 +16,9 @@ use Rattle.verdicts.specs.Places.{rowsBefore}
 use Rattle.verdicts.specs.Verdicts.{verdicts}
 use Rattle.verdicts.proofs.CellLaws.{length-cells}
 use Rattle.verdicts.proofs.EntryLaws.{rows-before-next, length-rows}
+use Rattle.import.specs.Judged as import
+use Rattle.import.specs.declared.Imported.{Imported as Import}
+use Rattle.import.specs.declared.Imported.the-variants.{Done}
 use Rattle.tables.specs.Sizes.{sizesOf}
 use Rattle.tables.specs.declared.Sizes.the-variants.{Fit, TooLong, TooManyRows}
 use Rattle.tables.proofs.SizeLaws.{few}
@@ -146,6 +149,25 @@ import-enough texts ten e = go (eqb (tooLong texts) 0) (eqb (tooManyRows texts) 
     go true true false x y p q e = false≢true cc
     go true false c x y p q e = false≢true cc
     go false b c x y p q e = false≢true cc
+
+-- an import of ten tables into 10,240 cells that is finished: its first cells are the verdicts
+pub record Finished (texts : List (List ℕ)) (after : List ℕ) (rows : ℕ) : Type 0 where
+  pub small : Small texts
+  pub room : rows ≤ length after
+  pub cells : take rows after ≡ verdicts texts
+
+pub finished : (texts : List (List ℕ)) {r : Import} {after : List ℕ} {rows good : ℕ} → import.said r ≡ importOf texts 10240
+    → after ≡ cellsAfter texts (replicate 10240 0) (import.said r) → r ≡ Done rows good → Finished texts after rows
+unfolding import.said
+finished texts {after = after} {rows = rows} {good = good} e w d =
+    let a : importOf texts 10240 ≡ taken rows good = sym e ∙ ap import.said d in
+    let n : rows ≡ length (allRows texts) = import-rows texts 10240 a in
+    let c : after ≡ cellsAfter texts (replicate 10240 0) (taken rows good) = w ∙ ap (λ (r : Import). cellsAfter texts (replicate 10240 0) (import.said r)) d in
+    record {
+      small = import-small texts 10240 a;
+      room = import-room texts (replicate 10240 0) good n c;
+      cells = import-cells texts (replicate 10240 0) good n c;
+    }
 
 -- the rows looked through are the good rows of their table
 pub looked-good : (texts : List (List ℕ)) (cells : List ℕ) (t : ℕ) {text own : List ℕ} → t < length texts → tooManyRows texts ≡ 0

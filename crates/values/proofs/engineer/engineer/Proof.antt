@@ -1,13 +1,9 @@
 -- The import's answer: refusals 1 and 2, or cells that begin with the verdicts.
-use mathlib.Core.Path.{_≡_, sym, ap, _∙_}
+use mathlib.Core.Path.{sym, ap, _∙_}
 use mathlib.Core.List.{List, map}
-use Prim.Native.Nat.{ℕ, _≤_}
+use Prim.Native.Nat.{ℕ}
 use denote.Ref.{now}
-use lib.ListN.{length, replicate}
 use borrow.Author.Needs.{needs}
-use Rattle.verdicts.specs.Answer.{taken, importOf, cellsAfter}
-use Rattle.verdicts.specs.Entries.{allRows}
-use Rattle.verdicts.specs.Verdicts.{verdicts}
 use Rattle.import.specs.Judged as import
 use Rattle.tables.proofs.ArrayLaws.{count}
 use Rattle.packets.specs.Refusals.{numberOf, placeOf}
@@ -15,37 +11,16 @@ use Rattle.readings.specs.Readings.{refused}
 use Rattle.packets.specs.Extraction.{extractBy}
 use Rattle.values.specs.Engineering.{said, engineerBy, engineerOf}
 use Rattle.values.proofs.EngineeringLaws.{of-refusal}
-use Rattle.packets.proofs.TakenLaws.{import-long, import-many, import-rows, import-cells, import-room, import-enough, first-long}
+use Rattle.packets.proofs.TakenLaws.{import-long, import-many, import-enough, Finished, finished, first-long}
 use Rattle.values.proofs.engineer.engineer.Statement.{statement}
 use Rattle.values.proofs.engineer.engineer.Tie as tie
 
 -- an import that is finished, of these tables
-module _ (c : tie.After-known-told) where
-  abbrev texts : List (List ℕ)
-  texts = map now (c .before .before .before .before .before .before .before .before .args .tables)
+abbrev texts : tie.After-known-told → List (List ℕ)
+texts c = map now (c .before .before .before .before .before .before .before .before .args .tables)
 
-  abbrev rows : ℕ
-  rows = c .before .rows .given .0 .0
-
-  abbrev good : ℕ
-  good = c .before .rows .given .0 .1 .0
-
-  abbrev after : List ℕ
-  after = c .before .before .before .before .import .last .1 .0
-
-  answer : importOf texts 10240 ≡ taken rows good
-  unfolding import.said
-  answer = sym (c .before .before .before .before .import .ensures .0) ∙ ap import.said (c .before .rows .given .1)
-
-  counted : rows ≡ length (allRows texts)
-  counted = import-rows texts 10240 answer
-
-  written : after ≡ cellsAfter texts (replicate 10240 0) (taken rows good)
-  unfolding import.said
-  written = c .before .before .before .before .import .ensures .1 ∙ ap (λ r. cellsAfter texts (replicate 10240 0) (import.said r)) (c .before .rows .given .1)
-
-  room : rows ≤ length after
-  room = import-room texts (replicate 10240 0) good counted written
+done : (c : tie.After-known-told) → Finished (texts c) (c .before .before .before .before .import .last .1 .0) (c .before .rows .given .0 .0)
+done c = let e = c .before .before .before .before .import .ensures in finished (texts c) (e .0) (e .1) (c .before .rows .given .1)
 
 slice-aggregate-import : tie.Need-slice-aggregate-import
 slice-aggregate-import c = search needs
@@ -57,10 +32,10 @@ enum-known-rows : tie.Need-enum-known-rows
 enum-known-rows c = search needs
 
 array-share-prefix-cells : tie.Need-array-share-prefix-cells
-array-share-prefix-cells c = room c
+array-share-prefix-cells c = done c .room
 
 slice-aggregate-engineer-by : tie.Need-slice-aggregate-engineer-by
-slice-aggregate-engineer-by c = first-long _ _ (room (c .before))
+slice-aggregate-engineer-by c = first-long _ _ (done (c .before) .room)
 
 engineer-by-requires : tie.Need-engineer-by-requires
 engineer-by-requires c κs = search needs
@@ -80,7 +55,7 @@ returns c =
     let k = c .before .before in
     let s = k .before .before .before .before .before .before .before .before in
     c .engineer-by .ensures
-    ∙ ap (λ (cells : List ℕ). engineerBy (texts k) cells (s .args .p .now) (s .args .name .now) (s .args .occurrence)) (import-cells (texts k) (replicate 10240 0) (good k) (counted k) (written k))
+    ∙ ap (λ (cells : List ℕ). engineerBy (texts k) cells (s .args .p .now) (s .args .name .now) (s .args .occurrence)) (done k .cells)
 
 returns-2 : tie.Need-returns-2
 unfolding said numberOf placeOf engineerOf extractBy import.said
