@@ -8,7 +8,7 @@ use borrow.Author.Tests.{eq-eqb, ne-eqb}
 use Rattle.laws.specs.Lists.{any}
 use Rattle.lines.specs.Names.{sameBytes, sameName}
 use Rattle.lines.specs.declared.names.Name.{Name}
-use Rattle.rows.specs.Records.{pidRow, picRow, plfRow, pcfRow}
+use Rattle.rows.specs.Records.{pidRow, picRow, plfRow, pcfRow, ocfRow}
 use Rattle.rows.specs.declared.letters.Valid.the-variants.{Yes, No}
 use Rattle.rows.specs.declared.records.OptionalApid.{OptionalApid}
 use Rattle.rows.specs.declared.records.OptionalApid.the-variants.{Only, Any}
@@ -16,11 +16,12 @@ use Rattle.rows.specs.declared.records.PidRow.{PidRow}
 use Rattle.rows.specs.declared.records.PicRow.{PicRow}
 use Rattle.rows.specs.declared.records.PlfRow.{PlfRow}
 use Rattle.rows.specs.declared.records.PcfRow.{PcfRow}
-use Rattle.verdicts.specs.Key.{packet, identification, location, parameter, keyWords, sameKey}
-use Rattle.verdicts.specs.Facts.{factsOf, pidFacts, picFacts, plfFacts, pcfFacts, pidKeys}
+use Rattle.rows.specs.declared.records.OcfRow.{OcfRow}
+use Rattle.verdicts.specs.Key.{packet, identification, location, parameter, limits, keyWords, sameKey}
+use Rattle.verdicts.specs.Facts.{factsOf, pidFacts, picFacts, plfFacts, pcfFacts, ocfFacts, pidKeys}
 use Rattle.lookup.specs.Holder.{holdsKey, tableOf, keyIn, keyOf}
 use Rattle.lookup.specs.declared.Wanted.{Wanted}
-use Rattle.lookup.specs.declared.Space.the-variants.{Packet, Identification, IdentificationOfAny, Location, Parameter}
+use Rattle.lookup.specs.declared.Space.the-variants.{Packet, Identification, IdentificationOfAny, Location, Parameter, Limits}
 
 and-true : (b : Bool) → b ≡ (b && true)
 and-true true = refl
@@ -112,6 +113,10 @@ pub same-parameter : (m m′ : Name) {r : Bool} → r ≡ sameName m m′ → r 
 unfolding sameKey keyWords sameBytes sameName
 same-parameter m m′ q = q
 
+pub same-limits : (m m′ : Name) {r : Bool} → r ≡ sameName m m′ → r ≡ sameKey (limits m) (limits m′)
+unfolding sameKey keyWords sameBytes sameName
+same-limits m m′ q = q
+
 -- The key that is asked for, by its space
 
 module _ (w : Wanted) (line : List ℕ) {r : Bool} where
@@ -144,3 +149,9 @@ module _ (w : Wanted) (line : List ℕ) {r : Bool} where
       → r ≡ holdsKey (tableOf (w .space)) (keyOf w) line
   unfolding holdsKey tableOf keyIn factsOf pcfFacts
   holds-parameter e p q = rw (e, ← p) (q ∙ or-false _)
+
+  pub holds-limits : {row : OcfRow} → w .space ≡ Limits → row ≡ ocfRow line
+      → r ≡ sameKey (limits (w .name)) (limits (row .name))
+      → r ≡ holdsKey (tableOf (w .space)) (keyOf w) line
+  unfolding holdsKey tableOf keyIn factsOf ocfFacts
+  holds-limits e p q = rw (e, ← p) (q ∙ or-false _)

@@ -16,9 +16,9 @@ use Rattle.lines.specs.declared.walk.NextLine.{NextLine}
 use Rattle.lines.specs.declared.names.Name.{Name}
 use Rattle.lines.proofs.LineLaws.{next-bounds}
 use Rattle.schemas.specs.declared.Table.{Table}
-use Rattle.rows.specs.Records.{plfRow, pcfRow}
-use Rattle.verdicts.specs.Key.{Key, location, parameter, sameKey}
-use Rattle.verdicts.specs.Facts.{factsOf, plfFacts, pcfFacts}
+use Rattle.rows.specs.Records.{plfRow, pcfRow, ocfRow}
+use Rattle.verdicts.specs.Key.{Key, location, parameter, limits, sameKey}
+use Rattle.verdicts.specs.Facts.{factsOf, plfFacts, pcfFacts, ocfFacts}
 use Rattle.verdicts.proofs.KeyLaws.{same-key-is}
 use Rattle.lookup.specs.GoodRows.{Row, isGood, goodFrom, goodOf}
 use Rattle.lookup.specs.Holder.{holdsKey, find, holder, tableOf, keyIn, keyOf}
@@ -26,7 +26,7 @@ use Rattle.lookup.specs.Listed.{looked, nameWord, wordOf, wantedWord, li
 use Rattle.lookup.specs.Walk.{left}
 use Rattle.lookup.specs.declared.Wanted.{Wanted}
 use Rattle.lookup.specs.declared.Space.{Space}
-use Rattle.lookup.specs.declared.Space.the-variants.{Packet, Identification, IdentificationOfAny, Location, Parameter}
+use Rattle.lookup.specs.declared.Space.the-variants.{Packet, Identification, IdentificationOfAny, Location, Parameter, Limits}
 use Rattle.lookup.proofs.GoodLaws.{left-line, none-left}
 
 -- How many rows are looked through
@@ -131,13 +131,17 @@ held-location m m′ s s′ e = let q : location m s ≡ location m′ s′ = he
 held-parameter : (m m′ : Name) → (sameKey (parameter m) (parameter m′) || false) ≡ true → m′ .bytes ≡ m .bytes
 held-parameter m m′ e = let q : parameter m ≡ parameter m′ = held-first (parameter m) (parameter m′) e in let n : m′ ≡ m = cc in ap (λ (x : Name). x .bytes) n
 
+held-limits : (m m′ : Name) → (sameKey (limits m) (limits m′) || false) ≡ true → m′ .bytes ≡ m .bytes
+held-limits m m′ e = let q : limits m ≡ limits m′ = held-first (limits m) (limits m′) e in let n : m′ ≡ m = cc in ap (λ (x : Name). x .bytes) n
+
 pub same-words : (s : Space) (w : Wanted) (line : List ℕ) → holdsKey (tableOf s) (keyIn s w) line ≡ true → wordOf (tableOf s) line ≡ wantedWord s w
-unfolding holdsKey tableOf keyIn factsOf plfFacts pcfFacts plfRow pcfRow wordOf wantedWord
+unfolding holdsKey tableOf keyIn factsOf plfFacts pcfFacts ocfFacts plfRow pcfRow ocfRow wordOf wantedWord
 same-words Packet w line e = refl
 same-words Identification w line e = refl
 same-words IdentificationOfAny w line e = refl
 same-words Location w line e = ap nameWord (held-location (w .name) (plfRow line .name) (w .spid .0) (plfRow line .spid .0) e)
 same-words Parameter w line e = ap nameWord (held-parameter (w .name) (pcfRow line .name) e)
+same-words Limits w line e = ap nameWord (held-limits (w .name) (ocfRow line .name) e)
 
 -- The first place that passes
 

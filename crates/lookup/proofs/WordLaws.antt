@@ -26,7 +26,7 @@ use Rattle.schemas.specs.declared.Table.{Table}
 use Rattle.schemas.specs.declared.Table.the-variants.{Pid, Pic, Plf, Pcf, Caf, Cap, Txf, Txp, Ocf, Ocp}
 use Rattle.lookup.specs.Listed.{nameWord, wordOf, wantedWord}
 use Rattle.lookup.specs.declared.Wanted.{Wanted}
-use Rattle.lookup.specs.declared.Space.the-variants.{Packet, Identification, IdentificationOfAny, Location, Parameter}
+use Rattle.lookup.specs.declared.Space.the-variants.{Packet, Identification, IdentificationOfAny, Location, Parameter, Limits}
 
 -- The first column, byte by byte
 
@@ -119,6 +119,10 @@ module _ (w : Wanted) where
   pub wanted-parameter : {v : ℕ} → w .space ≡ Parameter → v ≡ nameWord (w .name .bytes) → v ≡ wantedWord (w .space) w
   unfolding wantedWord
   wanted-parameter e q = rw e q
+
+  pub wanted-limits : {v : ℕ} → w .space ≡ Limits → v ≡ nameWord (w .name .bytes) → v ≡ wantedWord (w .space) w
+  unfolding wantedWord
+  wanted-limits e q = rw e q
 
 -- The word of a row, by its table
 

@@ -15,7 +15,7 @@ use Rattle.lookup.specs.GoodRows.{Row, goodOf}
 use Rattle.lookup.specs.Holder.{holdsKey, tableOf, keyOf}
 use Rattle.lookup.specs.declared.Wanted.{Wanted}
 use Rattle.lookup.specs.declared.Space.{Space}
-use Rattle.lookup.specs.declared.Space.the-variants.{Packet, Identification, IdentificationOfAny, Location, Parameter}
+use Rattle.lookup.specs.declared.Space.the-variants.{Packet, Identification, IdentificationOfAny, Location, Parameter, Limits}
 
 -- the good rows that are looked through: 01 takes no table of over 1,024 rows
 unfoldable pub looked : (text cells : List ℕ) → List Row
@@ -45,6 +45,7 @@ wantedWord Identification w = 0
 wantedWord IdentificationOfAny w = 0
 wantedWord Location w = nameWord (w .name .bytes)
 wantedWord Parameter w = nameWord (w .name .bytes)
+wantedWord Limits w = nameWord (w .name .bytes)
 
 -- the line that starts at a byte
 unfoldable pub lineAt : List ℕ → ℕ → List ℕ

@@ -4,11 +4,13 @@ use crate::Space;
 use crate::Wanted;
 use lines::names::Name;
 use lines::names::same_name;
+use rows::decoded::ocf_of;
 use rows::decoded::pcf_of;
 use rows::decoded::pic_of;
 use rows::decoded::pid_of;
 use rows::decoded::plf_of;
 use rows::letters::Valid;
+use rows::records::OcfRow;
 use rows::records::OptionalApid;
 use rows::records::PcfRow;
 use rows::records::PicRow;
@@ -17,7 +19,7 @@ use rows::records::PlfRow;
 use units::Spid;
 ghost use mathlib.Core.Path.{_≡_};
 ghost use Rattle.laws.specs.Lists.{any};
-ghost use Rattle.verdicts.specs.Key.{packet, identification, location, parameter, sameKey};
+ghost use Rattle.verdicts.specs.Key.{packet, identification, location, parameter, limits, sameKey};
 ghost use Rattle.verdicts.specs.Facts.{pidKeys};
 ghost use Rattle.rows.specs.declared.records.OptionalApid.the-variants.{Only, Any};
 ghost use Rattle.lookup.specs.Holder.{holdsKey, tableOf, keyOf};
@@ -102,6 +104,13 @@ fn is_parameter(row: PcfRow, name: Name) -> bool
     same_name(name, own)
 }
 
+fn is_limits(row: OcfRow, name: Name) -> bool
+    ensures { λ r. ⌜ r ≡ sameKey (limits name) (limits (row .name)) ⌝ }
+{
+    let own = row.name;
+    same_name(name, own)
+}
+
 pub(crate) fn holds_key(wanted: Wanted, line: &[u8]) -> bool
     ensures { λ r. ⌜ r ≡ holdsKey (tableOf (wanted .space)) (keyOf wanted) (now (line .entry)) ⌝ }
 {
@@ -114,5 +123,6 @@ pub(crate) fn holds_key(wanted: Wanted, line: &[u8]) -> bool
         Space::IdentificationOfAny => is_identification_of_any(pic_of(line), n.ptype, n.stype),
         Space::Location => is_location(plf_of(line), name, wanted.spid),
         Space::Parameter => is_parameter(pcf_of(line), name),
+        Space::Limits => is_limits(ocf_of(line), name),
     }
 }

@@ -2,6 +2,7 @@
 pub mod cells;
 pub mod find;
 mod holds;
+pub mod keys;
 pub mod list;
 mod walk;
 mod words;
@@ -25,6 +26,7 @@ pub enum Space {
     IdentificationOfAny,
     Location,
     Parameter,
+    Limits,
 }
 
 // A key: of its kind's fields only those count that its space has.

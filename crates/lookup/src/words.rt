@@ -84,5 +84,6 @@ pub(crate) fn wanted_word(wanted: Wanted) -> u64
         Space::IdentificationOfAny => 0,
         Space::Location => name_word(&bytes),
         Space::Parameter => name_word(&bytes),
+        Space::Limits => name_word(&bytes),
     }
 }

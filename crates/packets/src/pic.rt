@@ -1,18 +1,16 @@
 // The pic row that tells where PI1 and PI2 are.
 use crate::identifiers::Fields;
 use crate::identifiers::identifiers;
-use lines::names::name_of;
 use lookup::FiveNumbers;
 use lookup::Space;
-use lookup::Wanted;
 use lookup::find::find_row;
 use lookup::find::line_at;
 use lookup::find::start_at;
+use lookup::keys::numbered;
 use lookup::list::list_good;
 use rows::decoded::pic_of;
 use schemas::Table;
 use tables::MOST_ROWS;
-use units::Spid;
 ghost use mathlib.Core.Path.{_≡_};
 ghost use Prim.Native.Nat.{_≤_};
 ghost use lib.ListN.{length};
@@ -21,19 +19,6 @@ ghost use Rattle.schemas.specs.declared.Table.the-variants.{Pic};
 ghost use Rattle.packets.specs.Identifiers.{saidFields};
 ghost use Rattle.packets.specs.Numbers.{picRowFor, identifiersFrom};
 ghost use Rattle.packets.specs.Found.{RowFound, OfListed};
-
-// A key of numbers alone.
-pub(crate) fn wanted(space: Space, numbers: FiveNumbers) -> Wanted
-    ensures { λ r. ⌜ (r .space ≡ space) × (r .numbers ≡ numbers) ⌝ }
-{
-    let none: [u8; 0] = [];
-    Wanted {
-        space,
-        numbers,
-        name: name_of(&none),
-        spid: Spid(0),
-    }
-}
 
 // The place among the rows listed of that with this APID, else of that with none; their number where there is neither.
 fn find_pic(pic: &[u8], words: &[u64], starts: &[usize], rows: usize, numbers: FiveNumbers) -> usize
@@ -44,7 +29,7 @@ fn find_pic(pic: &[u8], words: &[u64], starts: &[usize], rows: usize, numbers: F
         words,
         starts,
         rows,
-        wanted(Space::Identification, numbers),
+        numbered(Space::Identification, numbers),
     );
     if i < rows {
         return i;
@@ -54,7 +39,7 @@ fn find_pic(pic: &[u8], words: &[u64], starts: &[usize], rows: usize, numbers: F
         words,
         starts,
         rows,
-        wanted(Space::IdentificationOfAny, numbers),
+        numbered(Space::IdentificationOfAny, numbers),
     )
 }
 

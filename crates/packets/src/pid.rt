@@ -1,12 +1,12 @@
 // The pid row that the five numbers choose.
 use crate::identify::Identified;
-use crate::pic::wanted;
 use crate::refusal::Refusal;
 use lookup::FiveNumbers;
 use lookup::Space;
 use lookup::find::find_row;
 use lookup::find::line_at;
 use lookup::find::start_at;
+use lookup::keys::numbered;
 use lookup::list::list_good;
 use rows::decoded::pid_of;
 use schemas::Table;
@@ -23,7 +23,7 @@ pub(crate) fn choose(pid: &[u8], cells: &[u16], numbers: FiveNumbers) -> Identif
     let mut starts = [0usize; MOST_ROWS];
     let mut places = [0usize; MOST_ROWS];
     let rows = list_good(Table::Pid, pid, cells, &mut words, &mut starts, &mut places);
-    let i = find_row(pid, &words, &starts, rows, wanted(Space::Packet, numbers));
+    let i = find_row(pid, &words, &starts, rows, numbered(Space::Packet, numbers));
     if rows <= i {
         return Identified::Refused(Refusal::NoPidRow);
     }

@@ -1,10 +1,9 @@
 // The rows of a parameter in a packet.
 use lines::names::Name;
-use lookup::FiveNumbers;
 use lookup::Space;
-use lookup::Wanted;
 use lookup::find::find_row;
 use lookup::find::start_at;
+use lookup::keys::named;
 use units::Spid;
 ghost use mathlib.Core.Path.{_≡_};
 ghost use mathlib.Core.Bool.{_&&_};
@@ -18,24 +17,6 @@ pub(crate) struct RowStarts {
     pub found: bool,
     pub plf: usize,
     pub pcf: usize,
-}
-
-// A key with a name.
-fn wanted(space: Space, name: Name, spid: Spid) -> Wanted
-    ensures { λ r. ⌜ (r .space ≡ space) × (r .name ≡ name) × (r .spid ≡ spid) ⌝ }
-{
-    Wanted {
-        space,
-        numbers: FiveNumbers {
-            ptype: 0,
-            stype: 0,
-            apid: 0,
-            pi1: 0,
-            pi2: 0,
-        },
-        name,
-        spid,
-    }
 }
 
 // 01: "no good plf row for name and SPID" is told by `found`.
@@ -58,14 +39,14 @@ pub(crate) fn locate(
         plfwords,
         plfstarts,
         plfrows,
-        wanted(Space::Location, name, spid),
+        named(Space::Location, name, spid),
     );
     let j = find_row(
         pcf,
         pcfwords,
         pcfstarts,
         pcfrows,
-        wanted(Space::Parameter, name, spid),
+        named(Space::Parameter, name, spid),
     );
     row_starts(plfstarts, plfrows, i, pcfstarts, pcfrows, j)
 }

@@ -4,13 +4,12 @@ use crate::text::text_value;
 use import::Imported;
 use import::import;
 use lines::names::name_of;
-use lookup::FiveNumbers;
 use lookup::Space;
-use lookup::Wanted;
 use lookup::cells::cells_of;
 use lookup::find::find_row;
 use lookup::find::line_at;
 use lookup::find::start_at;
+use lookup::keys::named;
 use lookup::list::list_good;
 use packets::extract::Extracted;
 use packets::extract::extract_by;
@@ -31,7 +30,6 @@ ghost use Rattle.lines.specs.Names.{nameOf};
 ghost use Rattle.schemas.specs.declared.Table.the-variants.{Pcf};
 ghost use Rattle.verdicts.specs.Key.{parameter};
 ghost use Rattle.verdicts.specs.Answer.{tooManyRows};
-ghost use Rattle.lookup.specs.declared.Space.the-variants.{Parameter};
 ghost use Rattle.lookup.specs.GoodRows.{goodRows};
 ghost use Rattle.lookup.specs.Holder.{holder};
 ghost use Rattle.lookup.specs.Listed.{looked};
@@ -47,24 +45,6 @@ pub enum Engineered {
     OutOfRange,
     NoText,
     Refused(Refusal),
-}
-
-// The key of a parameter.
-fn wanted(name: &[u8]) -> Wanted
-    ensures { λ r. ⌜ (r .space ≡ Parameter) × (r .name ≡ nameOf (now (name .entry))) ⌝ }
-{
-    Wanted {
-        space: Space::Parameter,
-        numbers: FiveNumbers {
-            ptype: 0,
-            stype: 0,
-            apid: 0,
-            pi1: 0,
-            pi2: 0,
-        },
-        name: name_of(name),
-        spid: Spid(0),
-    }
 }
 
 // By the category and CURTX of a pcf row. 01: "N without CURTX and T answer the raw value".
@@ -120,7 +100,8 @@ fn calibrate(
         &mut starts,
         &mut places,
     );
-    let i = find_row(pcf, &words, &starts, rows, wanted(name));
+    let key = named(Space::Parameter, name_of(name), Spid(0));
+    let i = find_row(pcf, &words, &starts, rows, key);
     if rows <= i {
         return Engineered::Refused(Refusal::NoPlfRow);
     }

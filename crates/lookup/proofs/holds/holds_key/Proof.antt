@@ -1,5 +1,5 @@
 -- By the space of the key, the row of its table is read and compared. Assumes nothing.
-use Rattle.lookup.proofs.HoldLaws.{holds-packet, holds-identification, holds-any, holds-location, holds-parameter}
+use Rattle.lookup.proofs.HoldLaws.{holds-packet, holds-identification, holds-any, holds-location, holds-parameter, holds-limits}
 use borrow.Author.Needs.{needs}
 use Rattle.lookup.proofs.holds.holds_key.Statement.{statement}
 use Rattle.lookup.proofs.holds.holds_key.Tie as tie
@@ -49,6 +49,15 @@ pcf-of-requires c κs = search needs
 is-parameter-requires : tie.Need-is-parameter-requires
 is-parameter-requires c κs = search needs
 
+enum-told-6 : tie.Need-enum-told-6
+enum-told-6 c = search needs
+
+ocf-of-requires : tie.Need-ocf-of-requires
+ocf-of-requires c κs = search needs
+
+is-limits-requires : tie.Need-is-limits-requires
+is-limits-requires c κs = search needs
+
 returns : tie.Need-returns
 returns c = holds-packet _ _ (c .before .before .enum-told .given .1) (c .before .pid-of .ensures) (c .is-packet .ensures)
 
@@ -63,6 +72,9 @@ returns-4 c = holds-location _ _ (c .before .before .enum-told4 .given .1) (c .b
 
 returns-5 : tie.Need-returns-5
 returns-5 c = holds-parameter _ _ (c .before .before .enum-told5 .given .1) (c .before .pcf-of .ensures) (c .is-parameter .ensures)
+
+returns-6 : tie.Need-returns-6
+returns-6 c = holds-limits _ _ (c .before .before .enum-told6 .given .1) (c .before .ocf-of .ensures) (c .is-limits .ensures)
 
 pub holds-key-spec : {M : Type 1} → statement M
 holds-key-spec =
@@ -83,8 +95,12 @@ holds-key-spec =
     enum-told-5
     pcf-of-requires
     is-parameter-requires
+    enum-told-6
+    ocf-of-requires
+    is-limits-requires
     returns
     returns-2
     returns-3
     returns-4
-    returns-5)
+    returns-5
+    returns-6)

@@ -1,5 +1,5 @@
 -- By the space of the key. Assumes nothing.
-use Rattle.lookup.proofs.WordLaws.{wanted-packet, wanted-identification, wanted-any, wanted-location, wanted-parameter}
+use Rattle.lookup.proofs.WordLaws.{wanted-packet, wanted-identification, wanted-any, wanted-location, wanted-parameter, wanted-limits}
 use native.Mathlib.Omega.{arith}
 use borrow.Author.Needs.{needs}
 use Rattle.lookup.proofs.words.wanted_word.Statement.{statement}
@@ -32,6 +32,15 @@ slice-aggregate-name-word-2 c = search needs
 name-word-requires-2 : tie.Need-name-word-requires-2
 name-word-requires-2 c κs = omega (arith, slice-aggregate-name-word-2 c)
 
+enum-told-6 : tie.Need-enum-told-6
+enum-told-6 c = search needs
+
+slice-aggregate-name-word-3 : tie.Need-slice-aggregate-name-word-3
+slice-aggregate-name-word-3 c = search needs
+
+name-word-requires-3 : tie.Need-name-word-requires-3
+name-word-requires-3 c κs = omega (arith, slice-aggregate-name-word-3 c)
+
 returns : tie.Need-returns
 returns c = wanted-packet _ (c .enum-told .given .1)
 
@@ -47,6 +56,9 @@ returns-4 c = wanted-location _ (c .before .before .enum-told4 .given .1) (c .na
 returns-5 : tie.Need-returns-5
 returns-5 c = wanted-parameter _ (c .before .before .enum-told5 .given .1) (c .name-word2 .ensures)
 
+returns-6 : tie.Need-returns-6
+returns-6 c = wanted-limits _ (c .before .before .enum-told6 .given .1) (c .name-word3 .ensures)
+
 pub wanted-word-spec : {M : Type 1} → statement M
 wanted-word-spec =
     tie.close
@@ -60,8 +72,12 @@ wanted-word-spec =
     enum-told-5
     slice-aggregate-name-word-2
     name-word-requires-2
+    enum-told-6
+    slice-aggregate-name-word-3
+    name-word-requires-3
     returns
     returns-2
     returns-3
     returns-4
-    returns-5)
+    returns-5
+    returns-6)

@@ -4,8 +4,8 @@ use Rattle.packets.proofs.FoundLaws.{own-found, any-found, pic-own, pic
 use Rattle.packets.proofs.pic.find_pic.Statement.{statement}
 use Rattle.packets.proofs.pic.find_pic.Tie as tie
 
-wanted-requires : tie.Need-wanted-requires
-wanted-requires c κs = search needs
+numbered-requires : tie.Need-numbered-requires
+numbered-requires c κs = search needs
 
 find-row-requires : tie.Need-find-row-requires
 find-row-requires c κs = search needs
@@ -13,11 +13,11 @@ find-row-requires c κs = search needs
 returns : tie.Need-returns
 returns c cells l =
     let f = c .before in
-    let w = f .before .wanted in
+    let w = f .before .numbered in
     pic-own _ _ _ _ _ (own-found (w .result) _ (w .ensures .1) (f .find-row .ensures) (w .ensures .0) l) (c .if1 .taken)
 
-wanted-requires-2 : tie.Need-wanted-requires-2
-wanted-requires-2 c κs = search needs
+numbered-requires-2 : tie.Need-numbered-requires-2
+numbered-requires-2 c κs = search needs
 
 find-row-requires-2 : tie.Need-find-row-requires-2
 find-row-requires-2 c κs = search needs
@@ -26,8 +26,8 @@ returns-2 : tie.Need-returns-2
 returns-2 c cells l =
     let i = c .before .before in
     let f = i .before in
-    let w = f .before .wanted in
-    let v = c .before .wanted2 in
+    let w = f .before .numbered in
+    let v = c .before .numbered2 in
     pic-any _ _ _ _ _ (own-found (w .result) _ (w .ensures .1) (f .find-row .ensures) (w .ensures .0) l) (i .if1 .left)
     (any-found (v .result) _ (v .ensures .1) (c .find-row2 .ensures) (v .ensures .0) l)
 
@@ -35,9 +35,9 @@ pub find-pic-spec : {M : Type 1} → statement M
 find-pic-spec =
     tie.close
     (tie.spec
-    wanted-requires
+    numbered-requires
     find-row-requires
     returns
-    wanted-requires-2
+    numbered-requires-2
     find-row-requires-2
     returns-2)

@@ -29,7 +29,7 @@ lists c =
 found : (c : tie.After-find-row) → (let l = c .before .before .before .before in let m = start l .args .numbers in
     RowFound (looked (start l .args .pid .now) (start l .args .cells .now)) (l .list-good .result) (c .find-row .result)
     (holder Pid (looked (start l .args .pid .now) (start l .args .cells .now)) (packet (m .ptype) (m .stype) (m .apid) (m .pi1) (m .pi2))))
-found c = let w = c .before .wanted in packet-found (w .result) _ (w .ensures .1) (c .find-row .ensures) (w .ensures .0) (lists (c .before .before .before .before))
+found c = let w = c .before .numbered in packet-found (w .result) _ (w .ensures .1) (c .find-row .ensures) (w .ensures .0) (lists (c .before .before .before .before))
 
 words-long : (c : tie.After-list-good) → 1024 ≡ length (c .list-good .last .1 .1 .1 .0)
 words-long c = places (λ row. wordOf Pid (row .bytes)) (start c .args .pid .now) (start c .args .cells .now) (c .list-good .ensures .1 .0)
@@ -49,8 +49,8 @@ slice-aggregate-find-row c = words-long (c .before)
 slice-aggregate-find-row-2 : tie.Need-slice-aggregate-find-row-2
 slice-aggregate-find-row-2 c = starts-long (c .before .before)
 
-wanted-requires : tie.Need-wanted-requires
-wanted-requires c κs = search needs
+numbered-requires : tie.Need-numbered-requires
+numbered-requires c κs = search needs
 
 find-row-requires : tie.Need-find-row-requires
 find-row-requires c κs = search needs
@@ -96,7 +96,7 @@ choose-spec =
     list-good-requires
     slice-aggregate-find-row
     slice-aggregate-find-row-2
-    wanted-requires
+    numbered-requires
     find-row-requires
     returns
     slice-aggregate-start-at

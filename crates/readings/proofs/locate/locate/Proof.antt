@@ -6,14 +6,14 @@ use borrow.Author.Needs.{needs}
 use Rattle.readings.proofs.locate.locate.Statement.{statement}
 use Rattle.readings.proofs.locate.locate.Tie as tie
 
-wanted-requires : tie.Need-wanted-requires
-wanted-requires c κs = search needs
+named-requires : tie.Need-named-requires
+named-requires c κs = search needs
 
 find-row-requires : tie.Need-find-row-requires
 find-row-requires c κs = search needs
 
-wanted-requires-2 : tie.Need-wanted-requires-2
-wanted-requires-2 c κs = search needs
+named-requires-2 : tie.Need-named-requires-2
+named-requires-2 c κs = search needs
 
 find-row-requires-2 : tie.Need-find-row-requires-2
 find-row-requires-2 c κs = search needs
@@ -23,17 +23,17 @@ row-starts-requires c κs = search needs
 
 returns : tie.Need-returns
 returns c = λ x y l p. let w = c .before .before .before .before in
-    located-is l p _ _ _ _ (w .wanted .ensures .0) (w .wanted .ensures .1) (ap (λ (s : Spid). s .0) (w .wanted .ensures .2))
-    (c .before .before .wanted2 .ensures .0) (c .before .before .wanted2 .ensures .1) _ _ (c .before .before .before .find-row .ensures) (c .before .find-row2 .ensures)
+    located-is l p _ _ _ _ (w .named .ensures .0) (w .named .ensures .1) (ap (λ (s : Spid). s .0) (w .named .ensures .2))
+    (c .before .before .named2 .ensures .0) (c .before .before .named2 .ensures .1) _ _ (c .before .before .before .find-row .ensures) (c .before .find-row2 .ensures)
     _ (c .row-starts .ensures .0) (c .row-starts .ensures .1) (c .row-starts .ensures .2)
 
 pub locate-spec : {M : Type 1} → statement M
 locate-spec =
     tie.close
     (tie.spec
-    wanted-requires
+    named-requires
     find-row-requires
-    wanted-requires-2
+    named-requires-2
     find-row-requires-2
     row-starts-requires
     returns)

@@ -26,9 +26,12 @@ lists c =
     let e = c .list-good .ensures in
     lists-are Pcf _ _ (replicate 1024 0) (replicate 1024 0) _ _ _ (length-replicate {A = ℕ} 1024 0) (length-replicate {A = ℕ} 1024 0) (e .0) (e .1 .0) (e .1 .1 .0)
 
-found : (c : tie.After-find-row) → (let l = c .before .before .before .before in let rows = looked (start l .args .pcf .now) (start l .args .pcfcells .now) in
+found : (c : tie.After-find-row) → (let l = c .before .before .before .before .before in let rows = looked (start l .args .pcf .now) (start l .args .pcfcells .now) in
     RowFound rows (l .list-good .result) (c .find-row .result) (holder Pcf rows (parameter (nameOf (start l .args .name .now)))))
-found c = let w = c .before .wanted in parameter-found (w .result) _ (w .ensures .0) (w .ensures .1) (lists (c .before .before .before .before)) (c .find-row .ensures)
+found c =
+    let k = c .before .before .before in
+    let w = k .named in
+    parameter-found (w .result) _ (w .ensures .0) (w .ensures .1 ∙ k .before .name-of .ensures) (lists (k .before .before)) (c .find-row .ensures)
 
 words-long : (c : tie.After-list-good) → 1024 ≡ length (c .list-good .last .1 .1 .1 .0)
 words-long c = places (λ row. wordOf Pcf (row .bytes)) (start c .args .pcf .now) (start c .args .pcfcells .now) (c .list-good .ensures .1 .0)
@@ -39,14 +42,17 @@ starts-long c = places (λ row. row .start) (start c .args .pcf .now) (start c .
 list-good-requires : tie.Need-list-good-requires
 list-good-requires c κs = tt
 
+name-of-requires : tie.Need-name-of-requires
+name-of-requires c κs = tt
+
+named-requires : tie.Need-named-requires
+named-requires c κs = tt
+
 slice-aggregate-find-row : tie.Need-slice-aggregate-find-row
-slice-aggregate-find-row c = words-long (c .before)
+slice-aggregate-find-row c = words-long (c .before .before .before)
 
 slice-aggregate-find-row-2 : tie.Need-slice-aggregate-find-row-2
-slice-aggregate-find-row-2 c = starts-long (c .before .before)
-
-wanted-requires : tie.Need-wanted-requires
-wanted-requires c κs = tt
+slice-aggregate-find-row-2 c = starts-long (c .before .before .before .before)
 
 find-row-requires : tie.Need-find-row-requires
 find-row-requires c κs = tt
@@ -56,7 +62,7 @@ unfolding said numberOf placeOf
 returns c = no-row _ _ _ _ (found (c .before)) (c .if1 .taken)
 
 slice-aggregate-start-at : tie.Need-slice-aggregate-start-at
-slice-aggregate-start-at c = starts-long (c .before .before .before .before .before .before)
+slice-aggregate-start-at c = starts-long (c .before .before .before .before .before .before .before)
 
 start-at-requires : tie.Need-start-at-requires
 start-at-requires c κs = tt
@@ -75,7 +81,7 @@ returns-2 c =
     let r = c .before .before in
     let i = r .before .before .before .before in
     let f = i .before in
-    let l = f .before .before .before .before in
+    let l = f .before .before .before .before .before in
     by-row _ _ _ _ (found f) (i .if1 .left)
     (read-listed pcfRow (lists l) (i .if1 .left) (r .before .before .start-at .ensures) (r .before .line-at .ensures) (r .pcf-of .ensures))
     (c .by-category .ensures ∙ ap (ofCategory _ _ _ _ _) (toZ-ofZ (start l .fits .raw)))
@@ -85,9 +91,10 @@ calibrate-spec =
     tie.close
     (tie.spec
     list-good-requires
+    name-of-requires
+    named-requires
     slice-aggregate-find-row
     slice-aggregate-find-row-2
-    wanted-requires
     find-row-requires
     returns
     slice-aggregate-start-at
