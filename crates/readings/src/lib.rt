@@ -1,5 +1,5 @@
 // Readings: the raw value of a parameter in a packet, and whether it is valid.
-mod locate;
+pub mod locate;
 mod place;
 pub mod raw;
 pub mod reading;

@@ -13,14 +13,14 @@ ghost use Rattle.readings.specs.Readings.{located};
 ghost use Rattle.readings.specs.Starts.{atStarts, OfListed};
 
 // Where the lines of a parameter's plf row and pcf row start, if both are there.
-pub(crate) struct RowStarts {
+pub struct RowStarts {
     pub found: bool,
     pub plf: usize,
     pub pcf: usize,
 }
 
 // 01: "no good plf row for name and SPID" is told by `found`.
-pub(crate) fn locate(
+pub fn locate(
     plf: &[u8],
     plfwords: &[u64],
     plfstarts: &[usize],
