@@ -19,7 +19,7 @@ ghost use Rattle.calibration.specs.Curve as curve;
 ghost use Rattle.calibration.specs.Curve.{curveAt};
 
 // What a curve does off its ends, where there is such a curve.
-pub(crate) enum Ends {
+pub enum Ends {
     Are(OffEnds),
     NoCurve,
 }
@@ -36,7 +36,7 @@ fn as_engineered(value: CurveValue) -> Engineered
 }
 
 // By the row of this name in caf.
-fn ends_of(caf: &[u8], cells: &[u16], name: CurveName) -> Ends
+pub fn ends_of(caf: &[u8], cells: &[u16], name: CurveName) -> Ends
     ensures { λ r. ⌜ r ≡ endsOf (members name (looked (now (caf .entry)) (now (cells .entry)))) ⌝ }
 {
     let mut seconds = [0i64; MOST_ROWS];

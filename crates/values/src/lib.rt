@@ -1,5 +1,5 @@
 // Engineering values: curves and texts.
-mod curve;
+pub mod curve;
 pub mod engineer;
-mod members;
+pub mod members;
 mod text;

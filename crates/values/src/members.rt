@@ -51,7 +51,7 @@ fn pick(
 }
 
 // The same of the good rows of a table.
-pub(crate) fn gather(
+pub fn gather(
     table: Table,
     text: &[u8],
     cells: &[u16],
