@@ -2,13 +2,7 @@
 ghost use mathlib.Core.Path.{_≡_};
 ghost use lib.IntN.{pos};
 ghost use lib.ListN.{getD};
-ghost use lib.Signed.{ltZ, leZ};
-
-pub(crate) fn less(a: i64, b: i64) -> bool
-    ensures { λ r. ⌜ r ≡ ltZ a b ⌝ }
-{
-    a < b
-}
+ghost use lib.Signed.{leZ};
 
 pub(crate) fn at_most(a: i64, b: i64) -> bool
     ensures { λ r. ⌜ r ≡ leZ a b ⌝ }

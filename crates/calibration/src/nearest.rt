@@ -4,7 +4,7 @@ ghost use lib.ListN.{length};
 ghost use Rattle.calibration.specs.Nearest.{passes, nearer, better, nearestOf, notAbove, below, above};
 use crate::ints::at_most;
 use crate::ints::item;
-use crate::ints::less;
+use curves::ints::less;
 
 // Where one is, if there is one.
 pub enum Found {

@@ -22,7 +22,7 @@ pub(crate) fn minus(a: i64, b: i64) -> i64
     a - b
 }
 
-pub(crate) fn less(a: i64, b: i64) -> bool
+pub fn less(a: i64, b: i64) -> bool
     ensures { λ r. ⌜ r ≡ ltZ a b ⌝ }
 {
     a < b

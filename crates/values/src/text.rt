@@ -3,6 +3,7 @@ use crate::engineer::Engineered;
 use crate::members::gather;
 use calibration::nearest::Found;
 use calibration::nearest::not_above;
+use curves::ints::less;
 use lines::names::CurveName;
 use lookup::find::line_at;
 use lookup::find::start_at;
@@ -13,17 +14,10 @@ use units::ByteOffset;
 use units::RowNumber;
 ghost use mathlib.Core.Path.{_≡_};
 ghost use Prim.Native.Nat.{_+_, _-_};
-ghost use lib.Signed.{ltZ};
 ghost use Rattle.lookup.specs.Listed.{looked, lineAt};
 ghost use Rattle.rows.specs.Records.{txpRow};
 ghost use Rattle.values.specs.Members.{members};
 ghost use Rattle.values.specs.Engineering.{said, altxt, textFor};
-
-fn less(a: i64, b: i64) -> bool
-    ensures { λ r. ⌜ r ≡ ltZ a b ⌝ }
-{
-    a < b
-}
 
 // ALTXT of the row whose line starts at a byte of txp.
 fn text_of(txp: &[u8], start: usize, number: usize) -> Engineered
