@@ -3,13 +3,14 @@ use mathlib.Core.Path.{_≡_, refl}
 use mathlib.Core.Bool.{cond}
 use mathlib.Core.List.{List, [], _∷_}
 use Prim.Native.Nat.{ℕ}
-use lib.IntN.{ℤ, pos}
+use lib.IntN.{ℤ, pos, negsuc}
 use lib.ListN.{getD}
 use lib.Signed.{ltZ}
 use Rattle.laws.specs.Said.{Said, value, refused, free}
 use Rattle.rows.specs.declared.letters.OffEnds.{OffEnds}
 use Rattle.rows.specs.declared.letters.OffEnds.the-variants.{Extrapolate, Refuse}
-use Rattle.curves.specs.Line.{lineAt}
+use Rattle.curves.specs.Floor.{floorDiv}
+use Rattle.curves.specs.Line.{within, isCoordinate, isPoint, isSegment, isRaw, heightAt, resultOf, lineAt}
 use Rattle.curves.specs.declared.line.Point.{Point}
 use Rattle.calibration.specs.Nearest.{passes, nearer, closer, better, nearestOf, notAbove, below, above}
 use Rattle.calibration.specs.declared.nearest.Found.{Found}
@@ -67,3 +68,17 @@ of-one : (
     )
 unfolding curveAt placed fromLast beforeFirst offEnd through notAbove below above nearestOf better closer nearer passes
 of-one = (refl, refl, refl)
+
+-- of (20,100), (0,0) and (10,-5) in this order: 15 gives 47; an end is on the curve; before the first point P uses the first two,
+-- so -1 gives 1/2 and so 0, and F refuses
+of-three : (
+    let xs = pos 20 ∷ pos 0 ∷ pos 10 ∷ [] in
+    let ys = pos 100 ∷ pos 0 ∷ negsuc 4 ∷ [] in
+    (curveAt Refuse xs ys (pos 15) ≡ value (pos 47))
+    × (curveAt Refuse xs ys (pos 20) ≡ value (pos 100)) × (curveAt Refuse xs ys (pos 0) ≡ value (pos 0))
+    × (curveAt Extrapolate xs ys (negsuc 0) ≡ value (pos 0)) × (curveAt Refuse xs ys (negsuc 0) ≡ refused 30)
+    )
+unfolding
+    curveAt placed fromLast beforeFirst offEnd through pointAt notAbove below above nearestOf better closer nearer passes
+    lineAt isSegment isPoint isCoordinate isRaw within resultOf heightAt floorDiv
+of-three = (refl, refl, refl, refl, refl)

@@ -1,3 +1,2 @@
 pub mod Nearest
 pub mod Curve
-pub mod Figures

@@ -1,4 +1,4 @@
-// Fields and lines on 01's figures and at the edges, one line of output for each question.
+// Fields and lines at the edges, one line of output for each question.
 mod packet;
 
 use packet::part;
@@ -11,27 +11,6 @@ use show::line;
 const ONES: [u8; 8] = [0xFF; 8];
 
 const LOWEST: [u8; 8] = [0x80, 0, 0, 0, 0, 0, 0, 0];
-
-fn packet_figures() {
-    unsigned(11, 5);
-    unsigned(8, 7 * 8);
-    unsigned(8, 8 * 8);
-    unsigned(16, 12 * 8);
-    signed(8, 10 * 8);
-    unsigned(4, 11 * 8 + 4);
-    signed(4, 11 * 8);
-    unsigned(12, 10 * 8 + 4);
-    unsigned(24, 11 * 8);
-    unsigned(24, 11 * 8 + 1);
-    unsigned(16, 13 * 8);
-}
-
-// 01: "Curve (0,0), (10,−5), (20,100)"
-fn curve_figures() {
-    line(0, 0, 10, -5, 3);
-    line(10, -5, 20, 100, 15);
-    line(10, -5, 20, 100, 25);
-}
 
 fn narrow_and_wide() {
     unsigned(1, 0);
@@ -136,8 +115,6 @@ fn no_lines() {
 }
 
 fn main() {
-    packet_figures();
-    curve_figures();
     narrow_and_wide();
     other_packets();
     ends();

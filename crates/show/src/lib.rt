@@ -16,7 +16,7 @@ use libc::STDOUT_FILENO;
 use units::BitOffset;
 use units::ByteOffset;
 
-fn words(s: &[u8]) {
+pub fn words(s: &[u8]) {
     io::write_all(STDOUT_FILENO, s);
 }
 
@@ -51,12 +51,12 @@ fn place(count: u64, at: usize) {
     words(b": ");
 }
 
-fn number_line(n: u64) {
+pub fn number_line(n: u64) {
     number(n);
     words(b"\n");
 }
 
-fn integer_line(z: i64) {
+pub fn integer_line(z: i64) {
     integer(z);
     words(b"\n");
 }
@@ -66,7 +66,7 @@ pub fn unsigned(p: &[u8], width: u32, at: usize) {
     place(width as u64, at);
     match read_unsigned(p, BitOffset(at), width) {
         Unsigned::Is(v) => number_line(v),
-        Unsigned::Outside => words(b"outside\n"),
+        Unsigned::Outside => words(b"refused 28\n"),
         Unsigned::NoWidth => words(b"no width\n"),
     }
 }
@@ -76,7 +76,7 @@ pub fn signed(p: &[u8], width: u32, at: usize) {
     place(width as u64, at);
     match read_signed(p, BitOffset(at), width) {
         Signed::Is(z) => integer_line(z),
-        Signed::Outside => words(b"outside\n"),
+        Signed::Outside => words(b"refused 28\n"),
         Signed::NoWidth => words(b"no width\n"),
     }
 }
@@ -121,8 +121,8 @@ pub fn text(p: &[u8], bytes: usize, at: usize) {
     place(bytes as u64, at);
     match string_at(p, BitOffset(at), bytes) {
         StringAt::Inside(from) => part(p, bytes, from.0),
-        StringAt::Outside => words(b"outside\n"),
-        StringAt::OffByte => words(b"off byte\n"),
+        StringAt::Outside => words(b"refused 28\n"),
+        StringAt::OffByte => words(b"refused 29\n"),
         StringAt::NoBytes => words(b"no bytes\n"),
     }
 }
@@ -152,7 +152,7 @@ pub fn line(x0: i64, y0: i64, x1: i64, y1: i64, x: i64) {
     raw(x);
     match on_line(Point { x: x0, y: y0 }, Point { x: x1, y: y1 }, x) {
         OnLine::Is(y) => integer_line(y),
-        OnLine::Beyond => words(b"beyond\n"),
+        OnLine::Beyond => words(b"refused 31\n"),
         OnLine::NoLine => words(b"no line\n"),
     }
 }
