@@ -2,23 +2,17 @@
 use mathlib.Core.Path.{_≡_, refl}
 use mathlib.Core.Bool.{Bool, false}
 use mathlib.Core.List.{List, [], _∷_, map}
-use mathlib.Core.Option.{Option, none, some}
 use Prim.Native.Nat.{ℕ}
 use lib.IntN.{ℤ}
 use Rattle.laws.specs.Said.{Said}
 use Rattle.laws.proofs.Cases.{false≢true}
 use Rattle.lines.specs.Names.{nameOf}
 use Rattle.lines.specs.declared.names.Name.{Name}
-use Rattle.schemas.specs.declared.Table.the-variants.{Ocf}
 use Rattle.rows.specs.declared.letters.LimitValue.{LimitValue}
 use Rattle.rows.specs.declared.letters.LimitValue.the-variants.{Raw, Engineering}
 use Rattle.rows.specs.declared.records.OcfRow.{OcfRow}
-use Rattle.verdicts.specs.Key.{limits}
-use Rattle.lookup.specs.GoodRows.{Row}
-use Rattle.lookup.specs.Holder.{holder}
 use Rattle.readings.specs.RawValues.{Raw as RawValue, refused as rawRefused, integer as rawInteger, string as rawString, rawOf}
-use Rattle.readings.specs.Readings.{Read, Located, located, withValidity, readAt, readingWith, validity, reading}
-use Rattle.packets.specs.Identification.{Identification, refused as notIdentified, identified, identifyIn}
+use Rattle.readings.specs.Readings.{Read, Located, withValidity, validity}
 use Rattle.limits.specs.State.{isState}
 use Rattle.limits.specs.Severity.{afterReadings}
 use Rattle.limits.specs.Values.{Values, refused as noValues, are, occurrences, rawValues, engineering, answers, unlessRefused, valuesUnder}
@@ -27,14 +21,13 @@ use Rattle.limits.specs.Step.{
   stepped,
   Rows,
   found,
-  withPlace,
-  withLimits,
-  ofPacket,
   askedOf,
+  readingAt,
   valuesOf,
   severity,
   accepted,
   byValues,
+  stepAt,
   stepFrom,
   stepIn,
   rowsBy,
@@ -45,35 +38,11 @@ use Rattle.limits.specs.declared.severity.Severity.{Severity}
 use Rattle.limits.specs.declared.severity.Progress.{Progress}
 use Rattle.limits.proofs.StepLaws.{time-passed, state-passed, sizes-passed}
 
--- where a step found the parameter
-module _ (rows : Rows) (name : Name) {spid : ℕ} {ocf : OcfRow} {at : Located} where
-  place-told : (n : ℕ) (o : OcfRow) (l : Option Located) → withPlace n o l ≡ found spid ocf at → (n ≡ spid) × (l ≡ some at)
-  unfolding withPlace
-  place-told n o none e = absurd (false≢true cc)
-  place-told n o (some x) e = (cc, cc)
-
-  limits-told : (n : ℕ) (o : Option Row) → withLimits rows name n o ≡ found spid ocf at → located (rows .plf) (rows .pcf) spid name ≡ some at
-  unfolding withLimits
-  limits-told n none e = absurd (false≢true cc)
-  limits-told n (some row) e =
-      let k = place-told n _ (located (rows .plf) (rows .pcf) n name) e in
-      rw (k .0) at (k .1)
-
-  packet-told : (i : Identification) → ofPacket rows name i ≡ found spid ocf at → located (rows .plf) (rows .pcf) spid name ≡ some at
-  unfolding ofPacket
-  packet-told (notIdentified number place) e = absurd (false≢true cc)
-  packet-told (identified row n id ptype stype pi1 pi2) e = limits-told n (holder Ocf (rows .ocf) (limits name)) e
-
-  found-located : (p : List ℕ) → askedOf rows name p ≡ found spid ocf at → located (rows .plf) (rows .pcf) spid name ≡ some at
-  unfolding askedOf
-  found-located p e = packet-told (identifyIn (rows .pid) (rows .pic) p) e
-
 -- readings that are invalid give no values
-module _ (plf pcf : List Row) (p : List ℕ) (spid : ℕ) (name : Name) (at : Located) (l : located plf pcf spid name ≡ some at)
-    (v : validity plf pcf p spid (at .pcf) ≡ false) where
-  invalid-read : (k : ℕ) → reading plf pcf p spid name k ≡ withValidity false (rawOf p (at .plf) (at .pcf) k)
-  unfolding reading readingWith readAt
-  invalid-read k = rw (l, v)
+module _ (rows : Rows) (name : Name) (p : List ℕ) (spid : ℕ) (at : Located) (v : validity (rows .plf) (rows .pcf) p spid (at .pcf) ≡ false) where
+  invalid-read : (k : ℕ) → readingAt rows name p spid at k ≡ withValidity false (rawOf p (at .plf) (at .pcf) k)
+  unfolding readingAt
+  invalid-read k = rw v
 
   skipped : {zs : List ℤ} (x : RawValue) (later : List Read) → rawValues (withValidity false x ∷ later) ≡ are zs → rawValues later ≡ are zs
   unfolding rawValues withValidity
@@ -81,10 +50,10 @@ module _ (plf pcf : List Row) (p : List ℕ) (spid : ℕ) (name : Name) (at : Lo
   skipped (rawInteger z) later e = e
   skipped (rawString start bytes) later e = absurd (false≢true cc)
 
-  no-raws : {zs : List ℤ} (ks : List ℕ) → rawValues (map (reading plf pcf p spid name) ks) ≡ are zs → zs ≡ []
+  no-raws : {zs : List ℤ} (ks : List ℕ) → rawValues (map (readingAt rows name p spid at) ks) ≡ are zs → zs ≡ []
   unfolding rawValues
   no-raws [] e = cc
-  no-raws (k ∷ ks) e = no-raws ks (skipped (rawOf p (at .plf) (at .pcf) k) (map (reading plf pcf p spid name) ks) (rw (invalid-read k) at e))
+  no-raws (k ∷ ks) e = no-raws ks (skipped (rawOf p (at .plf) (at .pcf) k) (map (readingAt rows name p spid at) ks) (rw (invalid-read k) at e))
 
 -- without raw values none are checked
 none-under : {ws : List ℤ} (inter : LimitValue) (value : ℤ → Said) (zs : List ℤ) → zs ≡ [] → valuesUnder inter value (are zs) ≡ are ws → ws ≡ []
@@ -108,15 +77,14 @@ none-kept p nbchck severe progress (noValues number place) h e = absurd (false�
 none-kept p nbchck severe progress (are ws) h e = let k = rw (h ws refl) at e in (cc, cc)
 
 module _ (rows : Rows) (p : List ℕ) (name : Name) (s : LimitState) {f : Bool} {a c r n : ℕ} where
-  from-kept : (spid : ℕ) (ocf : OcfRow) (at : Located) → located (rows .plf) (rows .pcf) spid name ≡ some at
-      → validity (rows .plf) (rows .pcf) p spid (at .pcf) ≡ false → stepFrom rows p name s (found spid ocf at) ≡ stepped f a c r n
-      → (r ≡ s .run) × (n ≡ s .announced)
-  unfolding stepFrom valuesOf
-  from-kept spid ocf at l v e =
+  from-kept : (spid : ℕ) (ocf : OcfRow) (at : Located) → validity (rows .plf) (rows .pcf) p spid (at .pcf) ≡ false
+      → stepFrom rows p name s (found spid ocf at) ≡ stepped f a c r n → (r ≡ s .run) × (n ≡ s .announced)
+  unfolding stepFrom stepAt valuesOf
+  from-kept spid ocf at v e =
       none-kept p (ocf .nbchck) (severity rows name p spid) (record { run = s .run; announced = s .announced }) _
       (λ (ws : List ℤ) w.
       no-values (ocf .inter) (engineering (rows .caf) (rows .cap) (at .pcf .curtx)) _
-      (λ (zs : List ℤ) z. no-raws (rows .plf) (rows .pcf) p spid name at l v (occurrences (at .plf .nbocc)) z)
+      (λ (zs : List ℤ) z. no-raws rows name p spid at v (occurrences (at .plf .nbocc)) z)
       w)
       (time-passed p _ s e)
 
@@ -132,4 +100,4 @@ module _ (texts : List (List ℕ)) (cells p name : List ℕ) (s : LimitState) {f
       let rows = rowsBy texts cells in
       let k = sizes-passed texts (stepIn rows p name s) (refused 0 0) e in
       let i = state-passed (isState s) (stepFrom rows p (nameOf name) s (askedOf rows (nameOf name) p)) (k .0) in
-      from-kept rows p (nameOf name) s spid ocf at (found-located rows (nameOf name) p q) v (rw q at (i .1))
+      from-kept rows p (nameOf name) s spid ocf at v (rw q at (i .1))

@@ -5,3 +5,8 @@ pub mod StepLaws
 pub mod OnceLaws
 pub mod InvalidLaws
 pub mod RawLaws
+pub mod SeverityOfLaws
+pub mod ApplyingLaws
+pub mod ScaleLaws
+pub mod PassLaws
+pub mod CaseLaws

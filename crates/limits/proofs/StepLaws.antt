@@ -32,6 +32,7 @@ use Rattle.limits.specs.Step.{
   accepted,
   byValues,
   inTime,
+  stepAt,
   stepFrom,
   stepIn,
   rowsBy,
@@ -108,7 +109,7 @@ too-old p answer s h i o = rw (o, eq-eqb (apid p) (s .apid) i, h)
 
 module _ (rows : Rows) (p : List ℕ) (name : Name) {f : Bool} {a c r n : ℕ} where
   from-left : (s : LimitState) (asked : Asked) → (s .run ≤ 99) × (s .announced ≤ 2) → stepFrom rows p name s asked ≡ stepped f a c r n → Left p f a c r n
-  unfolding stepFrom
+  unfolding stepFrom stepAt
   from-left s (unanswered number place) small e = absurd (false≢true cc)
   from-left s (found spid ocf at) small e =
       values-left p (ocf .nbchck) (severity rows name p spid) (record { run = s .run; announced = s .announced }) (valuesOf rows name p spid ocf at)
@@ -118,14 +119,14 @@ module _ (rows : Rows) (p : List ℕ) (name : Name) {f : Bool} {a c r n : ℕ} w
   -- a packet that is accepted in some state is refused in a state of its APID to which it isn't newer
   from-old : (s t : LimitState) (asked : Asked) → stepFrom rows p name s asked ≡ stepped f a c r n → t .fresh ≡ false → apid p ≡ t .apid
       → isNewer (sequenceCount p) (t .count) ≡ false → stepFrom rows p name t asked ≡ refused 35 0
-  unfolding stepFrom
+  unfolding stepFrom stepAt
   from-old s t (unanswered number place) e h i o = absurd (false≢true cc)
   from-old s t (found spid ocf at) e h i o = too-old p _ t h i o
 
   -- a packet that a state which isn't fresh accepts is newer, and of its APID
   from-newer : (s : LimitState) (asked : Asked) → stepFrom rows p name s asked ≡ stepped f a c r n → s .fresh ≡ false
       → (apid p ≡ s .apid) × (isNewer (sequenceCount p) (s .count) ≡ true)
-  unfolding stepFrom
+  unfolding stepFrom stepAt
   from-newer s (unanswered number place) e h = absurd (false≢true cc)
   from-newer s (found spid ocf at) e h = newer-told p _ s h e
 

@@ -39,8 +39,8 @@ unfoldable pub applies : (plf pcf : List Row) → List ℕ → (spid : ℕ) → 
 applies plf pcf p spid row = not (row .rlchk .given) || rawEquals p (located plf pcf spid (row .rlchk .name)) (row .valpar)
 
 -- 01: "It is violated by a value below LVALU or above HVALU"
-unfoldable pub isViolated : OcpRow → ℤ → Bool
-isViolated row value = ltZ value (row .lvalu) || ltZ (row .hvalu) value
+unfoldable pub isViolated : (lvalu hvalu value : ℤ) → Bool
+isViolated lvalu hvalu value = ltZ value lvalu || ltZ hvalu value
 
 -- an H check, and an S one
 unfoldable pub isHard : CheckType → Bool
@@ -60,8 +60,8 @@ isSoft Event = false
 -- 01: "Hard if an applying H check is violated, else soft if an S one is, else within". `checks` are those that apply
 unfoldable pub severityOf : (checks : List OcpRow) → ℤ → Severity
 severityOf checks value =
-    cond (any (λ (row : OcpRow). isHard (row .check) && isViolated row value) checks) is.Hard
-    (cond (any (λ (row : OcpRow). isSoft (row .check) && isViolated row value) checks) is.Soft
+    cond (any (λ (row : OcpRow). isHard (row .check) && isViolated (row .lvalu) (row .hvalu) value) checks) is.Hard
+    (cond (any (λ (row : OcpRow). isSoft (row .check) && isViolated (row .lvalu) (row .hvalu) value) checks) is.Soft
     is.Within)
 
 -- a check from 0 to 10 and one from -5 to 20: 15 violates the first alone, 25 both, and -5 the first

@@ -3,4 +3,10 @@ pub mod Severity
 pub mod Checks
 pub mod Values
 pub mod Step
+pub mod Answer
+pub mod Time
+pub mod Limited
+pub mod Held
+pub mod Scale
+pub mod Pass
 pub mod StepExamples

@@ -1,7 +1,7 @@
 -- A limit step: the state after a packet. Assumes nothing: these are definitions.
 use Prim.Native.Nat.{ℕ}
 use mathlib.Core.Bool.{Bool, false, cond}
-use mathlib.Core.List.{List, map}
+use mathlib.Core.List.{List, [], map}
 use mathlib.Core.Option.{Option, none, some}
 use lib.Dec.{eqb}
 use lib.IntN.{ℤ}
@@ -16,7 +16,8 @@ use Rattle.verdicts.specs.Key.{limits}
 use Rattle.verdicts.specs.Verdicts.{verdicts}
 use Rattle.lookup.specs.GoodRows.{Row, goodRows}
 use Rattle.lookup.specs.Holder.{holder}
-use Rattle.readings.specs.Readings.{Located, located, reading}
+use Rattle.readings.specs.RawValues.{rawOf}
+use Rattle.readings.specs.Readings.{Read, Located, located, withValidity, validity}
 use Rattle.packets.specs.Refusals.{bySizes}
 use Rattle.packets.specs.Identification.{Identification, refused as notIdentified, identified, identifyIn}
 use Rattle.limits.specs.State.{isState, isNewer}
@@ -43,6 +44,10 @@ pub record Rows : Type 0 where
   pub ocf : List Row
   pub ocp : List Row
 
+-- those that it asks once the limits are found
+unfoldable pub asking : (plf pcf caf cap ocp : List Row) → Rows
+asking plf pcf caf cap ocp = record { pid = []; pic = []; plf = plf; pcf = pcf; caf = caf; cap = cap; ocf = []; ocp = ocp }
+
 -- what a step asks first, whatever the state: the packet's SPID, the ocf row of the name, and where the parameter is
 pub data Asked : Type 0 where
   unanswered : (number place : ℕ) → Asked
@@ -68,11 +73,15 @@ module _ (rows : Rows) (name : Name) where
   askedOf p = ofPacket (identifyIn (rows .pid) (rows .pic) p)
 
   module _ (p : List ℕ) (spid : ℕ) where
+    -- occurrence k of the parameter, whose rows are found
+    unfoldable pub readingAt : Located → (k : ℕ) → Read
+    readingAt at k = withValidity (validity (rows .plf) (rows .pcf) p spid (at .pcf)) (rawOf p (at .plf) (at .pcf) k)
+
     -- 01: "Occurrences go in order": the values that are checked of occurrences 0 to NBOCC - 1, or 28, 30, 31
     unfoldable pub valuesOf : OcfRow → Located → Values
     valuesOf ocf at =
         valuesUnder (ocf .inter) (engineering (rows .caf) (rows .cap) (at .pcf .curtx))
-        (rawValues (map (reading (rows .plf) (rows .pcf) p spid name) (occurrences (at .plf .nbocc))))
+        (rawValues (map (readingAt at) (occurrences (at .plf .nbocc))))
 
     -- the severity of a value by the checks that apply
     unfoldable pub severity : ℤ → Severity
@@ -94,11 +103,14 @@ inTime p s answer =
     (cond (eqb (apid p) (s .apid)) (cond (isNewer (sequenceCount p) (s .count)) answer (refused 35 0))
     (refused 36 0))
 
+-- by where the parameter is
+unfoldable pub stepAt : Rows → List ℕ → Name → LimitState → (spid : ℕ) → OcfRow → Located → Stepping
+stepAt rows p name s spid ocf at =
+    byValues p (ocf .nbchck) (severity rows name p spid) (record { run = s .run; announced = s .announced }) (valuesOf rows name p spid ocf at)
+
 unfoldable pub stepFrom : Rows → List ℕ → Name → LimitState → Asked → Stepping
 stepFrom rows p name s (unanswered number place) = refused number place
-stepFrom rows p name s (found spid ocf at) =
-    inTime p s
-    (byValues p (ocf .nbchck) (severity rows name p spid) (record { run = s .run; announced = s .announced }) (valuesOf rows name p spid ocf at))
+stepFrom rows p name s (found spid ocf at) = inTime p s (stepAt rows p name s spid ocf at)
 
 -- 01: "a limit step checks 34, 20–25, 33, 26, 36, 35, 28, 30, 31"
 unfoldable pub stepIn : Rows → List ℕ → (name : List ℕ) → LimitState → Stepping

@@ -28,7 +28,7 @@ use Rattle.rows.specs.Values.{
   checkTypeOf,
 }
 use Rattle.rows.specs.Width.{widthOf, integerWidth, within}
-use Rattle.rows.specs.Records.{column, pidRow, plfRow, pcfRow, cafRow, capRow, ocfRow, ocpRow}
+use Rattle.rows.specs.Records.{column, pidRow, plfRow, pcfRow, cafRow, ocfRow, ocpRow}
 use Rattle.fields.specs.Bits.{bitAt, numberAt}
 use Rattle.fields.specs.Place.{bitInside, inside}
 use Rattle.fields.specs.Field.{isWidth, fieldAt, unsignedAt}
@@ -47,6 +47,8 @@ use Rattle.readings.specs.RawValues.{isString, startOf, integerRaw, fieldRaw, r
 use Rattle.readings.specs.Readings.{both, withValidity, readAt, sameInteger, agrees, located, readingWith, validWithin, validity, reading}
 use Rattle.packets.specs.Numbers.{typeOf, subtypeOf, numbersOf, orOther, picRowFor, identifiersFrom, identifiersOf}
 use Rattle.packets.specs.Identification.{chosen, chooseBy, choose, afterHeader, identifyIn}
+use Rattle.values.specs.Members.{isOf, members, secondOf, thirdOf}
+use Rattle.values.specs.Engineering.{endsOf}
 use Rattle.limits.specs.State.{isOver, hasNumber, isState, ahead, isNewer}
 use Rattle.limits.specs.Severity.{raised, violation, afterReading, afterReadings}
 use Rattle.limits.specs.Checks.{checksOf, equals, rawEquals, applies, isViolated, isHard, isSoft, severityOf}
@@ -54,7 +56,6 @@ use Rattle.limits.specs.Values.{
   occurrences,
   before,
   rawValues,
-  pointsOf,
   byCurve,
   engineering,
   isRefusal,
@@ -71,11 +72,13 @@ use Rattle.limits.specs.Step.{
   withLimits,
   ofPacket,
   askedOf,
+  readingAt,
   valuesOf,
   severity,
   accepted,
   byValues,
   inTime,
+  stepAt,
   stepFrom,
   stepIn,
 }
@@ -131,15 +134,15 @@ pub record Examples : Type 0 where
 
 pub examples : Examples
 unfolding
-    stepIn stepFrom inTime byValues accepted askedOf ofPacket withLimits withPlace valuesOf severity
+    stepIn stepFrom stepAt inTime byValues accepted askedOf ofPacket withLimits withPlace readingAt valuesOf severity
     isState isOver hasNumber isNewer ahead afterReadings afterReading violation raised
     checksOf applies rawEquals equals isViolated isHard isSoft severityOf
-    occurrences before rawValues pointsOf byCurve engineering isRefusal answers unlessRefused valuesUnder
+    occurrences before rawValues byCurve endsOf members isOf secondOf thirdOf engineering isRefusal answers unlessRefused valuesUnder
     identifyIn afterHeader choose chooseBy chosen identifiersOf identifiersFrom picRowFor orOther numbersOf typeOf subtypeOf
     headerOf version typeBit lengthField flagged apid sequenceCount
     reading validity validWithin readingWith readAt located both withValidity agrees sameInteger
     holder find holdsKey factsOf pidKeys pidFacts plfFacts pcfFacts ocfFacts sameKey keyWords sameBytes sameName sameCurveName
-    pidRow plfRow pcfRow cafRow capRow ocfRow ocpRow column columnsOf columnsFrom nameOf curveNameOf
+    pidRow plfRow pcfRow cafRow ocfRow ocpRow column columnsOf columnsFrom nameOf curveNameOf
     naturalOr naturalFrom integerOr integerFrom numberOf meaning spelt after digitOn digitOf
     optionalName isGiven optionalCurve letterOf validOf categoryOf natureOf formatOf offEndsOf limitValueOf limitCodingOf checkTypeOf
     rawOf rawIn startOf fieldRaw isString integerRaw widthOf integerWidth within unsignedAt signedAt complementOf fieldAt isWidth inside bitInside numberAt bitAt packet

@@ -3,22 +3,20 @@ use Prim.Native.Nat.{ℕ, zero, suc}
 use mathlib.Core.Path.{_≡_, refl}
 use mathlib.Core.Bool.{Bool, true, false, cond}
 use mathlib.Core.List.{List, [], _∷_, _++_, map}
-use mathlib.Core.Option.{Option, none, some}
 use lib.Dec.{eqb}
 use lib.IntN.{ℤ, pos}
-use Rattle.laws.specs.Lists.{any, keep}
+use Rattle.laws.specs.Lists.{any}
 use Rattle.laws.specs.Said.{Said, value, refused as refusedWith, free}
-use Rattle.lines.specs.Names.{sameCurveName}
-use Rattle.lines.specs.declared.names.CurveName.{CurveName}
-use Rattle.rows.specs.Records.{cafRow, capRow}
 use Rattle.rows.specs.declared.letters.LimitValue.{LimitValue}
 use Rattle.rows.specs.declared.letters.LimitValue.the-variants.{Raw, Engineering}
-use Rattle.rows.specs.declared.records.CapRow.{CapRow}
 use Rattle.rows.specs.declared.records.OptionalCurve.{OptionalCurve}
 use Rattle.calibration.specs.Curve.{curveAt}
 use Rattle.lookup.specs.GoodRows.{Row}
-use Rattle.lookup.specs.Holder.{find}
 use Rattle.readings.specs.Readings.{Read, refused as notRead, integer, string}
+use Rattle.values.specs.Members.{members, secondOf, thirdOf}
+use Rattle.values.specs.Engineering.{endsOf}
+use Rattle.values.specs.declared.curve.Ends.{Ends}
+use Rattle.values.specs.declared.curve.Ends.the-variants.{Are, NoCurve}
 
 -- the values in their order, or a refusal with its number and place
 pub data Values : Type 0 where
@@ -43,22 +41,14 @@ rawValues (notRead number place ∷ later) = refused number place
 rawValues (integer z valid ∷ later) = cond valid (before z (rawValues later)) (rawValues later)
 rawValues (string start bytes valid ∷ later) = refused 26 0
 
--- the points of a curve: its good cap rows
-unfoldable pub pointsOf : (cap : List Row) → CurveName → List CapRow
-pointsOf cap name = keep (λ (row : CapRow). sameCurveName (row .numbr) name) (map (λ (r : Row). capRow (r .bytes)) cap)
-
 -- 01: "CAF_INTER governs". A good pcf row's curve has a good caf row; without one every raw value is off the curve
-unfoldable pub byCurve : Option Row → List CapRow → ℤ → Said
-byCurve none points raw = refusedWith 30
-byCurve (some caf) points raw =
-    curveAt (cafRow (caf .bytes) .inter) (map (λ (row : CapRow). row .xvals) points) (map (λ (row : CapRow). row .yvals) points) raw
+unfoldable pub byCurve : Ends → (points : List Row) → ℤ → Said
+byCurve NoCurve points raw = refusedWith 30
+byCurve (Are ends) points raw = curveAt ends (map secondOf points) (map thirdOf points) raw
 
 -- 01: "N without CURTX and T answer the raw value". By the good rows of caf and cap
 unfoldable pub engineering : (caf cap : List Row) → OptionalCurve → ℤ → Said
-engineering caf cap curtx raw =
-    cond (curtx .given)
-    (byCurve (find (λ (r : Row). sameCurveName (cafRow (r .bytes) .numbr) (curtx .name)) caf) (pointsOf cap (curtx .name)) raw)
-    (value raw)
+engineering caf cap curtx raw = cond (curtx .given) (byCurve (endsOf (members (curtx .name) caf)) (members (curtx .name) cap) raw) (value raw)
 
 -- an answer is a refusal of this number. A line that isn't one, which no good rows give, is as off the curve: 30
 unfoldable pub isRefusal : ℕ → Said → Bool

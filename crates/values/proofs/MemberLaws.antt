@@ -132,13 +132,13 @@ module _ {A : Type 0} (xs₀ vs : List A) {xs : List A} (h : length vs ≤ lengt
   front-first : xs ≡ vs ++ drop (0 + length vs) xs₀
   front-first = e ∙ sets-eq vs xs₀ 0 (omega arith)
 
-  front-is : (n : ℕ) → n ≡ length vs → take n xs ≡ vs
+  pub front-is : (n : ℕ) → n ≡ length vs → take n xs ≡ vs
   front-is n k = ap (take n) front-first ∙ take-at vs _ n (sym k)
 
   front-at : (d : A) (i : ℕ) → i < length vs → getD xs i d ≡ getD vs i d
   front-at d i k = ap (λ (l : List A). getD l i d) front-first ∙ List·getD-append vs (drop (0 + length vs) xs₀) d i k
 
-  front-long : length xs ≡ length xs₀
+  pub front-long : length xs ≡ length xs₀
   front-long = ap length e ∙ length-sets xs₀ 0 vs
 
 pub part-long : {A : Type 0} (n : ℕ) (xs : List A) → n ≤ length xs → n ≡ length (take n xs)
