@@ -1,5 +1,5 @@
 -- Each kind of raw value: only an integer has a value.
-use mathlib.Core.Path.{refl, _∙_}
+use mathlib.Core.Path.{refl}
 use borrow.Author.Needs.{needs}
 use Rattle.readings.specs.RawValues.{saidRaw}
 use Rattle.readings.proofs.ReadingLaws.{words-same}
