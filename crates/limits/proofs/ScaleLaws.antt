@@ -1,5 +1,5 @@
 -- The value that is checked, by its scale, is the raw one under INTER U and the engineering one under C. Assumes nothing.
-use mathlib.Core.Path.{_≡_, refl, ap, _∙_}
+use mathlib.Core.Path.{_≡_, refl, ap, sym, _∙_}
 use mathlib.Core.Bool.{Bool, true, false, cond}
 use mathlib.Core.List.{List, [], _∷_, map}
 use Prim.Native.Nat.{ℕ}
@@ -11,7 +11,8 @@ use Rattle.rows.specs.declared.letters.LimitValue.{LimitValue}
 use Rattle.rows.specs.declared.letters.LimitValue.the-variants.{Raw, Engineering}
 use Rattle.rows.specs.declared.letters.OffEnds.{OffEnds}
 use Rattle.rows.specs.declared.records.OptionalCurve.{OptionalCurve}
-use Rattle.calibration.specs.Curve.{curveAt}
+use Rattle.calibration.specs.Curve.{curveAt, said}
+use Rattle.calibration.specs.declared.curve.CurveValue.{CurveValue}
 use Rattle.lookup.specs.GoodRows.{Row}
 use Rattle.values.specs.Members.{members, secondOf, thirdOf}
 use Rattle.values.specs.Engineering.{endsOf}
@@ -45,6 +46,10 @@ module _ (scale : Scale) (xs ys : List ℤ) {z raw : ℤ} where
   pub value-along : {s : Said} {ends : OffEnds} → scale ≡ Along ends → z ≡ raw → s ≡ curveAt ends xs ys z → s ≡ valueOn scale xs ys raw
   unfolding valueOn
   value-along {ends = ends} e r h = rw e (h ∙ ap (curveAt ends xs ys) r)
+
+  -- by the answer that says it
+  pub value-said : {r v : CurveValue} → r ≡ v → z ≡ raw → said r ≡ valueOn scale xs ys z → valueOn scale xs ys raw ≡ said v
+  value-said q e h = sym (h ∙ ap (valueOn scale xs ys) e) ∙ ap said q
 
 pub value-without : (scale : Scale) (xs ys : List ℤ) (raw : ℤ) → scale ≡ Without → refusedWith 30 ≡ valueOn scale xs ys raw
 unfolding valueOn

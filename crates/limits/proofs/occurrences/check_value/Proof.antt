@@ -1,5 +1,5 @@
 -- By what the scale says of the value. Assumes nothing.
-use mathlib.Core.Path.{_≡_, ap, sym, _∙_}
+use mathlib.Core.Path.{_≡_, ap, _∙_}
 use mir.Facts.{toZ-ofZ}
 use mir.Val.{SFits, toZ, ofZ}
 use mir.Syntax.{w64}
@@ -8,6 +8,7 @@ use Rattle.calibration.specs.Curve as curve
 use Rattle.calibration.specs.declared.curve.CurveValue.{CurveValue}
 use Rattle.limits.specs.Scale.{valueOn}
 use Rattle.limits.specs.Checks.{severityOf}
+use Rattle.limits.proofs.ScaleLaws.{value-said}
 use Rattle.limits.proofs.PassLaws.{after-number, after-off, after-beyond, after-free}
 use Rattle.limits.proofs.occurrences.check_value.Statement.{statement}
 use Rattle.limits.proofs.occurrences.check_value.Tie as tie
@@ -15,9 +16,7 @@ use Rattle.limits.proofs.occurrences.check_value.Tie as tie
 -- what the scale says
 said-is : (c : tie.After-value-on) {v : CurveValue} → c .value-on .result ≡ v
     → (let a = c .before .before .before .args in valueOn (a .scale) (a .xs .now) (a .ys .now) (a .raw) ≡ curve.said v)
-said-is c e =
-    let s = c .before .before .before in
-    sym (sym (ap curve.said e) ∙ c .value-on .ensures ∙ ap (valueOn _ _ _) (toZ-ofZ (s .fits .raw)))
+said-is c e = value-said _ _ _ e (toZ-ofZ (c .before .before .before .fits .raw)) (c .value-on .ensures)
 
 -- the value passed its word unchanged
 word : (k : tie.After-known-told) → toZ w64 (ofZ w64 (k .before .v .given .0 .0)) ≡ k .before .v .given .0 .0
