@@ -1,0 +1,19 @@
+-- What `extract` says, told.
+use mathlib.Core.Path.{ap}
+use Rattle.exports.specs.Answers.{ofRead}
+use Rattle.exports.proofs.PlaceLaws.{told-same}
+use borrow.Author.Needs.{needs}
+use Rattle.exports.proofs.petrolyaz_extract.Statement.{statement}
+use Rattle.exports.proofs.petrolyaz_extract.Tie as tie
+
+extract-requires : tie.Need-extract-requires
+extract-requires c κs = search needs
+
+tell-extracted-requires : tie.Need-tell-extracted-requires
+tell-extracted-requires c κs = search needs
+
+returns : tie.Need-returns
+returns c = told-same (ap ofRead (c .before .before .extract .ensures)) (c .tell-extracted .ensures)
+
+pub petrolyaz-extract-spec : {M : Type 1} → statement M
+petrolyaz-extract-spec = tie.close (tie.spec extract-requires tell-extracted-requires returns)

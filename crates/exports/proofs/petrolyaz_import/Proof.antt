@@ -1,0 +1,23 @@
+-- What `import` says, told, and the cells as it leaves them.
+use Rattle.exports.proofs.PlaceLaws.{import-told}
+use borrow.Author.Needs.{needs}
+use Rattle.exports.proofs.petrolyaz_import.Statement.{statement}
+use Rattle.exports.proofs.petrolyaz_import.Tie as tie
+
+import-requires : tie.Need-import-requires
+import-requires c κs = search needs
+
+tell-imported-requires : tie.Need-tell-imported-requires
+tell-imported-requires c κs = search needs
+
+same-length : tie.Need-same-length
+same-length c = search needs
+
+returns : tie.Need-returns
+returns c =
+    let e = c .before .before .before .before .import .ensures in
+    import-told _ _ (e .0) (e .1) (c .tell-imported .ensures)
+
+pub petrolyaz-import-spec : {M : Type 1} → statement M
+petrolyaz-import-spec =
+    tie.close (tie.spec import-requires tell-imported-requires same-length returns)

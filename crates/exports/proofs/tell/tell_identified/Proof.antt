@@ -1,0 +1,86 @@
+-- Case by case.
+use mathlib.Core.Path.{refl, ap}
+use borrow.Author.Needs.{needs}
+use Rattle.packets.specs.Identification as identify
+use Rattle.packets.specs.declared.identify.Identified.{Identified}
+use Rattle.exports.specs.Answers.{ofIdentification}
+use Rattle.exports.proofs.PlaceLaws.{kept, told-refusal, told-values}
+use Rattle.exports.proofs.tell.tell_identified.Statement.{statement}
+use Rattle.exports.proofs.tell.tell_identified.Tie as tie
+
+enum-known-identified : tie.Need-enum-known-identified
+enum-known-identified c = search needs
+
+as-word-requires : tie.Need-as-word-requires
+as-word-requires c κs = search needs
+
+cast-as-word : tie.Need-cast-as-word
+cast-as-word c = search needs
+
+as-word-requires-2 : tie.Need-as-word-requires-2
+as-word-requires-2 c κs = search needs
+
+cast-as-word-2 : tie.Need-cast-as-word-2
+cast-as-word-2 c = search needs
+
+as-word-requires-3 : tie.Need-as-word-requires-3
+as-word-requires-3 c κs = search needs
+
+cast-as-word-3 : tie.Need-cast-as-word-3
+cast-as-word-3 c = search needs
+
+as-word-requires-4 : tie.Need-as-word-requires-4
+as-word-requires-4 c κs = search needs
+
+cast-as-word-4 : tie.Need-cast-as-word-4
+cast-as-word-4 c = search needs
+
+as-word-requires-5 : tie.Need-as-word-requires-5
+as-word-requires-5 c κs = search needs
+
+as-word-requires-6 : tie.Need-as-word-requires-6
+as-word-requires-6 c κs = search needs
+
+as-word-requires-7 : tie.Need-as-word-requires-7
+as-word-requires-7 c κs = search needs
+
+write-requires : tie.Need-write-requires
+write-requires c κs = search needs
+
+enum-known-identified-2 : tie.Need-enum-known-identified-2
+enum-known-identified-2 c = search needs
+
+refuse-question-requires : tie.Need-refuse-question-requires
+refuse-question-requires c κs = search needs
+
+returns : tie.Need-returns
+unfolding ofIdentification identify.said
+returns c =
+    told-values _ (ap (λ (x : Identified). ofIdentification (identify.said x)) (c .before .before .before .before .before .before .before .before .before .before .before .before .before .before .identified .given .1)) (c .write .ensures)
+    (kept (c .before .before .before .before .before .before .before .before .before .before .before .as-word .ensures) (search needs) (kept (c .before .before .before .before .before .before .before .before .before .as-word2 .ensures) (search needs) (kept (c .before .before .before .before .before .before .before .as-word3 .ensures) (search needs) (kept (c .before .before .before .before .before .as-word4 .ensures) (search needs) (kept (c .before .before .before .as-word5 .ensures) (search needs) (kept (c .before .before .as-word6 .ensures) (search needs) (kept (c .before .as-word7 .ensures) (search needs) refl)))))))
+
+returns-2 : tie.Need-returns-2
+unfolding ofIdentification identify.said
+returns-2 c = told-refusal _ _ (ap (λ (x : Identified). ofIdentification (identify.said x)) (c .before .before .identified2 .given .1)) (c .refuse-question .ensures)
+
+pub tell-identified-spec : {M : Type 1} → statement M
+tell-identified-spec =
+    tie.close
+    (tie.spec
+    enum-known-identified
+    as-word-requires
+    cast-as-word
+    as-word-requires-2
+    cast-as-word-2
+    as-word-requires-3
+    cast-as-word-3
+    as-word-requires-4
+    cast-as-word-4
+    as-word-requires-5
+    as-word-requires-6
+    as-word-requires-7
+    write-requires
+    enum-known-identified-2
+    refuse-question-requires
+    returns
+    returns-2)

@@ -1,0 +1,108 @@
+// The questions for programs in other languages; include/petrolyaz.h declares these functions for C.
+use crate::tell::tell_engineered;
+use crate::tell::tell_extracted;
+use crate::tell::tell_identified;
+use crate::tell::tell_imported;
+use import::import;
+use packets::extract::extract;
+use packets::identify::identify;
+use values::engineer::engineer;
+ghost use Rattle.packets.specs.Identification.{identifyOf};
+ghost use Rattle.packets.specs.Extraction.{extractOf};
+ghost use Rattle.values.specs.Engineering.{engineerOf};
+ghost use Rattle.exports.specs.Answers.{ofIdentification, ofRead, ofEngineering, Told, ImportTold, ten};
+
+mod places;
+mod tell;
+
+// Judges all rows of the ten tables: one cell for each, in table order.
+#[no_mangle]
+pub extern "C" fn petrolyaz_import<'a>(
+    pid: &'a [u8],
+    pic: &'a [u8],
+    plf: &'a [u8],
+    pcf: &'a [u8],
+    caf: &'a [u8],
+    cap: &'a [u8],
+    txf: &'a [u8],
+    txp: &'a [u8],
+    ocf: &'a [u8],
+    ocp: &'a [u8],
+    cells: &mut [u16],
+    answer: &mut [i64; 8],
+) -> u64
+    ensures { λ r. ⌜ ImportTold (ten (now (pid .entry)) (now (pic .entry)) (now (plf .entry)) (now (pcf .entry)) (now (caf .entry)) (now (cap .entry)) (now (txf .entry)) (now (txp .entry)) (now (ocf .entry)) (now (ocp .entry))) (now (cells .entry)) (now (cells .exit)) (now (answer .entry)) (now (answer .exit)) r ⌝ }
+{
+    let tables = [pid, pic, plf, pcf, caf, cap, txf, txp, ocf, ocp];
+    tell_imported(import(tables, cells), answer)
+}
+
+// Which packet it is.
+#[no_mangle]
+pub extern "C" fn petrolyaz_identify<'a>(
+    pid: &'a [u8],
+    pic: &'a [u8],
+    plf: &'a [u8],
+    pcf: &'a [u8],
+    caf: &'a [u8],
+    cap: &'a [u8],
+    txf: &'a [u8],
+    txp: &'a [u8],
+    ocf: &'a [u8],
+    ocp: &'a [u8],
+    packet: &[u8],
+    answer: &mut [i64; 8],
+) -> u64
+    ensures { λ r. ⌜ Told (ofIdentification (identifyOf (ten (now (pid .entry)) (now (pic .entry)) (now (plf .entry)) (now (pcf .entry)) (now (caf .entry)) (now (cap .entry)) (now (txf .entry)) (now (txp .entry)) (now (ocf .entry)) (now (ocp .entry))) (now (packet .entry)))) (now (answer .entry)) (now (answer .exit)) r ⌝ }
+{
+    let tables = [pid, pic, plf, pcf, caf, cap, txf, txp, ocf, ocp];
+    tell_identified(identify(tables, packet), answer)
+}
+
+// What a packet says of a parameter: its raw value and whether it is valid.
+#[no_mangle]
+pub extern "C" fn petrolyaz_extract<'a>(
+    pid: &'a [u8],
+    pic: &'a [u8],
+    plf: &'a [u8],
+    pcf: &'a [u8],
+    caf: &'a [u8],
+    cap: &'a [u8],
+    txf: &'a [u8],
+    txp: &'a [u8],
+    ocf: &'a [u8],
+    ocp: &'a [u8],
+    packet: &[u8],
+    name: &[u8],
+    occurrence: usize,
+    answer: &mut [i64; 8],
+) -> u64
+    ensures { λ r. ⌜ Told (ofRead (extractOf (ten (now (pid .entry)) (now (pic .entry)) (now (plf .entry)) (now (pcf .entry)) (now (caf .entry)) (now (cap .entry)) (now (txf .entry)) (now (txp .entry)) (now (ocf .entry)) (now (ocp .entry))) (now (packet .entry)) (now (name .entry)) occurrence)) (now (answer .entry)) (now (answer .exit)) r ⌝ }
+{
+    let tables = [pid, pic, plf, pcf, caf, cap, txf, txp, ocf, ocp];
+    tell_extracted(extract(tables, packet, name, occurrence), answer)
+}
+
+// Its engineering value.
+#[no_mangle]
+pub extern "C" fn petrolyaz_engineer<'a>(
+    pid: &'a [u8],
+    pic: &'a [u8],
+    plf: &'a [u8],
+    pcf: &'a [u8],
+    caf: &'a [u8],
+    cap: &'a [u8],
+    txf: &'a [u8],
+    txp: &'a [u8],
+    ocf: &'a [u8],
+    ocp: &'a [u8],
+    packet: &[u8],
+    name: &[u8],
+    occurrence: usize,
+    answer: &mut [i64; 8],
+) -> u64
+    ensures { λ r. ⌜ Told (ofEngineering (engineerOf (ten (now (pid .entry)) (now (pic .entry)) (now (plf .entry)) (now (pcf .entry)) (now (caf .entry)) (now (cap .entry)) (now (txf .entry)) (now (txp .entry)) (now (ocf .entry)) (now (ocp .entry))) (now (packet .entry)) (now (name .entry)) occurrence)) (now (answer .entry)) (now (answer .exit)) r ⌝ }
+{
+    let tables = [pid, pic, plf, pcf, caf, cap, txf, txp, ocf, ocp];
+    tell_engineered(engineer(tables, packet, name, occurrence), answer)
+}

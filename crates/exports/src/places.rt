@@ -1,0 +1,42 @@
+// What stands in a result and in the places of an answer.
+ghost use mathlib.Core.Path.{_≡_};
+ghost use Prim.Native.Nat.{_≤_};
+ghost use lib.ListN.{take};
+ghost use Rattle.exports.specs.Answers.{code, word, flag, written};
+
+// A refusal as one number.
+pub(crate) fn refuse(number: u8, place: usize) -> u64
+    ensures { λ r. ⌜ r ≡ code number place ⌝ }
+{
+    let low = place as u64 % 4294967296;
+    number as u64 * 4294967296 + low
+}
+
+// A number of 64 bits as the i64 of the same bits.
+pub(crate) fn as_word(n: u64) -> i64
+    ensures { λ r. ⌜ r ≡ word n ⌝ }
+{
+    if n < 9223372036854775808 {
+        return n as i64;
+    }
+    let below = (18446744073709551615 - n) as i64;
+    -1 - below
+}
+
+pub(crate) fn as_flag(yes: bool) -> i64
+    ensures { λ r. ⌜ r ≡ flag yes ⌝ }
+{
+    if yes { 1 } else { 0 }
+}
+
+// The first n of these values, written to the first places.
+pub(crate) fn write(answer: &mut [i64; 8], these: [i64; 8], n: usize)
+    requires { ⌜ n ≤ 8 ⌝ }
+    ensures { λ _. ⌜ now (answer .exit) ≡ written (now (answer .entry)) (take n these) ⌝ }
+{
+    let mut i: usize = 0;
+    while i < n {
+        answer[i] = these[i];
+        i += 1;
+    }
+}

@@ -1,0 +1,146 @@
+// Each kind of answer as a result and values.
+use crate::places::as_flag;
+use crate::places::as_word;
+use crate::places::refuse;
+use crate::places::write;
+use import::Imported;
+use packets::extract::Extracted;
+use packets::identify::Identified;
+use packets::refusal::Refusal;
+use packets::refusal::number_of;
+use packets::refusal::place_of;
+use values::engineer::Engineered;
+ghost use mathlib.Core.Path.{_≡_};
+ghost use Rattle.import.specs.Judged as import;
+ghost use Rattle.packets.specs.Identification as identify;
+ghost use Rattle.packets.specs.Extraction as extract;
+ghost use Rattle.packets.specs.Refusals.{numberOf, placeOf};
+ghost use Rattle.values.specs.Engineering as engineer;
+ghost use Rattle.exports.specs.Answers.{code, ofImport, ofIdentification, ofRead, ofEngineering, Told};
+
+fn refuse_question(refusal: Refusal) -> u64
+    ensures { λ r. ⌜ r ≡ code (numberOf refusal) (placeOf refusal) ⌝ }
+{
+    refuse(number_of(refusal), place_of(refusal))
+}
+
+pub(crate) fn tell_imported(imported: Imported, answer: &mut [i64; 8]) -> u64
+    ensures { λ r. ⌜ Told (ofImport (import.said imported)) (now (answer .entry)) (now (answer .exit)) r ⌝ }
+{
+    match imported {
+        Imported::Done(rows, good) => {
+            write(
+                answer,
+                [as_word(rows as u64), as_word(good as u64), 0, 0, 0, 0, 0, 0],
+                2,
+            );
+            0
+        }
+        Imported::TooLong(table) => refuse(1, table),
+        Imported::TooManyRows(table) => refuse(2, table),
+        Imported::TooFewCells => refuse(3, 0),
+    }
+}
+
+pub(crate) fn tell_identified(identified: Identified, answer: &mut [i64; 8]) -> u64
+    ensures { λ r. ⌜ Told (ofIdentification (identify.said identified)) (now (answer .entry)) (now (answer .exit)) r ⌝ }
+{
+    match identified {
+        Identified::Is(row, spid, n) => {
+            write(
+                answer,
+                [
+                    as_word(row.0 as u64),
+                    as_word(spid.0 as u64),
+                    as_word(n.apid as u64),
+                    as_word(n.ptype as u64),
+                    as_word(n.stype as u64),
+                    as_word(n.pi1),
+                    as_word(n.pi2),
+                    0,
+                ],
+                7,
+            );
+            0
+        }
+        Identified::Refused(refusal) => refuse_question(refusal),
+    }
+}
+
+pub(crate) fn tell_extracted(extracted: Extracted, answer: &mut [i64; 8]) -> u64
+    ensures { λ r. ⌜ Told (ofRead (extract.said extracted)) (now (answer .entry)) (now (answer .exit)) r ⌝ }
+{
+    match extracted {
+        Extracted::Number(v, valid) => {
+            write(answer, [0, v, as_flag(valid), 0, 0, 0, 0, 0], 3);
+            0
+        }
+        Extracted::Part(from, bytes, valid) => {
+            write(
+                answer,
+                [
+                    1,
+                    as_word(from.0 as u64),
+                    as_word(bytes as u64),
+                    as_flag(valid),
+                    0,
+                    0,
+                    0,
+                    0,
+                ],
+                4,
+            );
+            0
+        }
+        Extracted::Refused(refusal) => refuse_question(refusal),
+    }
+}
+
+pub(crate) fn tell_engineered(engineered: Engineered, answer: &mut [i64; 8]) -> u64
+    ensures { λ r. ⌜ Told (ofEngineering (engineer.said engineered)) (now (answer .entry)) (now (answer .exit)) r ⌝ }
+{
+    match engineered {
+        Engineered::Number(v) => {
+            write(answer, [0, v, 0, 0, 0, 0, 0, 0], 2);
+            0
+        }
+        Engineered::Part(from, bytes) => {
+            write(
+                answer,
+                [
+                    1,
+                    as_word(from.0 as u64),
+                    as_word(bytes as u64),
+                    0,
+                    0,
+                    0,
+                    0,
+                    0,
+                ],
+                3,
+            );
+            0
+        }
+        Engineered::Text(row, from, bytes) => {
+            write(
+                answer,
+                [
+                    2,
+                    as_word(row.0 as u64),
+                    as_word(from.0 as u64),
+                    as_word(bytes as u64),
+                    0,
+                    0,
+                    0,
+                    0,
+                ],
+                4,
+            );
+            0
+        }
+        Engineered::OffCurve => refuse(30, 0),
+        Engineered::OutOfRange => refuse(31, 0),
+        Engineered::NoText => refuse(32, 0),
+        Engineered::Refused(refusal) => refuse_question(refusal),
+    }
+}
