@@ -29,11 +29,9 @@ pub(crate) fn tell_imported(imported: Imported, answer: &mut [i64; 8]) -> u64
 {
     match imported {
         Imported::Done(rows, good) => {
-            write(
-                answer,
-                [as_word(rows as u64), as_word(good as u64), 0, 0, 0, 0, 0, 0],
-                2,
-            );
+            let all = as_word(rows as u64);
+            let fine = as_word(good as u64);
+            write(answer, [all, fine, 0, 0, 0, 0, 0, 0], 2);
             0
         }
         Imported::TooLong(table) => refuse(1, table),
@@ -76,20 +74,9 @@ pub(crate) fn tell_extracted(extracted: Extracted, answer: &mut [i64; 8]) -> u64
             0
         }
         Extracted::Part(from, bytes, valid) => {
-            write(
-                answer,
-                [
-                    1,
-                    as_word(from.0 as u64),
-                    as_word(bytes as u64),
-                    as_flag(valid),
-                    0,
-                    0,
-                    0,
-                    0,
-                ],
-                4,
-            );
+            let start = as_word(from.0 as u64);
+            let length = as_word(bytes as u64);
+            write(answer, [1, start, length, as_flag(valid), 0, 0, 0, 0], 4);
             0
         }
         Extracted::Refused(refusal) => refuse_question(refusal),
@@ -105,37 +92,16 @@ pub(crate) fn tell_engineered(engineered: Engineered, answer: &mut [i64; 8]) -> 
             0
         }
         Engineered::Part(from, bytes) => {
-            write(
-                answer,
-                [
-                    1,
-                    as_word(from.0 as u64),
-                    as_word(bytes as u64),
-                    0,
-                    0,
-                    0,
-                    0,
-                    0,
-                ],
-                3,
-            );
+            let start = as_word(from.0 as u64);
+            let length = as_word(bytes as u64);
+            write(answer, [1, start, length, 0, 0, 0, 0, 0], 3);
             0
         }
         Engineered::Text(row, from, bytes) => {
-            write(
-                answer,
-                [
-                    2,
-                    as_word(row.0 as u64),
-                    as_word(from.0 as u64),
-                    as_word(bytes as u64),
-                    0,
-                    0,
-                    0,
-                    0,
-                ],
-                4,
-            );
+            let number = as_word(row.0 as u64);
+            let start = as_word(from.0 as u64);
+            let length = as_word(bytes as u64);
+            write(answer, [2, number, start, length, 0, 0, 0, 0], 4);
             0
         }
         Engineered::OffCurve => refuse(30, 0),

@@ -77,13 +77,13 @@ returns-2 : tie.Need-returns-2
 unfolding ofEngineering engineer.said
 returns-2 c =
     told-values _ (ap (λ (x : Engineered). ofEngineering (engineer.said x)) (c .before .before .before .before .before .engineered2 .given .1)) (c .write2 .ensures)
-    (ap (λ (zs : List ℤ). pos 1 ∷ zs) (kept (c .before .before .as-word .ensures) (search needs) (kept (c .before .as-word2 .ensures) (search needs) refl)))
+    (ap (λ (zs : List ℤ). pos 1 ∷ zs) (kept (c .before .before .before .as-word .ensures) (search needs) (kept (c .before .before .as-word2 .ensures) (search needs) refl)))
 
 returns-3 : tie.Need-returns-3
 unfolding ofEngineering engineer.said
 returns-3 c =
     told-values _ (ap (λ (x : Engineered). ofEngineering (engineer.said x)) (c .before .before .before .before .before .before .engineered3 .given .1)) (c .write3 .ensures)
-    (ap (λ (zs : List ℤ). pos 2 ∷ zs) (kept (c .before .before .before .as-word3 .ensures) (search needs) (kept (c .before .before .as-word4 .ensures) (search needs) (kept (c .before .as-word5 .ensures) (search needs) refl))))
+    (ap (λ (zs : List ℤ). pos 2 ∷ zs) (kept (c .before .before .before .before .as-word3 .ensures) (search needs) (kept (c .before .before .before .as-word4 .ensures) (search needs) (kept (c .before .before .as-word5 .ensures) (search needs) refl))))
 
 returns-4 : tie.Need-returns-4
 unfolding ofEngineering engineer.said

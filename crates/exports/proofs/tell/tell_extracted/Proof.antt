@@ -50,7 +50,7 @@ returns-2 : tie.Need-returns-2
 unfolding ofRead extract.said
 returns-2 c =
     told-values _ (ap (λ (x : Extracted). ofRead (extract.said x)) (c .before .before .before .before .before .before .extracted2 .given .1)) (c .write2 .ensures)
-    (ap (λ (zs : List ℤ). pos 1 ∷ zs) (kept (c .before .before .before .as-word .ensures) (search needs) (kept (c .before .before .as-word2 .ensures) (search needs) (kept (c .before .as-flag2 .ensures) (search needs) refl))))
+    (ap (λ (zs : List ℤ). pos 1 ∷ zs) (kept (c .before .before .before .before .as-word .ensures) (search needs) (kept (c .before .before .before .as-word2 .ensures) (search needs) (kept (c .before .as-flag2 .ensures) (search needs) refl))))
 
 returns-3 : tie.Need-returns-3
 unfolding ofRead extract.said

@@ -42,7 +42,7 @@ returns : tie.Need-returns
 unfolding ofImport import.said
 returns c =
     told-values _ (ap (λ (x : Imported). ofImport (import.said x)) (c .before .before .before .before .before .imported .given .1)) (c .write .ensures)
-    (kept (c .before .before .as-word .ensures) (search needs) (kept (c .before .as-word2 .ensures) (search needs) refl))
+    (kept (c .before .before .before .as-word .ensures) (search needs) (kept (c .before .before .as-word2 .ensures) (search needs) refl))
 
 returns-2 : tie.Need-returns-2
 unfolding ofImport import.said

@@ -1,0 +1,79 @@
+/* Some of the specification's figures, asked through the C interface:
+ *   rt staticlib exports
+ *   cc -Wall -Wextra -Iinclude examples/c/figures.c target/staticlib/libexports.a -o figures && ./figures */
+#include "petrolyaz.h"
+#include <stdio.h>
+#include <string.h>
+
+struct table { const uint8_t *bytes; size_t length; };
+#define TEXT(s) { (const uint8_t *)(s), sizeof(s) - 1 }
+#define NAME(s) (const uint8_t *)(s), sizeof(s) - 1
+#define PAIR(t, i) (t)[i].bytes, (t)[i].length
+#define ALL(t) PAIR(t, 0), PAIR(t, 1), PAIR(t, 2), PAIR(t, 3), PAIR(t, 4), PAIR(t, 5), PAIR(t, 6), PAIR(t, 7), PAIR(t, 8), PAIR(t, 9)
+
+static const uint8_t packet[] = {0x08, 0x0A, 0xC0, 0x00, 0x00, 0x07, 0x10, 0x03, 0x19, 0x00, 0xFF, 0x85, 0x12, 0x34};
+
+/* A curve with three points announced and two there. */
+static const struct table counted[10] = {
+    TEXT(""), TEXT(""), TEXT(""), TEXT(""), TEXT("C\t\tI\tI\t\t\t3\t\n"), TEXT("C\t0\t0\nC\t10\t5\n"), TEXT(""), TEXT(""), TEXT(""), TEXT(""),
+};
+
+static const struct table asked[10] = {
+    TEXT("3\t25\t10\t\t\t7\t\t\t\t\t\t\t\t\t\t\n"),
+    TEXT(""),
+    TEXT("WORD\t7\t12\t0\t\t\t\t\nBYTE\t7\t10\t0\t\t\t\t\nPAST\t7\t13\t0\t\t\t\t\nPART\t7\t12\t0\t\t\t\t\nCURVE\t7\t7\t4\t\t\t\t\nMODE\t7\t9\t0\t\t\t\t\n"),
+    TEXT("WORD\t\t\t\t3\t12\t\t\t\tN\tR\t\t\t\t\t\t\t\t\t\t\t\t\n"
+         "BYTE\t\t\t\t4\t4\t\t\t\tN\tR\t\t\t\t\t\t\t\t\t\t\t\t\n"
+         "PAST\t\t\t\t3\t12\t\t\t\tN\tR\t\t\t\t\t\t\t\t\t\t\t\t\n"
+         "PART\t\t\t\t8\t2\t\t\t\tT\tR\t\t\t\t\t\t\t\t\t\t\t\t\n"
+         "CURVE\t\t\t\t3\t0\t\t\t\tN\tR\tC\t\t\t\t\t\t\t\t\t\t\t\n"
+         "MODE\t\t\t\t3\t4\t\t\t\tS\tR\tM\t\t\t\t\t\t\t\t\t\t\t\n"),
+    TEXT("C\t\tI\tI\t\t\t3\tP\n"),
+    TEXT("C\t0\t0\nC\t10\t-5\nC\t20\t100\n"),
+    TEXT("M\t\tU\t1\n"),
+    TEXT("M\t0\t0\tOFF\n"),
+    TEXT(""),
+    TEXT(""),
+};
+
+static int64_t answer[8];
+static int wrong;
+
+static void expect(const char *what, uint64_t result, unsigned number, uint32_t place, int n, const int64_t *values)
+{
+    int ok = petrolyaz_number(result) == number && petrolyaz_place(result) == place;
+    for (int i = 0; i < 8; i++)
+        ok = ok && answer[i] == (i < n ? values[i] : 77);
+    printf("%s: %s\n", what, ok ? "ok" : "WRONG");
+    wrong += !ok;
+    for (int i = 0; i < 8; i++)
+        answer[i] = 77;
+}
+
+#define VALUES(...) sizeof((int64_t[]){__VA_ARGS__}) / 8, (const int64_t[]){__VA_ARGS__}
+#define NOTHING 0, answer
+#define EXTRACT(name) petrolyaz_extract(ALL(asked), packet, 14, NAME(name), 0, answer)
+#define ENGINEER(name) petrolyaz_engineer(ALL(asked), packet, 14, NAME(name), 0, answer)
+
+int main(void)
+{
+    uint16_t cells[4] = {9, 9, 9, 9};
+    const uint16_t judged[4] = {2567, 2817, 2817, 9};
+
+    memset(answer, 0, sizeof answer);
+    expect("eight places", 0, 0, 0, VALUES(0, 0, 0, 0, 0, 0, 0, 0));
+    expect("two cells are too few", petrolyaz_import(ALL(counted), cells, 2, answer), 3, 0, NOTHING);
+    expect("three rows, none good", petrolyaz_import(ALL(counted), cells, 4, answer), 0, 0, VALUES(3, 0));
+    wrong += memcmp(cells, judged, sizeof cells) != 0;
+    expect("APID 10, type 3, subtype 25", petrolyaz_identify(ALL(asked), packet, 14, answer), 0, 0, VALUES(1, 7, 10, 3, 25, 0, 0));
+    expect("packet of six bytes", petrolyaz_identify(ALL(asked), packet, 6, answer), 20, 0, NOTHING);
+    expect("unsigned 16 at byte 12", EXTRACT("WORD"), 0, 0, VALUES(0, 4660, 1));
+    expect("signed 8 at byte 10", EXTRACT("BYTE"), 0, 0, VALUES(0, -1, 1));
+    expect("16 bits at byte 13", EXTRACT("PAST"), 28, 13, NOTHING);
+    expect("two bytes at byte 12", EXTRACT("PART"), 0, 0, VALUES(1, 12, 2, 1));
+    expect("3 on the curve", ENGINEER("CURVE"), 0, 0, VALUES(0, -2));
+    expect("text of 0", ENGINEER("MODE"), 0, 0, VALUES(2, 1, 6, 3));
+    expect("two bytes of text", ENGINEER("PART"), 0, 0, VALUES(1, 12, 2));
+    expect("no such name", ENGINEER("NONE"), 26, 0, NOTHING);
+    return wrong != 0;
+}
