@@ -1,1 +1,3 @@
-pub mod PlaceLaws
+pub mod AnswerLaws
+pub mod RowRanges
+pub mod SmallPlaces

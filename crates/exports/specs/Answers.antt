@@ -1,5 +1,5 @@
 -- What the C functions return, and what they write to the eight places of an answer. Assumes nothing: these are definitions.
-use Prim.Native.Nat.{ℕ, _+_, _-_, _*_, _%_, _^_}
+use Prim.Native.Nat.{ℕ, _-_, _^_, _+_, _*_}
 use mathlib.Core.Path.{_≡_, refl}
 use mathlib.Core.Bool.{Bool, true, false, cond}
 use mathlib.Core.List.{List, [], _∷_}
@@ -11,9 +11,9 @@ use Rattle.packets.specs.Identification as identify
 use Rattle.readings.specs.Readings as extract
 use Rattle.values.specs.Engineering as engineer
 
--- 01: "A refusal … returns number and place", as one number: the place is its low 32 bits, which hold every place there is
+-- 01: "A refusal … returns number and place", as one number. Every place is below 2 ^ 32, see `read-back`
 unfoldable pub code : (number place : ℕ) → ℕ
-code number place = number * 2 ^ 32 + place % 2 ^ 32
+code number place = number * 2 ^ 32 + place
 
 -- a number of 64 bits as the i64 of the same bits: itself below 2 ^ 63, and 2 ^ 64 less from there on
 unfoldable pub word : ℕ → ℤ
@@ -27,6 +27,11 @@ flag true = pos 1
 pub data Outcome : Type 0 where
   refusal : (number place : ℕ) → Outcome
   values : List ℤ → Outcome
+
+-- the place of a refusal, 0 where there is none
+unfoldable pub placeIn : Outcome → ℕ
+placeIn (refusal number place) = place
+placeIn (values zs) = 0
 
 -- 01: "returns the counts of rows and of good rows"
 unfoldable pub ofImport : import.Imported → Outcome

@@ -1,15 +1,15 @@
 // What stands in a result and in the places of an answer.
 ghost use mathlib.Core.Path.{_≡_};
-ghost use Prim.Native.Nat.{_≤_};
+ghost use Prim.Native.Nat.{_^_, _≤_, _<_};
 ghost use lib.ListN.{take};
 ghost use Rattle.exports.specs.Answers.{code, word, flag, written};
 
 // A refusal as one number.
 pub(crate) fn refuse(number: u8, place: usize) -> u64
+    requires { ⌜ place < 2 ^ 32 ⌝ }
     ensures { λ r. ⌜ r ≡ code number place ⌝ }
 {
-    let low = place as u64 % 4294967296;
-    number as u64 * 4294967296 + low
+    number as u64 * 4294967296 + place as u64
 }
 
 // A number of 64 bits as the i64 of the same bits.

@@ -11,20 +11,23 @@ use packets::refusal::number_of;
 use packets::refusal::place_of;
 use values::engineer::Engineered;
 ghost use mathlib.Core.Path.{_≡_};
+ghost use Prim.Native.Nat.{_^_, _<_};
 ghost use Rattle.import.specs.Judged as import;
 ghost use Rattle.packets.specs.Identification as identify;
 ghost use Rattle.packets.specs.Extraction as extract;
 ghost use Rattle.packets.specs.Refusals.{numberOf, placeOf};
 ghost use Rattle.values.specs.Engineering as engineer;
-ghost use Rattle.exports.specs.Answers.{code, ofImport, ofIdentification, ofRead, ofEngineering, Told};
+ghost use Rattle.exports.specs.Answers.{code, placeIn, ofImport, ofIdentification, ofRead, ofEngineering, Told};
 
 fn refuse_question(refusal: Refusal) -> u64
+    requires { ⌜ placeOf refusal < 2 ^ 32 ⌝ }
     ensures { λ r. ⌜ r ≡ code (numberOf refusal) (placeOf refusal) ⌝ }
 {
     refuse(number_of(refusal), place_of(refusal))
 }
 
 pub(crate) fn tell_imported(imported: Imported, answer: &mut [i64; 8]) -> u64
+    requires { ⌜ placeIn (ofImport (import.said imported)) < 2 ^ 32 ⌝ }
     ensures { λ r. ⌜ Told (ofImport (import.said imported)) (now (answer .entry)) (now (answer .exit)) r ⌝ }
 {
     match imported {
@@ -41,6 +44,7 @@ pub(crate) fn tell_imported(imported: Imported, answer: &mut [i64; 8]) -> u64
 }
 
 pub(crate) fn tell_identified(identified: Identified, answer: &mut [i64; 8]) -> u64
+    requires { ⌜ placeIn (ofIdentification (identify.said identified)) < 2 ^ 32 ⌝ }
     ensures { λ r. ⌜ Told (ofIdentification (identify.said identified)) (now (answer .entry)) (now (answer .exit)) r ⌝ }
 {
     match identified {
@@ -66,6 +70,7 @@ pub(crate) fn tell_identified(identified: Identified, answer: &mut [i64; 8]) -> 
 }
 
 pub(crate) fn tell_extracted(extracted: Extracted, answer: &mut [i64; 8]) -> u64
+    requires { ⌜ placeIn (ofRead (extract.said extracted)) < 2 ^ 32 ⌝ }
     ensures { λ r. ⌜ Told (ofRead (extract.said extracted)) (now (answer .entry)) (now (answer .exit)) r ⌝ }
 {
     match extracted {
@@ -84,6 +89,7 @@ pub(crate) fn tell_extracted(extracted: Extracted, answer: &mut [i64; 8]) -> u64
 }
 
 pub(crate) fn tell_engineered(engineered: Engineered, answer: &mut [i64; 8]) -> u64
+    requires { ⌜ placeIn (ofEngineering (engineer.said engineered)) < 2 ^ 32 ⌝ }
     ensures { λ r. ⌜ Told (ofEngineering (engineer.said engineered)) (now (answer .entry)) (now (answer .exit)) r ⌝ }
 {
     match engineered {

@@ -120,7 +120,7 @@ module _ (texts : List (List ℕ)) (t n : ℕ) (v : verdictAt texts t n ≡ 0) w
   is-good = good-law (allRows texts) (entryAt texts t n) .0 v
 
   -- it is without reasons 1 to 8
-  well-formed : formed (getD carried t Ocp) (lineOf texts t n) ≡ 0
+  pub well-formed : formed (getD carried t Ocp) (lineOf texts t n) ≡ 0
   unfolding sound entryAt
   well-formed =
       sym (own-reading (getD carried t Ocp) (lineOf texts t n))

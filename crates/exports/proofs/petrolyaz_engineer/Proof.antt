@@ -1,7 +1,8 @@
 -- What `engineer` says, told.
-use mathlib.Core.Path.{ap}
+use mathlib.Core.Path.{refl, ap}
 use Rattle.exports.specs.Answers.{ofEngineering}
-use Rattle.exports.proofs.PlaceLaws.{told-same}
+use Rattle.exports.proofs.SmallPlaces.{engineer-small}
+use Rattle.exports.proofs.AnswerLaws.{small-same, told-same}
 use borrow.Author.Needs.{needs}
 use Rattle.exports.proofs.petrolyaz_engineer.Statement.{statement}
 use Rattle.exports.proofs.petrolyaz_engineer.Tie as tie
@@ -10,7 +11,7 @@ engineer-requires : tie.Need-engineer-requires
 engineer-requires c κs = search needs
 
 tell-engineered-requires : tie.Need-tell-engineered-requires
-tell-engineered-requires c κs = search needs
+tell-engineered-requires c κs = small-same (ap ofEngineering (c .before .engineer .ensures)) (engineer-small _ _ _ _ refl)
 
 returns : tie.Need-returns
 returns c = told-same (ap ofEngineering (c .before .before .engineer .ensures)) (c .tell-engineered .ensures)

@@ -1,6 +1,6 @@
 -- Below 2 ^ 63 the number itself; from there on the number of the same bits.
 use borrow.Author.Needs.{needs}
-use Rattle.exports.proofs.PlaceLaws.{low-word, high-fits, high-word}
+use Rattle.exports.proofs.AnswerLaws.{low-word, high-fits, high-word}
 use Rattle.exports.proofs.places.as_word.Statement.{statement}
 use Rattle.exports.proofs.places.as_word.Tie as tie
 

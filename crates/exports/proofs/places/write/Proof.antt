@@ -9,7 +9,7 @@ use mir.Val.{SFits}
 use mir.Facts.{toZ-ofZ}
 use borrow.Author.Needs.{needs}
 use Rattle.exports.specs.Answers.{written}
-use Rattle.exports.proofs.PlaceLaws.{written-next}
+use Rattle.exports.proofs.AnswerLaws.{written-next}
 use Rattle.exports.proofs.places.write.Statement.{statement}
 use Rattle.exports.proofs.places.write.Tie as tie
 

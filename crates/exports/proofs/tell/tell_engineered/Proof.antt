@@ -6,7 +6,7 @@ use borrow.Author.Needs.{needs}
 use Rattle.values.specs.Engineering as engineer
 use Rattle.values.specs.declared.engineer.Engineered.{Engineered}
 use Rattle.exports.specs.Answers.{ofEngineering}
-use Rattle.exports.proofs.PlaceLaws.{kept, told-refusal, told-values}
+use Rattle.exports.proofs.AnswerLaws.{kept, place-small, told-refusal, told-values}
 use Rattle.exports.proofs.tell.tell_engineered.Statement.{statement}
 use Rattle.exports.proofs.tell.tell_engineered.Tie as tie
 
@@ -65,7 +65,8 @@ enum-known-engineered-4 : tie.Need-enum-known-engineered-4
 enum-known-engineered-4 c = search needs
 
 refuse-question-requires : tie.Need-refuse-question-requires
-refuse-question-requires c κs = search needs
+unfolding ofEngineering engineer.said
+refuse-question-requires c κs = place-small _ _ (ap (λ (x : Engineered). ofEngineering (engineer.said x)) (c .before .engineered4 .given .1)) (c .before .before .before .pre)
 
 returns : tie.Need-returns
 unfolding ofEngineering engineer.said

@@ -6,7 +6,7 @@ use borrow.Author.Needs.{needs}
 use Rattle.packets.specs.Extraction as extract
 use Rattle.packets.specs.declared.extract.Extracted.{Extracted}
 use Rattle.exports.specs.Answers.{ofRead}
-use Rattle.exports.proofs.PlaceLaws.{kept, told-refusal, told-values}
+use Rattle.exports.proofs.AnswerLaws.{kept, place-small, told-refusal, told-values}
 use Rattle.exports.proofs.tell.tell_extracted.Statement.{statement}
 use Rattle.exports.proofs.tell.tell_extracted.Tie as tie
 
@@ -38,7 +38,8 @@ enum-known-extracted-3 : tie.Need-enum-known-extracted-3
 enum-known-extracted-3 c = search needs
 
 refuse-question-requires : tie.Need-refuse-question-requires
-refuse-question-requires c κs = search needs
+unfolding ofRead extract.said
+refuse-question-requires c κs = place-small _ _ (ap (λ (x : Extracted). ofRead (extract.said x)) (c .before .extracted3 .given .1)) (c .before .before .before .pre)
 
 returns : tie.Need-returns
 unfolding ofRead extract.said

@@ -4,7 +4,7 @@ use borrow.Author.Needs.{needs}
 use Rattle.packets.specs.Identification as identify
 use Rattle.packets.specs.declared.identify.Identified.{Identified}
 use Rattle.exports.specs.Answers.{ofIdentification}
-use Rattle.exports.proofs.PlaceLaws.{kept, told-refusal, told-values}
+use Rattle.exports.proofs.AnswerLaws.{kept, place-small, told-refusal, told-values}
 use Rattle.exports.proofs.tell.tell_identified.Statement.{statement}
 use Rattle.exports.proofs.tell.tell_identified.Tie as tie
 
@@ -51,7 +51,8 @@ enum-known-identified-2 : tie.Need-enum-known-identified-2
 enum-known-identified-2 c = search needs
 
 refuse-question-requires : tie.Need-refuse-question-requires
-refuse-question-requires c κs = search needs
+unfolding ofIdentification identify.said
+refuse-question-requires c κs = place-small _ _ (ap (λ (x : Identified). ofIdentification (identify.said x)) (c .before .identified2 .given .1)) (c .before .before .before .pre)
 
 returns : tie.Need-returns
 unfolding ofIdentification identify.said

@@ -4,7 +4,7 @@ use borrow.Author.Needs.{needs}
 use Rattle.import.specs.Judged as import
 use Rattle.import.specs.declared.Imported.{Imported}
 use Rattle.exports.specs.Answers.{ofImport}
-use Rattle.exports.proofs.PlaceLaws.{kept, told-refusal, told-values}
+use Rattle.exports.proofs.AnswerLaws.{kept, place-small, told-refusal, told-values}
 use Rattle.exports.proofs.tell.tell_imported.Statement.{statement}
 use Rattle.exports.proofs.tell.tell_imported.Tie as tie
 
@@ -24,13 +24,15 @@ enum-known-imported-2 : tie.Need-enum-known-imported-2
 enum-known-imported-2 c = search needs
 
 refuse-requires : tie.Need-refuse-requires
-refuse-requires c κs = search needs
+unfolding ofImport import.said
+refuse-requires c κs = place-small _ _ (ap (λ (x : Imported). ofImport (import.said x)) (c .before .imported2 .given .1)) (c .before .before .before .pre)
 
 enum-known-imported-3 : tie.Need-enum-known-imported-3
 enum-known-imported-3 c = search needs
 
 refuse-requires-2 : tie.Need-refuse-requires-2
-refuse-requires-2 c κs = search needs
+unfolding ofImport import.said
+refuse-requires-2 c κs = place-small _ _ (ap (λ (x : Imported). ofImport (import.said x)) (c .before .imported3 .given .1)) (c .before .before .before .pre)
 
 enum-told : tie.Need-enum-told
 enum-told c = search needs

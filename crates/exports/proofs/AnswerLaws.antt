@@ -1,7 +1,7 @@
 -- What a result and the places of an answer hold. Assumes nothing.
 use mathlib.Core.Path.{_≡_, refl, sym, ap, ap₂, subst, _∙_}
 use mathlib.Core.List.{List, [], _∷_}
-use Prim.Native.Nat.{ℕ, zero, suc, _+_, _-_, _^_, _≤_, _<_}
+use Prim.Native.Nat.{ℕ, zero, suc, _-_, _^_, _<_, _+_, _/_, _%_, _≤_}
 use native.Mathlib.Numerals.{add-one}
 use native.Mathlib.Omega.{arith}
 use lib.IntN.{ℤ, pos, negsuc, _-ℤ_}
@@ -11,7 +11,14 @@ use mir.Val.{SFits, toZ, ofZ}
 use mir.Facts.{toZ-pos, toZ-ofZ}
 use borrow.Author.Tests.{lt-ltb, le-ltb}
 use Rattle.verdicts.specs.Answer.{Imported, importOf, cellsAfter}
-use Rattle.exports.specs.Answers.{code, word, Outcome, refusal, values, ofImport, resultOf, written, answerAfter, Told, ImportTold}
+use Rattle.exports.specs.Answers.{code, word, Outcome, refusal, values, placeIn, ofImport, resultOf, written, answerAfter, Told, ImportTold}
+
+-- Refusals
+
+-- a refusal's number and its place, which `SmallPlaces` shows to be below 2 ^ 32, are read back from its code
+pub read-back : (number place : ℕ) → place < 2 ^ 32 → (code number place / 2 ^ 32 ≡ number) × (code number place % 2 ^ 32 ≡ place)
+unfolding code
+read-back number place h = (omega arith, omega arith)
 
 -- Words
 
@@ -70,3 +77,10 @@ told-same {before} {after} {r} e t = subst (λ (x : Outcome). Told x before afte
 pub import-told : (texts : List (List ℕ)) (cells : List ℕ) {x : Imported} {cells′ : List ℕ} {before after : List ℤ} {r : ℕ}
     → x ≡ importOf texts (length cells) → cells′ ≡ cellsAfter texts cells x → Told (ofImport x) before after r → ImportTold texts cells cells′ before after r
 import-told texts cells e l t = record { told = told-same (ap ofImport e) t; left = l ∙ ap (cellsAfter texts cells) e }
+
+pub small-same : {o p : Outcome} → o ≡ p → placeIn p < 2 ^ 32 → placeIn o < 2 ^ 32
+small-same e h = subst (λ (x : Outcome). placeIn x < 2 ^ 32) (sym e) h
+
+pub place-small : (number place : ℕ) {o : Outcome} → o ≡ refusal number place → placeIn o < 2 ^ 32 → place < 2 ^ 32
+unfolding placeIn
+place-small number place e h = subst (λ (x : Outcome). placeIn x < 2 ^ 32) e h

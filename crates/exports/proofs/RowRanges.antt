@@ -1,0 +1,118 @@
+-- The numbers of good plf and pic rows are in the ranges that 01 prints. Assumes nothing.
+use mathlib.Core.Path.{_≡_, refl, sym, ap, subst, _∙_}
+use mathlib.Core.Logic.{⊎-elim}
+use mathlib.Core.Bool.{true, false}
+use mathlib.Core.List.{List, []}
+use mathlib.Core.Option.{some}
+use Prim.Native.Nat.{ℕ, _^_, _≤_, _<_}
+use native.Mathlib.Omega.{arith}
+use lib.IntN.{ℤ, pos, negℤ, natAbs}
+use lib.ListN.{getD}
+use lib.Signed.{leZ}
+use Rattle.laws.proofs.Cases.{false≢true}
+use Rattle.numbers.specs.Number.{numberOf, meaning, spelt, after}
+use Rattle.lines.specs.Lines.{Line}
+use Rattle.schemas.specs.declared.Table.the-variants.{Pic, Plf, Ocp}
+use Rattle.schemas.specs.Schema.{Column, Kind, aNumber, natural, natural!, integer! }
+use Rattle.schemas.specs.Tables.{schema, pic, plf}
+use Rattle.schemas.specs.Reasons.{kindReason, columnReason}
+use Rattle.schemas.proofs.Meaning.{Absent, Given, column-fine, number-fine}
+use Rattle.rows.specs.Values.{naturalFrom, naturalOr, integerOr}
+use Rattle.rows.specs.Records.{picRow, plfRow}
+use Rattle.rows.specs.Formed.{formed}
+use Rattle.rows.specs.declared.records.PicRow.{PicRow}
+use Rattle.rows.specs.declared.records.PlfRow.{PlfRow}
+use Rattle.rows.proofs.Meaning.{column-passes, natural-column, integer-column}
+use Rattle.verdicts.specs.Key.{Key}
+use Rattle.verdicts.specs.Verdicts.{verdicts}
+use Rattle.verdicts.specs.Entries.{carried}
+use Rattle.lookup.specs.GoodRows.{Row, goodRows}
+use Rattle.lookup.specs.Holder.{holdsKey, holder}
+use Rattle.packets.proofs.RowLaws.{find-some}
+use Rattle.packets.proofs.AtVerdicts.{lineOf, well-formed, good-row}
+
+-- A column
+
+no-number : (default : ℕ) → naturalOr default [] ≡ default
+unfolding naturalOr naturalFrom numberOf meaning spelt after
+no-number default = refl
+
+-- a natural number, or its default, is at most the highest of its column
+natural-most : (c : Column) (t : List ℕ) (lowest highest default : ℕ) → c .kind ≡ aNumber (pos lowest) (pos highest) → highest < 2 ^ 32 → default ≤ highest
+    → columnReason c t ≡ 0 → naturalOr default t ≤ highest
+natural-most c t lowest highest default q h d e = ⊎-elim absent given (column-fine c t e)
+  where
+    absent : Absent c t → naturalOr default t ≤ highest
+    absent a = rw (a .empty, no-number) d
+
+    given : Given c t → naturalOr default t ≤ highest
+    given g =
+        let n = natural-column lowest highest default t h (ap (λ (k : Kind). kindReason k t) (sym q) ∙ g .kind-fits) in
+        omega (arith, n .high, n .says)
+
+-- and so is a mandatory integer
+integer-most : (c : Column) (t : List ℕ) (lowest highest default : ℤ) → c .kind ≡ aNumber lowest highest → c .mandatory ≡ true → natAbs lowest < 2 ^ 60
+    → natAbs highest < 2 ^ 60 → columnReason c t ≡ 0 → leZ (integerOr default t) highest ≡ true
+integer-most c t lowest highest default q m l h e = ⊎-elim absent given (column-fine c t e)
+  where
+    absent : Absent c t → leZ (integerOr default t) highest ≡ true
+    absent a = absurd (false≢true (sym (a .optional) ∙ m))
+
+    given : Given c t → leZ (integerOr default t) highest ≡ true
+    given g =
+        let k : kindReason (aNumber lowest highest) t ≡ 0 = ap (λ (k : Kind). kindReason k t) (sym q) ∙ g .kind-fits in
+        ap (λ (v : ℤ). leZ v highest) (integer-column lowest highest default t l h k) ∙ number-fine lowest highest t k .high
+
+-- A row
+
+pub record PlfRanges (row : PlfRow) : Type 0 where
+  pub offby : row .offby .0 ≤ 8191
+  pub offbi : row .offbi .0 ≤ 7
+  pub nbocc : row .nbocc ≤ 9999
+  pub lgocc : row .lgocc .0 ≤ 32767
+
+plf-formed : (line : Line) → formed Plf line ≡ 0 → PlfRanges (plfRow (line .bytes))
+unfolding plfRow schema plf
+plf-formed line e =
+    record {
+      offby = natural-most (natural! 5 0 8191) _ 0 8191 0 refl (omega arith) (omega arith) (column-passes Plf line e 2 (omega arith));
+      offbi = natural-most (natural! 1 0 7) _ 0 7 0 refl (omega arith) (omega arith) (column-passes Plf line e 3 (omega arith));
+      nbocc = natural-most (natural 4 1 9999) _ 1 9999 1 refl (omega arith) (omega arith) (column-passes Plf line e 4 (omega arith));
+      lgocc = natural-most (natural 5 0 32767) _ 0 32767 0 refl (omega arith) (omega arith) (column-passes Plf line e 5 (omega arith));
+    }
+
+pub record PicRanges (row : PicRow) : Type 0 where
+  pub first : leZ (row .pi1off) (pos 8191) ≡ true
+  pub second : leZ (row .pi2off) (pos 8191) ≡ true
+
+pic-formed : (line : Line) → formed Pic line ≡ 0 → PicRanges (picRow (line .bytes))
+unfolding picRow schema pic
+pic-formed line e =
+    record {
+      first = integer-most (integer! 5 (negℤ (pos 1)) (pos 8191)) _ (negℤ (pos 1)) (pos 8191) (pos 0) refl refl (omega arith) (omega arith) (column-passes Pic line e 2 (omega arith));
+      second = integer-most (integer! 5 (negℤ (pos 1)) (pos 8191)) _ (negℤ (pos 1)) (pos 8191) (pos 0) refl refl (omega arith) (omega arith) (column-passes Pic line e 4 (omega arith));
+    }
+
+-- A row that is found is good
+
+module _ (texts : List (List ℕ)) (t : ℕ) (h : t < 10) (key : Key) (r : Row) (e : holder (getD carried t Ocp) (goodRows texts (verdicts texts) t) key ≡ some r) where
+  abbrev found-line : Line
+  found-line = lineOf texts t (r .number)
+
+  found-formed : formed (getD carried t Ocp) found-line ≡ 0
+  unfolding holder
+  found-formed =
+      well-formed texts t (r .number)
+      (good-row texts t h r (find-some (λ s. holdsKey (getD carried t Ocp) key (s .bytes)) (goodRows texts (verdicts texts) t) r e .0) .verdict)
+
+  found-bytes : found-line .bytes ≡ r .bytes
+  unfolding holder
+  found-bytes = sym (good-row texts t h r (find-some (λ s. holdsKey (getD carried t Ocp) key (s .bytes)) (goodRows texts (verdicts texts) t) r e .0) .bytes)
+
+pub plf-found : (texts : List (List ℕ)) (key : Key) (r : Row) → holder Plf (goodRows texts (verdicts texts) 2) key ≡ some r → PlfRanges (plfRow (r .bytes))
+plf-found texts key r e =
+    subst (λ (bytes : List ℕ). PlfRanges (plfRow bytes)) (found-bytes texts 2 (omega arith) key r e) (plf-formed _ (found-formed texts 2 (omega arith) key r e))
+
+pub pic-found : (texts : List (List ℕ)) (key : Key) (r : Row) → holder Pic (goodRows texts (verdicts texts) 1) key ≡ some r → PicRanges (picRow (r .bytes))
+pic-found texts key r e =
+    subst (λ (bytes : List ℕ). PicRanges (picRow bytes)) (found-bytes texts 1 (omega arith) key r e) (pic-formed _ (found-formed texts 1 (omega arith) key r e))
