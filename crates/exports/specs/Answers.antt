@@ -1,5 +1,5 @@
 -- What the C functions return, and what they write to the eight places of an answer. Assumes nothing: these are definitions.
-use Prim.Native.Nat.{ℕ, _-_, _^_, _+_, _*_}
+use Prim.Native.Nat.{ℕ, _+_, _-_, _*_, _^_}
 use mathlib.Core.Path.{_≡_, refl}
 use mathlib.Core.Bool.{Bool, true, false, cond}
 use mathlib.Core.List.{List, [], _∷_}
@@ -11,7 +11,7 @@ use Rattle.packets.specs.Identification as identify
 use Rattle.readings.specs.Readings as extract
 use Rattle.values.specs.Engineering as engineer
 
--- 01: "A refusal … returns number and place", as one number. Every place is below 2 ^ 32, see `read-back`
+-- 01: "A refusal … returns number and place", as one number. Every place is below 2 ^ 32 (`SmallPlaces`), so both are read back from it (`read-back`)
 unfoldable pub code : (number place : ℕ) → ℕ
 code number place = number * 2 ^ 32 + place
 
