@@ -1,0 +1,27 @@
+-- The tables' names are ten headings.
+use Prim.Native.Nat.{_≤_}
+use native.Mathlib.Omega.{arith}
+use lib.ListN.{length}
+use borrow.Author.Needs.{needs}
+use Rattle.laws.specs.Text.{ascii}
+use Rattle.lines.specs.Columns.{columnsOf, columnsFrom}
+use Rattle.words.specs.Headings.{tableName}
+use Rattle.words.proofs.names.table_name.Statement.{statement}
+use Rattle.words.proofs.names.table_name.Tie as tie
+
+ten : length (columnsOf (ascii "pid\tpic\tplf\tpcf\tcaf\tcap\ttxf\ttxp\tocf\tocp")) ≤ 24
+unfolding columnsOf columnsFrom
+ten = omega arith
+
+slice-aggregate-heading : tie.Need-slice-aggregate-heading
+slice-aggregate-heading c = search needs
+
+heading-requires : tie.Need-heading-requires
+heading-requires c κs = ten
+
+returns : tie.Need-returns
+unfolding tableName
+returns c = c .heading .ensures
+
+pub table-name-spec : {M : Type 1} → statement M
+table-name-spec = tie.close (tie.spec slice-aggregate-heading heading-requires returns)
