@@ -1,4 +1,6 @@
 // The refusals of a call in words.
+use crate::names::table_name;
+use crate::say;
 use crate::say::words;
 
 // Those of a call with tables and packets.
@@ -32,4 +34,20 @@ pub fn say_refusal(refusal: usize) {
         36 => words(b"the packet is of another APID"),
         _ => say_early(refusal),
     }
+}
+
+// A line for a refusal by its number and its table, from 1, or 0 where it is that of no table.
+pub fn say_refused_table(refusal: usize, t: usize) {
+    words(b"refused: ");
+    say::number(refusal);
+    if t != 0 {
+        words(b" at table ");
+        say::number(t);
+        words(b" (");
+        say::name(table_name(t));
+        words(b")");
+    }
+    words(b": ");
+    say_refusal(refusal);
+    words(b"\n");
 }

@@ -1,0 +1,40 @@
+-- One table after the other.
+use Prim.Native.Nat.{_-_, _≤_}
+use mathlib.Core.Path.{_≡_}
+use native.Mathlib.Omega.{arith}
+use lib.ListN.{length}
+use borrow.Author.Needs.{needs}
+use Rattle.files.proofs.directory.load.Statement.{statement}
+use Rattle.files.proofs.directory.load.Tie as tie
+
+abbrev Inv-loop : tie.InvT-loop
+Inv-loop directory space₀ ends₀ whole₀ t₀ space ends whole t = (length space ≡ length space₀) × (t ≤ 10)
+
+abbrev μ-loop : tie.MeasureT-loop
+μ-loop directory space₀ ends₀ whole₀ t₀ space ends whole t = 10 - t
+
+loop-holds : tie.Need-loop-holds Inv-loop μ-loop
+loop-holds c = (omega arith, omega arith)
+
+load-table-requires : tie.Need-load-table-requires Inv-loop μ-loop
+load-table-requires c κs = search needs
+
+add-t : tie.Need-add-t Inv-loop μ-loop
+add-t c = omega arith
+
+loop-less : tie.Need-loop-less Inv-loop μ-loop
+loop-less c = omega arith
+
+loop-again : tie.Need-loop-again Inv-loop μ-loop
+loop-again c = (omega arith, omega arith)
+
+same-length : tie.Need-same-length Inv-loop μ-loop
+same-length c = omega arith
+
+returns : tie.Need-returns Inv-loop μ-loop
+returns c = search needs
+
+pub load-spec : {M : Type 1} → statement M
+load-spec =
+    tie.close
+    (tie.spec Inv-loop μ-loop loop-holds load-table-requires add-t loop-less loop-again same-length returns)

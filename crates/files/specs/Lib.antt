@@ -1,0 +1,4 @@
+pub mod Reads
+pub mod Paths
+pub mod Space
+pub mod Packets

@@ -1,0 +1,31 @@
+-- The file of a table in a directory.
+use Prim.Native.Nat.{ℕ}
+use mathlib.Core.Path.{_≡_, refl}
+use mathlib.Core.List.{List, [], _∷_, _++_}
+use mathlib.Core.Bool.{cond}
+use lib.Dec.{leb}
+use lib.ListN.{length}
+use Rattle.laws.specs.Text.{ascii}
+use Rattle.lines.specs.Columns.{columnsOf, columnsFrom, partOf}
+use Rattle.lines.specs.Names.{nameOf}
+use Rattle.lines.specs.declared.names.Name.{Name}
+use Rattle.words.specs.Headings.{tableName, heading}
+
+-- the bytes of a name
+abbrev pub letters : Name → List ℕ
+letters n = partOf (n .bytes) 0 (n .len)
+
+-- the file of the table with this number, from 1: "pid.dat" to "ocp.dat"
+unfoldable pub fileOf : ℕ → List ℕ
+fileOf t = letters (tableName t) ++ ascii ".dat"
+
+-- its path, with a slash after the directory; none is made of a directory's name over 4,096 bytes
+unfoldable pub pathOf : List ℕ → ℕ → List ℕ
+pathOf directory t = cond (leb (length directory) 4096) (directory ++ ascii "/" ++ fileOf t) []
+
+pub record Examples : Type 0 where
+  pub fourth : pathOf (ascii "thermal") 4 ≡ ascii "thermal/pcf.dat"
+
+pub examples : Examples
+unfolding pathOf fileOf tableName heading nameOf columnsOf columnsFrom
+examples = record { fourth = refl }

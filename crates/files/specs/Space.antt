@@ -1,0 +1,14 @@
+-- The tables in the space that they are read into: 65,537 bytes for each, one more than a table may have.
+use Prim.Native.Nat.{ℕ, _*_}
+use mathlib.Core.List.{List, [], _∷_, map}
+use mathlib.Core.Bool.{cond}
+use lib.Dec.{ltb}
+use lib.ListN.{getD}
+use Rattle.lines.specs.Columns.{partOf}
+
+-- the table with this number, from 0, by where each ends
+unfoldable pub tableIn : List ℕ → List ℕ → ℕ → List ℕ
+tableIn space ends t = cond (ltb t 10) (partOf space (t * 65537) (getD ends t 0)) []
+
+unfoldable pub tablesIn : List ℕ → List ℕ → List (List ℕ)
+tablesIn space ends = map (tableIn space ends) (0 ∷ 1 ∷ 2 ∷ 3 ∷ 4 ∷ 5 ∷ 6 ∷ 7 ∷ 8 ∷ 9 ∷ [])

@@ -1,0 +1,148 @@
+// The ten tables of a directory: pid.dat to ocp.dat, each read into its own part of one space.
+use crate::errors::say_error;
+use crate::path::MOST_PATH;
+use crate::path::table_path;
+use crate::source::Got;
+use crate::source::read_file;
+use libc::EISDIR;
+use libc::ENOTDIR;
+use lines::columns::keep_at;
+use lines::columns::part;
+use std::num::wrapping_add_usize;
+use tables::TABLES;
+use words::names::table_name;
+use words::say;
+use words::say::words;
+ghost use mathlib.Core.Path.{_≡_};
+ghost use mathlib.Core.List.{map};
+ghost use Rattle.files.specs.Space.{tableIn, tablesIn};
+
+// 0 where there is such a directory, else the number of the system's error. Reading a directory fails, by which it is told from a file.
+pub fn directory_error(directory: &[u8]) -> i32 {
+    let fd = os::open_read(directory);
+    if fd < 0 {
+        return os::errno();
+    }
+    let mut byte = [0u8; 1];
+    let got = libc::read(fd, &mut byte);
+    let error = os::errno();
+    libc::close(fd);
+    if 0 <= got {
+        return ENOTDIR;
+    }
+    if error == EISDIR {
+        return 0;
+    }
+    error
+}
+
+// A byte more than a table may have, so that one that is too long is refused and not cut.
+pub const ROOM: usize = 65537;
+
+pub const SPACE: usize = 655370;
+
+// Where each table ends in the space, and whether all were read. A table that isn't there ends at 0.
+pub struct Loaded {
+    pub ends: [usize; TABLES],
+    pub whole: bool,
+}
+
+fn say_file(t: usize) {
+    say::name(table_name(t));
+    words(b".dat: ");
+}
+
+fn say_missing(t: usize) {
+    say_file(t);
+    words(b"there is none, so the table is empty\n");
+}
+
+fn say_failed(t: usize, error: i32) {
+    say_file(t);
+    say_error(error);
+    words(b"\n");
+}
+
+// The table with this number, from 0, into its part of the space.
+fn read_table(directory: &[u8], t: usize, space: &mut [u8]) -> Got {
+    if TABLES <= t {
+        return Got::Missing;
+    }
+    let from = t * ROOM;
+    let to = from + ROOM;
+    if space.len() < to {
+        return Got::Missing;
+    }
+    let mut path = [0u8; MOST_PATH];
+    let length = table_path(directory, t + 1, &mut path);
+    read_file(&path[..length], &mut space[from..to])
+}
+
+// Where a table of so many bytes ends in the space.
+fn end_of(t: usize, count: usize) -> usize {
+    if TABLES <= t {
+        return 0;
+    }
+    if ROOM < count {
+        return 0;
+    }
+    t * ROOM + count
+}
+
+// Reads one table, and says where it isn't there or can't be read; answers whether it could.
+fn load_table(directory: &[u8], t: usize, space: &mut [u8], ends: &mut [usize; TABLES]) -> bool {
+    match read_table(directory, t, space) {
+        Got::Bytes(count) => {
+            keep_at(ends, t, end_of(t, count));
+            true
+        }
+        Got::Missing => {
+            say_missing(wrapping_add_usize(t, 1));
+            true
+        }
+        Got::Failed(error) => {
+            say_failed(wrapping_add_usize(t, 1), error);
+            false
+        }
+    }
+}
+
+// Reads the ten tables. A table for which the space has no room counts as missing.
+pub fn load(directory: &[u8], space: &mut [u8]) -> Loaded {
+    let mut ends = [0usize; TABLES];
+    let mut whole = true;
+    for t in 0..TABLES {
+        if !load_table(directory, t, space, &mut ends) {
+            whole = false;
+        }
+    }
+    Loaded { ends, whole }
+}
+
+// The table with this number, from 0, as it was read.
+pub fn table_in<'a>(space: &'a [u8], ends: [usize; TABLES], t: usize) -> &'a [u8]
+    ensures { λ r. ⌜ now r ≡ tableIn (now (space .entry)) ends t ⌝ }
+{
+    if t < TABLES {
+        return part(space, t * ROOM, ends[t]);
+    }
+    &space[..0]
+}
+
+// The ten tables as they were read.
+pub fn tables_in<'a>(space: &'a [u8], ends: [usize; TABLES]) -> [&'a [u8]; TABLES]
+    ensures { λ r. ⌜ map now r ≡ tablesIn (now (space .entry)) ends ⌝ }
+{
+    [
+        table_in(space, ends, 0),
+        table_in(space, ends, 1),
+        table_in(space, ends, 2),
+        table_in(space, ends, 3),
+        table_in(space, ends, 4),
+        table_in(space, ends, 5),
+        table_in(space, ends, 6),
+        table_in(space, ends, 7),
+        table_in(space, ends, 8),
+        table_in(space, ends, 9),
+    ]
+}
