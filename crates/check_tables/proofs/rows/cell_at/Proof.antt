@@ -1,0 +1,23 @@
+-- Past the last cell there is none.
+use native.Mathlib.Omega.{arith}
+use mathlib.Core.Path.{sym}
+use lib.ListN.{List·getD-eq-default}
+use denote.Ref.{now}
+use borrow.Author.Needs.{needs}
+use Rattle.check_tables.proofs.rows.cell_at.Statement.{statement}
+use Rattle.check_tables.proofs.rows.cell_at.Tie as tie
+
+mul-result : tie.Need-mul-result
+mul-result c = search needs
+
+shared-slice-read-result : tie.Need-shared-slice-read-result
+shared-slice-read-result c = search needs
+
+returns : tie.Need-returns
+returns c = search needs
+
+returns-2 : tie.Need-returns-2
+returns-2 c = let k = c .before .args in sym (List·getD-eq-default (now (k .cells)) 0 {n = k .at} (omega arith))
+
+pub cell-at-spec : {M : Type 1} → statement M
+cell-at-spec = tie.close (tie.spec mul-result shared-slice-read-result returns returns-2)

@@ -1,0 +1,55 @@
+-- One table after the other.
+use Prim.Native.Nat.{_-_, _≤_}
+use native.Mathlib.Omega.{arith}
+use borrow.Author.Needs.{needs}
+use Rattle.check_tables.proofs.rows.say_rows.Statement.{statement}
+use Rattle.check_tables.proofs.rows.say_rows.Tie as tie
+
+abbrev Inv-loop : tie.InvT-loop
+Inv-loop tables cells from₀ t₀ from t = t ≤ 10
+
+abbrev μ-loop : tie.MeasureT-loop
+μ-loop tables cells from₀ t₀ from t = 10 - t
+
+loop-holds : tie.Need-loop-holds Inv-loop μ-loop
+loop-holds c = omega arith
+
+table-at-requires : tie.Need-table-at-requires Inv-loop μ-loop
+table-at-requires c κs = search needs
+
+row-count-requires : tie.Need-row-count-requires Inv-loop μ-loop
+row-count-requires c κs = search needs
+
+say-table-requires : tie.Need-say-table-requires Inv-loop μ-loop
+say-table-requires c κs = search needs
+
+wrapping-add-usize-requires : tie.Need-wrapping-add-usize-requires Inv-loop μ-loop
+wrapping-add-usize-requires c κs = search needs
+
+add-t : tie.Need-add-t Inv-loop μ-loop
+add-t c = omega arith
+
+loop-less : tie.Need-loop-less Inv-loop μ-loop
+loop-less c = omega arith
+
+loop-again : tie.Need-loop-again Inv-loop μ-loop
+loop-again c = omega arith
+
+returns : tie.Need-returns Inv-loop μ-loop
+returns c = search needs
+
+pub say-rows-spec : {M : Type 1} → statement M
+say-rows-spec =
+    tie.close
+    (tie.spec
+    Inv-loop
+    μ-loop
+    loop-holds
+    table-at-requires
+    row-count-requires
+    say-table-requires
+    wrapping-add-usize-requires
+    add-t
+    loop-less
+    loop-again
+    returns)
