@@ -1,4 +1,4 @@
-/* Petrolyaz for C: the import of ten SCOS-2000 tables, and questions of packets by them.
+/* Petrolyaz for C: the import of ten SCOS-2000 tables, and questions and limit steps of packets by them.
  *
  * Link with target/staticlib/libexports.a, which `rt staticlib exports` makes, for x86-64 Linux (64-bit size_t).
  *
@@ -20,14 +20,16 @@
  *  20  packet under 7 or over 8,192 bytes     30  raw value off an F curve
  *  21  version not 0, or the type bit set     31  curve result outside -2,147,483,648 to 2,147,483,647
  *  22  length field plus 7 isn't the length   32  no text
- *  23  header flagged, under 9 bytes
- *  24  an identification field leaves the packet
- *  25  no good VALID Y pid row
- *  26  no good plf row for name and SPID
+ *  23  header flagged, under 9 bytes          33  no good ocf row
+ *  24  an identification field leaves         34  no such state: run over 99, announced over 2, APID over
+ *      the packet                                 2,047, count over 16,383, or fresh with any number not 0
+ *  25  no good VALID Y pid row                35  packet not newer
+ *  26  no good plf row for name and SPID      36  packet of another APID
  */
 #ifndef PETROLYAZ_H
 #define PETROLYAZ_H
 
+#include <stdbool.h>
 #include <stddef.h>
 #include <stdint.h>
 
@@ -62,6 +64,13 @@ uint64_t petrolyaz_extract(PETROLYAZ_TABLES, const uint8_t *packet, size_t packe
  *      or 2, the number of the txp row, from 1, the first byte of its text in txp, from 0, its length in bytes. */
 uint64_t petrolyaz_engineer(PETROLYAZ_TABLES, const uint8_t *packet, size_t packet_bytes, const uint8_t *name, size_t name_bytes,
                             size_t occurrence, int64_t *answer);
+
+/* The limit state of a parameter after a packet. The state is: fresh or not, APID, sequence count, run, and what is announced:
+ * 0 within, 1 soft, 2 hard. A fresh state, which has seen no packet, has all numbers 0.
+ * answer: the state after the packet: fresh, which is 0 from then on, APID, count, run, announced. After a refusal the state is as before.
+ * Refusals are sought in the order 1, 2, 34, 20 to 25, 33, 26, 36, 35, 28, 30, 31. */
+uint64_t petrolyaz_limit_step(PETROLYAZ_TABLES, const uint8_t *packet, size_t packet_bytes, const uint8_t *name, size_t name_bytes,
+                              bool fresh, uint16_t apid, uint16_t count, uint8_t run, uint8_t announced, int64_t *answer);
 
 /* The number and the place of a refusal; both are 0 for an answer. */
 static inline unsigned petrolyaz_number(uint64_t result) { return (unsigned)(result >> 32); }

@@ -13,6 +13,9 @@ struct table { const uint8_t *bytes; size_t length; };
 
 static const uint8_t packet[] = {0x08, 0x0A, 0xC0, 0x00, 0x00, 0x07, 0x10, 0x03, 0x19, 0x00, 0xFF, 0x85, 0x12, 0x34};
 
+/* The same with the last sequence count. */
+static const uint8_t last[] = {0x08, 0x0A, 0xFF, 0xFF, 0x00, 0x07, 0x10, 0x03, 0x19, 0x00, 0xFF, 0x85, 0x12, 0x34};
+
 /* A curve with three points announced and two there. */
 static const struct table counted[10] = {
     TEXT(""), TEXT(""), TEXT(""), TEXT(""), TEXT("C\t\tI\tI\t\t\t3\t\n"), TEXT("C\t0\t0\nC\t10\t5\n"), TEXT(""), TEXT(""), TEXT(""), TEXT(""),
@@ -32,8 +35,8 @@ static const struct table asked[10] = {
     TEXT("C\t0\t0\nC\t10\t-5\nC\t20\t100\n"),
     TEXT("M\t\tU\t1\n"),
     TEXT("M\t0\t0\tOFF\n"),
-    TEXT(""),
-    TEXT(""),
+    TEXT("WORD\t2\t2\tU\tI\nPAST\t1\t1\tU\tI\n"),
+    TEXT("WORD\t0\tS\t0\t4000\t\t\nWORD\t1\tH\t0\t5000\t\t\nPAST\t0\tS\t0\t9\t\t\n"),
 };
 
 static int64_t answer[8];
@@ -54,6 +57,7 @@ static void expect(const char *what, uint64_t result, unsigned number, uint32_t 
 #define NOTHING 0, answer
 #define EXTRACT(name) petrolyaz_extract(ALL(asked), packet, 14, NAME(name), 0, answer)
 #define ENGINEER(name) petrolyaz_engineer(ALL(asked), packet, 14, NAME(name), 0, answer)
+#define STEP(packet, name, ...) petrolyaz_limit_step(ALL(asked), packet, 14, NAME(name), __VA_ARGS__, answer)
 
 int main(void)
 {
@@ -75,5 +79,12 @@ int main(void)
     expect("text of 0", ENGINEER("MODE"), 0, 0, VALUES(2, 1, 6, 3));
     expect("two bytes of text", ENGINEER("PART"), 0, 0, VALUES(1, 12, 2));
     expect("no such name", ENGINEER("NONE"), 26, 0, NOTHING);
+    expect("count 16,383, a first value above 4,000", STEP(last, "WORD", true, 0, 0, 0, 0), 0, 0, VALUES(0, 10, 16383, 1, 0));
+    expect("next count 0: newer, and soft", STEP(packet, "WORD", false, 10, 16383, 1, 0), 0, 0, VALUES(0, 10, 0, 2, 1));
+    expect("the same count again", STEP(packet, "WORD", false, 10, 0, 2, 1), 35, 0, NOTHING);
+    expect("another APID", STEP(packet, "WORD", false, 11, 16383, 1, 0), 36, 0, NOTHING);
+    expect("a fresh state with a run", STEP(packet, "WORD", true, 0, 0, 1, 0), 34, 0, NOTHING);
+    expect("no limits", STEP(packet, "BYTE", true, 0, 0, 0, 0), 33, 0, NOTHING);
+    expect("limits outside", STEP(packet, "PAST", true, 0, 0, 0, 0), 28, 13, NOTHING);
     return wrong != 0;
 }

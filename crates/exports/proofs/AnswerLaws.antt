@@ -15,7 +15,7 @@ use Rattle.exports.specs.Answers.{code, word, Outcome, refusal, values, 
 
 -- Refusals
 
--- a refusal's number and its place, which `SmallPlaces` shows to be below 2 ^ 32, are read back from its code
+-- a refusal's number and its place, which `SmallPlaces` and `StepPlaces` show to be below 2 ^ 32, are read back from its code
 pub read-back : (number place : ℕ) → place < 2 ^ 32 → (code number place / 2 ^ 32 ≡ number) × (code number place % 2 ^ 32 ≡ place)
 unfolding code
 read-back number place h = (omega arith, omega arith)

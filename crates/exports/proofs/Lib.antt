@@ -1,3 +1,4 @@
 pub mod AnswerLaws
 pub mod RowRanges
 pub mod SmallPlaces
+pub mod StepPlaces

@@ -1,4 +1,4 @@
--- The place of every refusal is below 2 ^ 32, so that a refusal's number and place are read back from its code. Assumes nothing.
+-- The place of every refusal of an import or a packet question is below 2 ^ 32, so that number and place are read back from its code. Assumes nothing.
 use mathlib.Core.Path.{_≡_, refl}
 use mathlib.Core.Bool.{Bool, true}
 use mathlib.Core.List.{List, [], _∷_}
@@ -70,7 +70,7 @@ module _ (texts : List (List ℕ)) (ten : length texts ≡ 10) where
   many-small = omega (arith, first-most (λ text. ltb 1024 (length (linesOf text))) 1 texts)
 
   -- an answer that follows refusals 1 and 2
-  sized : {A : Type 0} (placeOf : A → ℕ) (refused : ℕ → ℕ → A) (x : A) → ((number place : ℕ) → placeOf (refused number place) ≡ place) → placeOf x < 2 ^ 32
+  pub sized : {A : Type 0} (placeOf : A → ℕ) (refused : ℕ → ℕ → A) (x : A) → ((number place : ℕ) → placeOf (refused number place) ≡ place) → placeOf x < 2 ^ 32
       → placeOf (bySizes refused texts x) < 2 ^ 32
   unfolding bySizes
   sized {A} placeOf refused x is s =
@@ -138,7 +138,7 @@ module _ (texts : List (List ℕ)) (p : List ℕ) where
 
 -- Identification
 
-abbrev placeI : Identification → ℕ
+abbrev pub placeI : Identification → ℕ
 placeI x = placeIn (ofIdentification x)
 
 chosen-small : (n : FiveNumbers) (o : Option Row) → placeI (chosen n o) < 2 ^ 32
@@ -157,7 +157,7 @@ header-small (refusedHeader n) x s = omega arith
 header-small (heading flagged apid count) x s = s
 
 module _ (texts : List (List ℕ)) (p : List ℕ) where
-  headed-small : placeI (identifyIn (goodRows texts (verdicts texts) 0) (goodRows texts (verdicts texts) 1) p) < 2 ^ 32
+  pub headed-small : placeI (identifyIn (goodRows texts (verdicts texts) 0) (goodRows texts (verdicts texts) 1) p) < 2 ^ 32
   unfolding identifyIn
   headed-small = header-small (headerOf p) _ (choose-small (goodRows texts (verdicts texts) 0) p _ (fields-small texts p))
 
@@ -200,15 +200,15 @@ raw-in-small p plf ptc k width.Refused r = omega arith
 raw-in-small p plf ptc k (width.Bits n) r =
     cond-cases (λ (x : Raw). placeR x < 2 ^ 32) (ltb k (plf .nbocc)) (λ t. raw-field-small p ptc n (startOf plf k) (start-small plf k r (ltb-true _ _ t))) (λ _. omega arith)
 
-raw-small : (p : List ℕ) (plf : PlfRow) (pcf : PcfRow) (k : ℕ) → PlfRanges plf → placeR (rawOf p plf pcf k) < 2 ^ 32
+pub raw-small : (p : List ℕ) (plf : PlfRow) (pcf : PcfRow) (k : ℕ) → PlfRanges plf → placeR (rawOf p plf pcf k) < 2 ^ 32
 unfolding rawOf
 raw-small p plf pcf k r =
     cond-cases (λ (x : Raw). placeR x < 2 ^ 32) (ltb 8192 (length p)) (λ _. omega arith) (λ _. raw-in-small p plf (pcf .ptc) k (widthOf (pcf .ptc) (pcf .pfc)) r)
 
-abbrev placeE : Read → ℕ
+abbrev pub placeE : Read → ℕ
 placeE x = placeIn (ofRead x)
 
-valid-small : (b : Bool) (r : Raw) → placeR r < 2 ^ 32 → placeE (withValidity b r) < 2 ^ 32
+pub valid-small : (b : Bool) (r : Raw) → placeR r < 2 ^ 32 → placeE (withValidity b r) < 2 ^ 32
 unfolding withValidity placeIn ofRead
 valid-small b (rawRefused number place) h = h
 valid-small b (rawInteger z) h = omega arith

@@ -10,8 +10,9 @@ use Rattle.verdicts.specs.Answer as import
 use Rattle.packets.specs.Identification as identify
 use Rattle.readings.specs.Readings as extract
 use Rattle.values.specs.Engineering as engineer
+use Rattle.limits.specs.Step as step
 
--- 01: "A refusal … returns number and place", as one number. Every place is below 2 ^ 32 (`SmallPlaces`), so both are read back from it (`read-back`)
+-- 01: "A refusal … returns number and place", as one number. Every place is below 2 ^ 32 (`SmallPlaces`, `StepPlaces`), so both are read back from it (`read-back`)
 unfoldable pub code : (number place : ℕ) → ℕ
 code number place = number * 2 ^ 32 + place
 
@@ -57,6 +58,11 @@ ofEngineering (engineer.integer z) = values (pos 0 ∷ z ∷ [])
 ofEngineering (engineer.string start bytes) = values (pos 1 ∷ word start ∷ word bytes ∷ [])
 ofEngineering (engineer.altxt row start bytes) = values (pos 2 ∷ word row ∷ word start ∷ word bytes ∷ [])
 
+-- 01: "The state is: fresh or not, APID, sequence count, run, announced": the state after the packet
+unfoldable pub ofStepping : step.Stepping → Outcome
+ofStepping (step.refused number place) = refusal number place
+ofStepping (step.stepped fresh apid count run announced) = values (flag fresh ∷ word apid ∷ word count ∷ word run ∷ word announced ∷ [])
+
 -- what is returned: 0 with values
 unfoldable pub resultOf : Outcome → ℕ
 resultOf (refusal number place) = code number place
@@ -96,9 +102,11 @@ pub record Examples : Type 0 where
   pub stored : answerAfter (pos 7 ∷ pos 7 ∷ pos 7 ∷ pos 7 ∷ []) (ofRead (extract.integer (negsuc 0) true)) ≡ pos 0 ∷ negsuc 0 ∷ pos 1 ∷ pos 7 ∷ []
   -- the text of txp row 3, 5 bytes from byte 40 of the table on
   pub text : answerAfter (pos 7 ∷ pos 7 ∷ pos 7 ∷ pos 7 ∷ pos 7 ∷ []) (ofEngineering (engineer.altxt 3 40 5)) ≡ pos 2 ∷ pos 3 ∷ pos 40 ∷ pos 5 ∷ pos 7 ∷ []
+  -- APID 10, count 0, a run of 3, soft
+  pub state : answerAfter (pos 7 ∷ pos 7 ∷ pos 7 ∷ pos 7 ∷ pos 7 ∷ pos 7 ∷ []) (ofStepping (step.stepped false 10 0 3 1)) ≡ pos 0 ∷ pos 10 ∷ pos 0 ∷ pos 3 ∷ pos 1 ∷ pos 7 ∷ []
   -- the greatest i64, the next number, and the greatest of 64 bits
   pub words : (word 9223372036854775807 ∷ word 9223372036854775808 ∷ word 18446744073709551615 ∷ []) ≡ pos 9223372036854775807 ∷ negsuc 9223372036854775807 ∷ negsuc 0 ∷ []
 
 pub examples : Examples
-unfolding code word flag ofRead ofEngineering resultOf written answerAfter
-examples = record { leaves = refl; untouched = refl; integer = refl; stored = refl; text = refl; words = refl }
+unfolding code word flag ofRead ofEngineering ofStepping resultOf written answerAfter
+examples = record { leaves = refl; untouched = refl; integer = refl; stored = refl; text = refl; state = refl; words = refl }

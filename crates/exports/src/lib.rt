@@ -3,14 +3,18 @@ use crate::tell::tell_engineered;
 use crate::tell::tell_extracted;
 use crate::tell::tell_identified;
 use crate::tell::tell_imported;
+use crate::tell::tell_stepped;
 use import::import;
+use limits::state::LimitState;
+use limits::step::limit_step;
 use packets::extract::extract;
 use packets::identify::identify;
 use values::engineer::engineer;
 ghost use Rattle.packets.specs.Identification.{identifyOf};
 ghost use Rattle.packets.specs.Extraction.{extractOf};
 ghost use Rattle.values.specs.Engineering.{engineerOf};
-ghost use Rattle.exports.specs.Answers.{ofIdentification, ofRead, ofEngineering, Told, ImportTold, ten};
+ghost use Rattle.limits.specs.Step.{limitStepOf};
+ghost use Rattle.exports.specs.Answers.{ofIdentification, ofRead, ofEngineering, ofStepping, Told, ImportTold, ten};
 
 mod places;
 mod tell;
@@ -105,4 +109,39 @@ pub extern "C" fn petrolyaz_engineer<'a>(
 {
     let tables = [pid, pic, plf, pcf, caf, cap, txf, txp, ocf, ocp];
     tell_engineered(engineer(tables, packet, name, occurrence), answer)
+}
+
+// A parameter's limit state after a packet, by its state before.
+#[no_mangle]
+pub extern "C" fn petrolyaz_limit_step<'a>(
+    pid: &'a [u8],
+    pic: &'a [u8],
+    plf: &'a [u8],
+    pcf: &'a [u8],
+    caf: &'a [u8],
+    cap: &'a [u8],
+    txf: &'a [u8],
+    txp: &'a [u8],
+    ocf: &'a [u8],
+    ocp: &'a [u8],
+    packet: &[u8],
+    name: &[u8],
+    fresh: bool,
+    apid: u16,
+    count: u16,
+    run: u8,
+    announced: u8,
+    answer: &mut [i64; 8],
+) -> u64
+    ensures { λ r. ⌜ Told (ofStepping (limitStepOf (ten (now (pid .entry)) (now (pic .entry)) (now (plf .entry)) (now (pcf .entry)) (now (caf .entry)) (now (cap .entry)) (now (txf .entry)) (now (txp .entry)) (now (ocf .entry)) (now (ocp .entry))) (now (packet .entry)) (now (name .entry)) (record { fresh = fresh; apid = apid; count = count; run = run; announced = announced }))) (now (answer .entry)) (now (answer .exit)) r ⌝ }
+{
+    let tables = [pid, pic, plf, pcf, caf, cap, txf, txp, ocf, ocp];
+    let state = LimitState {
+        fresh: fresh,
+        apid: apid,
+        count: count,
+        run: run,
+        announced: announced,
+    };
+    tell_stepped(limit_step(tables, packet, name, state), answer)
 }

@@ -4,6 +4,7 @@ use crate::places::as_word;
 use crate::places::refuse;
 use crate::places::write;
 use import::Imported;
+use limits::step::Stepped;
 use packets::extract::Extracted;
 use packets::identify::Identified;
 use packets::refusal::Refusal;
@@ -17,7 +18,8 @@ ghost use Rattle.packets.specs.Identification as identify;
 ghost use Rattle.packets.specs.Extraction as extract;
 ghost use Rattle.packets.specs.Refusals.{numberOf, placeOf};
 ghost use Rattle.values.specs.Engineering as engineer;
-ghost use Rattle.exports.specs.Answers.{code, placeIn, ofImport, ofIdentification, ofRead, ofEngineering, Told};
+ghost use Rattle.limits.specs.Answer as step;
+ghost use Rattle.exports.specs.Answers.{code, placeIn, ofImport, ofIdentification, ofRead, ofEngineering, ofStepping, Told};
 
 fn refuse_question(refusal: Refusal) -> u64
     requires { ⌜ placeOf refusal < 2 ^ 32 ⌝ }
@@ -114,5 +116,29 @@ pub(crate) fn tell_engineered(engineered: Engineered, answer: &mut [i64; 8]) -> 
         Engineered::OutOfRange => refuse(31, 0),
         Engineered::NoText => refuse(32, 0),
         Engineered::Refused(refusal) => refuse_question(refusal),
+    }
+}
+
+pub(crate) fn tell_stepped(stepped: Stepped, answer: &mut [i64; 8]) -> u64
+    requires { ⌜ placeIn (ofStepping (step.said stepped)) < 2 ^ 32 ⌝ }
+    ensures { λ r. ⌜ Told (ofStepping (step.said stepped)) (now (answer .entry)) (now (answer .exit)) r ⌝ }
+{
+    match stepped {
+        Stepped::Is(state) => {
+            let fresh = as_flag(state.fresh);
+            let apid = as_word(state.apid as u64);
+            let count = as_word(state.count as u64);
+            let run = as_word(state.run as u64);
+            let announced = as_word(state.announced as u64);
+            write(answer, [fresh, apid, count, run, announced, 0, 0, 0], 5);
+            0
+        }
+        Stepped::OffCurve => refuse(30, 0),
+        Stepped::OutOfRange => refuse(31, 0),
+        Stepped::NoLimits => refuse(33, 0),
+        Stepped::NoState => refuse(34, 0),
+        Stepped::NotNewer => refuse(35, 0),
+        Stepped::OtherApid => refuse(36, 0),
+        Stepped::Refused(refusal) => refuse_question(refusal),
     }
 }
