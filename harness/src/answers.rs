@@ -1,0 +1,71 @@
+//! Answers as the C interface gives them.
+
+use crate::reference::limits::State;
+use crate::reference::packets::{Identity, Raw, Reading};
+use crate::reference::values::Value;
+use crate::reference::{Imported, Refusal};
+
+/// The eight places that an answer's values are written to, from the first on.
+pub type Places = [i64; 8];
+
+/// The result of a question, 0 or number × 2^32 + place, and the places after it.
+#[derive(Clone, Copy, Debug, PartialEq)]
+pub struct Answer {
+    pub result: u64,
+    pub places: Places,
+}
+
+pub trait Values {
+    fn values(&self) -> Vec<i64>;
+}
+
+/// The answer to a question asked with these places.
+pub fn answer<T: Values>(answered: &Result<T, Refusal>, mut places: Places) -> Answer {
+    match answered {
+        Ok(answer) => {
+            let values = answer.values();
+            places[..values.len()].copy_from_slice(&values);
+            Answer { result: 0, places }
+        }
+        Err(Refusal { number, place }) => Answer { result: (number << 32) + place, places },
+    }
+}
+
+impl Values for Imported {
+    fn values(&self) -> Vec<i64> {
+        vec![self.cells.len() as i64, self.good as i64]
+    }
+}
+
+impl Values for Identity {
+    fn values(&self) -> Vec<i64> {
+        let [service, subservice, apid, pi1, pi2] = self.numbers;
+        vec![self.row as i64, self.spid, apid, service, subservice, pi1, pi2]
+    }
+}
+
+impl Values for Reading {
+    fn values(&self) -> Vec<i64> {
+        match self.raw {
+            Raw::Integer(value) => vec![0, value, i64::from(self.valid)],
+            Raw::Text { start, length } => vec![1, start, length, i64::from(self.valid)],
+        }
+    }
+}
+
+impl Values for Value {
+    fn values(&self) -> Vec<i64> {
+        match *self {
+            Value::Integer(value) => vec![0, value],
+            Value::String { start, length } => vec![1, start, length],
+            Value::Text { row, start, length } => vec![2, row as i64, start as i64, length as i64],
+        }
+    }
+}
+
+impl Values for State {
+    fn values(&self) -> Vec<i64> {
+        let numbers = [self.apid, self.count, self.run.into(), self.announced.into()];
+        [i64::from(self.fresh)].into_iter().chain(numbers.map(i64::from)).collect()
+    }
+}

@@ -1,0 +1,196 @@
+//! Mistakes: of columns, rows, names and bytes.
+
+use super::spelling::{number, text};
+use super::{row, ByteSet, RowSet, CAF, OCF, PCF, TXF};
+use crate::random::Random;
+use crate::reference::judging::TABLES;
+use crate::reference::schemas::{Kind, SCHEMAS};
+
+/// Texts that look like numbers, most of them none.
+const SPELLINGS: [&[u8]; 16] = [
+    b"08", b"-07", b"-00", b"+1", b"1 ", b" 1", b"0x", b"0xG", b"-0x1", b"-", b"00", b"007", b"-0", b"--1",
+    b"1.0", b"9A",
+];
+
+/// Bytes that divide lines or columns, stand beside the allowed range, or are foreign.
+const BYTES: [u8; 10] = [b'\n', b'\t', b'\r', 0x00, 0x1F, 0x20, 0x7E, 0x7F, 0x80, 0xFF];
+
+/// The columns that count rows: caf, txf, ocf.
+const COUNTS: [(usize, usize); 3] = [(CAF, 7), (TXF, 4), (OCF, 3)];
+
+/// One mistake in the rows.
+pub fn mutate_rows(random: &mut Random, rows: &mut RowSet) {
+    let table = random.below(TABLES);
+    match random.below(20) {
+        0..=9 => change_column(random, rows, table),
+        10..=11 => copy_row(random, rows, table),
+        12 => copy_column(random, rows, table),
+        13 => remove_row(random, rows, table),
+        14 => change_width(random, rows, table),
+        15 => change_count(random, rows),
+        16..=17 => chain(random, rows),
+        18 => lengthen(random, rows, table),
+        _ => move_row(random, rows, table),
+    }
+}
+
+fn change_column(random: &mut Random, rows: &mut RowSet, table: usize) {
+    if rows[table].is_empty() {
+        rows[table].push(row(random, table, &[]));
+    }
+    let at = random.below(rows[table].len());
+    let column = random.below(SCHEMAS[table].len());
+    let changed = column_text(random, table, column);
+    if let Some(text) = rows[table][at].get_mut(column) {
+        *text = changed;
+    }
+}
+
+/// A text for a column, right or wrong.
+fn column_text(random: &mut Random, table: usize, column: usize) -> Vec<u8> {
+    let schema = SCHEMAS[table][column];
+    match random.below(10) {
+        0..=1 => return Vec::new(),
+        2 => return vec![b'1'; schema.width + 1],
+        3 => return text(random, schema.width),
+        _ => (),
+    }
+    match schema.kind {
+        Kind::Text => text(random, schema.width),
+        Kind::Letter(letters) if random.chance(80) => vec![*random.pick(letters)],
+        Kind::Letter(_) => vec![*random.pick(b"ynrRxX? 0")],
+        Kind::Number { .. } if random.chance(20) => random.pick(&SPELLINGS).to_vec(),
+        Kind::Number { least, greatest } => {
+            let inside = random.between(least, greatest);
+            let value = *random.pick(&[least - 1, least, -1, 0, 1, 6, 7, greatest, greatest + 1, inside]);
+            number(random, value, schema.width)
+        }
+    }
+}
+
+fn copy_row(random: &mut Random, rows: &mut RowSet, table: usize) {
+    if !rows[table].is_empty() {
+        let copy = random.pick(&rows[table]).clone();
+        let at = random.below(rows[table].len() + 1);
+        rows[table].insert(at, copy);
+    }
+}
+
+/// A column of one row becomes that of another, so that two keys or names meet.
+fn copy_column(random: &mut Random, rows: &mut RowSet, table: usize) {
+    if rows[table].is_empty() {
+        return;
+    }
+    let (from, to) = (random.below(rows[table].len()), random.below(rows[table].len()));
+    let column = random.below(6);
+    let copied = rows[table][from].get(column).cloned();
+    if let (Some(text), Some(copied)) = (rows[table][to].get_mut(column), copied) {
+        *text = copied;
+    }
+}
+
+fn remove_row(random: &mut Random, rows: &mut RowSet, table: usize) {
+    if !rows[table].is_empty() {
+        let at = random.below(rows[table].len());
+        rows[table].remove(at);
+    }
+}
+
+/// A column too many or too few.
+fn change_width(random: &mut Random, rows: &mut RowSet, table: usize) {
+    if rows[table].is_empty() {
+        return;
+    }
+    let at = random.below(rows[table].len());
+    let columns = &mut rows[table][at];
+    if random.chance(50) {
+        columns.push(Vec::new());
+    } else {
+        columns.pop();
+    }
+}
+
+fn change_count(random: &mut Random, rows: &mut RowSet) {
+    let (table, column) = *random.pick(&COUNTS);
+    if rows[table].is_empty() {
+        return;
+    }
+    let at = random.below(rows[table].len());
+    let count = random.between(1, 4);
+    if let Some(text) = rows[table][at].get_mut(column - 1) {
+        *text = number(random, count, 2);
+    }
+}
+
+/// VALID of a pcf row names any pcf row, itself too.
+fn chain(random: &mut Random, rows: &mut RowSet) {
+    if rows[PCF].is_empty() {
+        return;
+    }
+    let named = random.pick(&rows[PCF]).first().cloned().unwrap_or_default();
+    let at = random.below(rows[PCF].len());
+    if let Some(valid) = rows[PCF][at].get_mut(7) {
+        *valid = named;
+    }
+}
+
+/// A line around 512 bytes.
+fn lengthen(random: &mut Random, rows: &mut RowSet, table: usize) {
+    if rows[table].is_empty() {
+        return;
+    }
+    let at = random.below(rows[table].len());
+    let columns = &mut rows[table][at];
+    let length: usize = columns.iter().map(|column| column.len() + 1).sum::<usize>() - 1;
+    let wanted = random.between(511, 514) as usize;
+    if let Some(last) = columns.last_mut() {
+        last.resize(last.len() + wanted.saturating_sub(length), b'z');
+    }
+}
+
+/// A row of one table in another.
+fn move_row(random: &mut Random, rows: &mut RowSet, table: usize) {
+    let to = random.below(TABLES);
+    if !rows[table].is_empty() {
+        let moved = random.pick(&rows[table]).clone();
+        rows[to].push(moved);
+    }
+}
+
+/// One mistake in the bytes of a table.
+pub fn mutate_bytes(random: &mut Random, set: &mut ByteSet) {
+    let table = random.below(TABLES);
+    let bytes = &mut set[table];
+    let at = random.below(bytes.len());
+    match random.below(6) {
+        _ if bytes.is_empty() => bytes.extend(noise_line(random)),
+        0 => bytes[at] = *random.pick(&BYTES),
+        1 => bytes[at] = random.byte(),
+        2 => bytes.insert(at, *random.pick(&BYTES)),
+        3 => drop(bytes.remove(at)),
+        4 => drop(bytes.pop()),
+        _ => bytes.truncate(at),
+    }
+}
+
+/// Bytes without LF: any, or such as rows are made of.
+pub fn noise_line(random: &mut Random) -> Vec<u8> {
+    let any = random.chance(30);
+    let longest = if random.chance(5) { 700 } else { 60 };
+    let length = random.below(longest);
+    let byte = |_| if any { random.byte() } else { *random.pick(b"\t\t\t\t0011-xYNRPIUSHTA ") };
+    (0..length).map(byte).filter(|&byte| byte != b'\n').collect()
+}
+
+/// Tables of noise.
+pub fn noise(random: &mut Random) -> ByteSet {
+    std::array::from_fn(|_| {
+        let lines = random.below(6);
+        let mut bytes: Vec<u8> =
+            (0..lines).flat_map(|_| [noise_line(random), vec![b'\n']].concat()).collect();
+        if random.chance(20) {
+            bytes.extend(noise_line(random));
+        }
+        bytes
+    })
+}

@@ -1,0 +1,6 @@
+//! 01 twice: an ordinary Rust program, and the proved library, asked the same questions.
+
+pub mod answers;
+pub mod generate;
+pub mod random;
+pub mod reference;
