@@ -1,6 +1,7 @@
 //! Tables, packets and limit states to ask about.
 
 pub mod consistent;
+pub mod full;
 pub mod mutations;
 pub mod packets;
 pub mod sets;

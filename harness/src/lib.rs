@@ -2,5 +2,7 @@
 
 pub mod answers;
 pub mod generate;
+pub mod proved;
 pub mod random;
 pub mod reference;
+pub mod tally;

@@ -19,7 +19,7 @@ impl Size {
     pub fn small(random: &mut Random) -> Self {
         Size {
             packets: 1 + random.below(3),
-            parameters: 1 + random.below(6),
+            parameters: 1 + random.below(7),
             curves: random.below(3),
             texts: random.below(3),
         }
@@ -146,7 +146,7 @@ fn parameter(random: &mut Random, names: &mut Names, curves: &[Vec<u8>], texts: 
     let integer = (1..=4).contains(&ptc);
     let (categ, curtx) = match ptc {
         8 => (b'T', Vec::new()),
-        _ if integer && !texts.is_empty() && random.chance(30) => (b'S', random.pick(texts).clone()),
+        _ if integer && !texts.is_empty() && random.chance(25) => (b'S', random.pick(texts).clone()),
         _ if integer && !curves.is_empty() && random.chance(60) => (b'N', random.pick(curves).clone()),
         _ => (b'N', Vec::new()),
     };
@@ -214,7 +214,11 @@ fn packets(random: &mut Random, rows: &mut RowSet, count: usize) -> Vec<Packet> 
     while packets.len() < count {
         let service = [0, 1, 3, 255, random.between(0, 255)][random.below(5)];
         let subservice = [0, 25, random.between(0, 255)][random.below(3)];
-        let apid = [0, 10, 2_047, random.between(0, 2_047), random.between(0, 65_535)][random.below(5)];
+        let apid = if random.chance(93) {
+            [0, 10, 2_047, random.between(0, 2_047)][random.below(4)]
+        } else {
+            random.between(0, 65_535)
+        };
         let pi1 = identification(random, 9);
         let pi2 = identification(random, 15);
         let pic_apid = random.chance(50).then_some(apid);
@@ -256,7 +260,7 @@ fn pid(random: &mut Random, rows: &mut RowSet, numbers: [i64; 5], spid: i64) -> 
         0 if random.chance(50) => Vec::new(),
         _ => number(random, value, 10),
     };
-    let valid = random.chance(95);
+    let valid = random.chance(96);
     let letter = if !valid { b"N".to_vec() } else { optional(random, b"Y") };
     let columns = [
         (1, number(random, numbers[0], 3)),
@@ -274,7 +278,7 @@ fn pid(random: &mut Random, rows: &mut RowSet, numbers: [i64; 5], spid: i64) -> 
 /// Where a parameter lies in the packets, mostly in all of them.
 fn places(random: &mut Random, rows: &mut RowSet, parameter: &Parameter, packets: &[Packet]) {
     for packet in packets.iter().filter(|packet| packet.valid) {
-        if parameter.natur != b'R' || random.chance(if packets.len() > 3 { 99 } else { 10 }) {
+        if parameter.natur != b'R' || random.chance(if packets.len() > 3 { 99 } else { 7 }) {
             continue;
         }
         let string = parameter.ptc >= 7;
@@ -306,7 +310,7 @@ fn occurrences(random: &mut Random, width: i64, string: bool) -> (Option<i64>, O
 
 /// The limits of a parameter that can have them: an ocf row and its checks.
 fn limits(random: &mut Random, rows: &mut RowSet, parameter: &Parameter, all: &[Parameter]) {
-    if !parameter.is_integer() || parameter.categ != b'N' || random.chance(35) {
+    if !parameter.is_integer() || parameter.categ != b'N' || random.chance(15) {
         return;
     }
     let count = if random.chance(95) { random.between(1, 3) } else { random.between(4, 16) };

@@ -39,10 +39,21 @@ fn change_column(random: &mut Random, rows: &mut RowSet, table: usize) {
         rows[table].push(row(random, table, &[]));
     }
     let at = random.below(rows[table].len());
-    let column = random.below(SCHEMAS[table].len());
+    let column = column_of(random, table);
     let changed = column_text(random, table, column);
     if let Some(text) = rows[table][at].get_mut(column) {
         *text = changed;
+    }
+}
+
+/// A column of a table, mostly one with a rule beside its width.
+fn column_of(random: &mut Random, table: usize) -> usize {
+    let ruled = |&at: &usize| SCHEMAS[table][at].mandatory || !matches!(SCHEMAS[table][at].kind, Kind::Text);
+    let columns: Vec<usize> = (0..SCHEMAS[table].len()).filter(ruled).collect();
+    if random.chance(60) {
+        *random.pick(&columns)
+    } else {
+        random.below(SCHEMAS[table].len())
     }
 }
 
@@ -50,8 +61,8 @@ fn change_column(random: &mut Random, rows: &mut RowSet, table: usize) {
 fn column_text(random: &mut Random, table: usize, column: usize) -> Vec<u8> {
     let schema = SCHEMAS[table][column];
     match random.below(10) {
-        0..=1 => return Vec::new(),
-        2 => return vec![b'1'; schema.width + 1],
+        0 => return Vec::new(),
+        1..=2 => return vec![b'1'; schema.width + 1],
         3 => return text(random, schema.width),
         _ => (),
     }

@@ -1,6 +1,8 @@
 //! Packets that the tables know, and damaged ones.
 
+use super::mutations::noise_line;
 use crate::random::Random;
+use crate::reference::packets::identify;
 use crate::reference::rows::{Pcf, Pid, Plf};
 use crate::reference::Judged;
 
@@ -9,12 +11,12 @@ pub fn packet(random: &mut Random, judged: &Judged) -> Vec<u8> {
     let rows: Vec<&Pid> = judged.pid.well_formed().filter(|row| row.numbers[2] < 2_048).collect();
     let mut packet = if rows.is_empty() || random.chance(3) {
         let length = random.below(40);
-        bytes(random, length)
+        unknown(random, length)
     } else {
         let row = random.pick(&rows);
         matching(random, judged, row)
     };
-    if random.chance(12) {
+    if random.chance(8) {
         damage(random, &mut packet);
     }
     packet
@@ -23,6 +25,16 @@ pub fn packet(random: &mut Random, judged: &Judged) -> Vec<u8> {
 fn bytes(random: &mut Random, length: usize) -> Vec<u8> {
     let small = random.chance(50);
     (0..length).map(|_| if small { *random.pick(&[0, 0, 0, 1, 2, 255]) } else { random.byte() }).collect()
+}
+
+/// Bytes that mostly have the header of a packet.
+fn unknown(random: &mut Random, length: usize) -> Vec<u8> {
+    let mut packet = bytes(random, length);
+    if random.chance(80) {
+        put(&mut packet, 0, 4, 0);
+        set_length(&mut packet);
+    }
+    packet
 }
 
 /// A packet of a pid row.
@@ -155,26 +167,43 @@ fn damage(random: &mut Random, packet: &mut Vec<u8>) {
     }
 }
 
-/// A name to ask for: mostly one that lies in a packet or has limits.
-pub fn name(random: &mut Random, judged: &Judged, of_limits: bool) -> Vec<u8> {
+/// What is asked of a packet: mostly a parameter that lies in it, and one that has limits too.
+pub struct Asked {
+    pub name: Vec<u8>,
+    pub occurrence: usize,
+    pub limited: Vec<u8>,
+}
+
+pub fn asked(random: &mut Random, judged: &Judged, packet: &[u8]) -> Asked {
+    let spid = identify(judged, packet).map_or(0, |identity| identity.spid);
+    let placed: Vec<&[u8]> =
+        judged.plf.well_formed().filter(|row| row.spid == spid).map(|row| row.name).collect();
+    let limited = judged.ocf.well_formed().map(|row| row.name).filter(|name| placed.contains(name)).collect();
+    let name = name(random, judged, &placed);
+    let occurrence = occurrence(random, judged, spid, &name);
+    Asked { name, occurrence, limited: self::name(random, judged, &limited) }
+}
+
+/// One of these names mostly, else any that the tables have, or noise.
+fn name(random: &mut Random, judged: &Judged, likely: &Vec<&[u8]>) -> Vec<u8> {
+    let parameters = judged.pcf.well_formed().map(|row| row.name);
     let limits = judged.ocf.well_formed().map(|row| row.name);
-    let placed = judged.plf.well_formed().map(|row| row.name);
-    let known = judged.pcf.well_formed().map(|row| row.name);
-    let names: Vec<&[u8]> = match random.below(20) {
-        0 => vec![],
-        1..=2 => known.collect(),
-        _ if of_limits => limits.collect(),
-        _ => placed.collect(),
+    let known: Vec<&[u8]> = parameters.chain(limits).collect();
+    let names = match random.below(20) {
+        0 => &Vec::new(),
+        1..=2 => &known,
+        _ if likely.is_empty() => &known,
+        _ => likely,
     };
     match names.is_empty() {
-        true => super::mutations::noise_line(random),
-        false => random.pick(&names).to_vec(),
+        true => noise_line(random),
+        false => random.pick(names).to_vec(),
     }
 }
 
 /// An occurrence of a parameter, mostly below its NBOCC.
-pub fn occurrence(random: &mut Random, judged: &Judged, name: &[u8]) -> usize {
-    let place = judged.plf.well_formed().find(|row| row.name == name);
+fn occurrence(random: &mut Random, judged: &Judged, spid: i64, name: &[u8]) -> usize {
+    let place = judged.plf.well_formed().find(|row| row.name == name && row.spid == spid);
     let nbocc = place.map_or(1, |row| row.nbocc as usize);
     match random.below(40) {
         0 => nbocc,

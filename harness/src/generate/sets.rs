@@ -10,12 +10,12 @@ use crate::reference::lines::count_lines;
 /// Small tables: consistent, with few or many mistakes, noise, or at the bounds of refusals 1 and 2.
 pub fn small_set(random: &mut Random) -> ByteSet {
     match random.below(100) {
-        0..=34 => mutated(random, 0),
-        35..=79 => {
+        0..=44 => mutated(random, 0),
+        45..=84 => {
             let mistakes = 1 + random.below(4);
             mutated(random, mistakes)
         }
-        80..=91 => {
+        85..=91 => {
             let mistakes = 5 + random.below(16);
             mutated(random, mistakes)
         }

@@ -1,0 +1,131 @@
+//! Tables of a given number of rows each, the same at every call: what speed is measured on.
+
+use super::{line, ByteSet, Columns, OCP, PCF};
+use crate::reference::schemas::{Kind, SCHEMAS};
+
+/// 1,024 lines of this many bytes, LF and all, fill a table.
+const LINE: usize = 64;
+
+/// The APID, PI1 and the raw value of every parameter in the packet.
+const APID: usize = 10;
+const PI1: u8 = 7;
+const RAW: u8 = 5;
+
+/// How many rows each table has, and how many pcf rows a VALID chain.
+#[derive(Clone, Copy)]
+pub struct Shape {
+    pub rows: usize,
+    pub chain: usize,
+}
+
+/// Ten tables of that many rows. Half the curves have no points, since each needs two, and every eighth
+/// parameter has texts and so no limits; all other rows are good.
+pub fn full_set(shape: Shape) -> ByteSet {
+    let row = [pid_row, pic_row, plf_row, pcf_row, caf_row, cap_row, txf_row, txp_row, ocf_row, ocp_row];
+    let bytes = |table: usize, at: usize| line(&padded(table, &row[table](shape, at)));
+    std::array::from_fn(|table| (0..shape.rows).flat_map(|at| bytes(table, at)).collect())
+}
+
+/// The columns given, counted from 1, and the text columns of the rest filled until the line is long enough.
+fn padded(table: usize, given: &[(usize, String)]) -> Columns {
+    let schema = SCHEMAS[table];
+    let mut columns: Columns = vec![Vec::new(); schema.len()];
+    for (column, text) in given {
+        columns[column - 1] = text.clone().into_bytes();
+    }
+    let mut room = LINE.saturating_sub(line(&columns).len());
+    let named = [PCF, OCP].map(|table| (table, if table == PCF { 8..13 } else { 6..7 }));
+    for (at, column) in schema.iter().enumerate() {
+        let names = named.iter().any(|(named, columns)| *named == table && columns.contains(&(at + 1)));
+        if matches!(column.kind, Kind::Text) && columns[at].is_empty() && !names {
+            let filled = room.min(column.width);
+            columns[at] = vec![b'x'; filled];
+            room -= filled;
+        }
+    }
+    columns
+}
+
+type Given = Vec<(usize, String)>;
+
+fn given(columns: &[(usize, &dyn ToString)]) -> Given {
+    columns.iter().map(|(column, value)| (*column, value.to_string())).collect()
+}
+
+pub fn parameter(at: usize) -> String {
+    format!("P{at:07}")
+}
+
+fn curve(at: usize) -> String {
+    format!("C{at:08}")
+}
+
+/// Every eighth parameter has texts, the others a curve.
+fn has_texts(at: usize) -> bool {
+    at % 8 == 7
+}
+
+fn pid_row(_: Shape, at: usize) -> Given {
+    given(&[(1, &(at / 256)), (2, &(at % 256)), (3, &APID), (4, &PI1), (6, &(at + 1)), (13, &"Y")])
+}
+
+fn pic_row(_: Shape, at: usize) -> Given {
+    given(&[(1, &(at / 256)), (2, &(at % 256)), (3, &10), (4, &8), (5, &-1), (6, &0), (7, &APID)])
+}
+
+/// All parameters lie in the packet of the last pid row.
+fn plf_row(shape: Shape, at: usize) -> Given {
+    let byte = 16 + 4 * at;
+    given(&[(1, &parameter(at)), (2, &shape.rows), (3, &byte), (4, &0), (5, &2), (6, &16)])
+}
+
+fn pcf_row(shape: Shape, at: usize) -> Given {
+    let valid = if at % shape.chain == 0 { String::new() } else { parameter(at - 1) };
+    let (categ, curtx) = if has_texts(at) { ("S", curve(at)) } else { ("N", curve(at % (shape.rows / 2))) };
+    let field = [(5, "3"), (6, "12"), (10, categ), (11, "R"), (18, "5")];
+    let names = [(1, parameter(at)), (8, valid), (12, curtx)];
+    names.into_iter().chain(field.map(|(column, text)| (column, text.to_string()))).collect()
+}
+
+fn caf_row(_: Shape, at: usize) -> Given {
+    given(&[(1, &curve(at)), (3, &"I"), (4, &"U"), (5, &"D"), (7, &2), (8, &"P")])
+}
+
+fn cap_row(_: Shape, at: usize) -> Given {
+    let (x, y) = (1_000_000_000 * (at % 2), 1_000_000_000 - (at % 2) as i64);
+    given(&[(1, &curve(at / 2)), (2, &x), (3, &y)])
+}
+
+fn txf_row(_: Shape, at: usize) -> Given {
+    given(&[(1, &curve(at)), (3, &"U"), (4, &1)])
+}
+
+fn txp_row(_: Shape, at: usize) -> Given {
+    given(&[(1, &curve(at)), (2, &0), (3, &4_000_000_000u32), (4, &"ON............")])
+}
+
+fn ocf_row(_: Shape, at: usize) -> Given {
+    given(&[(1, &parameter(at)), (2, &3), (3, &1), (4, &"C"), (5, &"I")])
+}
+
+fn ocp_row(_: Shape, at: usize) -> Given {
+    let named = given(&[(1, &parameter(at)), (6, &parameter(0))]);
+    let check = given(&[(2, &1), (3, &"H"), (4, &-1_000_000_000), (5, &999_999_000), (7, &RAW)]);
+    named.into_iter().chain(check).collect()
+}
+
+/// The packet of the last pid row.
+pub fn full_packet(shape: Shape) -> Vec<u8> {
+    let mut packet: Vec<u8> = [0, RAW].repeat(8 + 2 * shape.rows);
+    let length = packet.len() as u16 - 7;
+    let last = shape.rows - 1;
+    packet[..6].copy_from_slice(&[0x08, APID as u8, 0xC0, 1, (length >> 8) as u8, length as u8]);
+    packet[7..11].copy_from_slice(&[(last / 256) as u8, (last % 256) as u8, 0, PI1]);
+    packet
+}
+
+/// The last parameter that has a curve and limits.
+pub fn last_parameter(shape: Shape) -> String {
+    let last = (0..shape.rows).rev().find(|&at| !has_texts(at));
+    parameter(last.expect("a shape has rows"))
+}

@@ -1,0 +1,342 @@
+//! The proved library and the reference, asked the same questions of the same bytes.
+
+use std::sync::atomic::{AtomicU64, Ordering};
+use std::thread::{available_parallelism, scope, Builder};
+
+use harness::answers::{answer, Answer, Places};
+use harness::generate::full::{full_packet, full_set, last_parameter, Shape};
+use harness::generate::mutations::{mutate_bytes, noise_line};
+use harness::generate::packets::Asked;
+use harness::generate::sets::{large_set, small_set};
+use harness::generate::{borrowed, packets, states, ByteSet};
+use harness::proved;
+use harness::random::Random;
+use harness::reference::judging::TABLES;
+use harness::reference::limits::{limit_step, State, HARD, SOFT, WITHIN};
+use harness::reference::lines::{count_lines, lines};
+use harness::reference::packets::{extract, identify, Raw, Reading};
+use harness::reference::reach::reaching;
+use harness::reference::values::{engineer, Value};
+use harness::reference::{self, Judged, Refusal, Tables};
+use harness::tally::{Question, Tally};
+
+const SMALL_SETS: u64 = 20_000;
+const LARGE_SETS: u64 = 100;
+const FULL_SETS: u64 = 20;
+
+/// Packets for each set, each asked all four packet questions.
+const PACKETS: u64 = 3;
+
+/// The library's own tables and a VALID chain of 1,024 calls lie on the stack.
+const STACK: usize = 16 << 20;
+
+/// The kinds of answers that must occur.
+const ANSWERS: [(Question, &str); 11] = [
+    (Question::Extract, "integer, valid"),
+    (Question::Extract, "integer, invalid"),
+    (Question::Extract, "string, valid"),
+    (Question::Extract, "string, invalid"),
+    (Question::Engineer, "integer"),
+    (Question::Engineer, "string"),
+    (Question::Engineer, "text"),
+    (Question::LimitStep, "within"),
+    (Question::LimitStep, "soft"),
+    (Question::LimitStep, "hard"),
+    (Question::LimitStep, "run raised, announced kept"),
+];
+
+#[test]
+fn the_library_answers_as_the_reference() {
+    let tally = compare_all();
+    println!("{tally}");
+    assert!(tally.sets >= 20_000 && tally.packet_questions() >= 200_000);
+    assert!(tally.replaced.leaning_changed > 0);
+    let missing = tally.missing(&ANSWERS);
+    assert!(missing.is_empty(), "never met: {missing:#?}");
+}
+
+/// All sets, on all cores: the sets and questions are the same however many there are.
+fn compare_all() -> Tally {
+    let next = AtomicU64::new(0);
+    let work = || {
+        let mut tally = Tally::default();
+        loop {
+            match next.fetch_add(1, Ordering::Relaxed) {
+                number if number < FULL_SETS + LARGE_SETS + SMALL_SETS => compare_set(number, &mut tally),
+                _ => return tally,
+            }
+        }
+    };
+    let mut total = Tally::default();
+    scope(|scope| {
+        let threads = available_parallelism().map_or(1, usize::from);
+        let workers: Vec<_> = (0..threads)
+            .map(|_| Builder::new().stack_size(STACK).spawn_scoped(scope, work).expect("a thread starts"))
+            .collect();
+        for worker in workers {
+            total.add(worker.join().expect("no answer differs"));
+        }
+    });
+    total
+}
+
+/// A set's number is its seed: the first are full, then large, then small.
+fn compare_set(number: u64, tally: &mut Tally) {
+    let mut random = Random::new(number);
+    let set = match number {
+        _ if number < FULL_SETS => nearly_full_set(&mut random),
+        _ if number < FULL_SETS + LARGE_SETS => large_set(&mut random),
+        _ => small_set(&mut random),
+    };
+    tally.sets += 1;
+    Comparison { number, set: &set, random, tally }.run();
+}
+
+/// Full tables with a few mistakes.
+fn nearly_full_set(random: &mut Random) -> ByteSet {
+    let mut set = full_set(FULL);
+    for _ in 0..random.below(5) {
+        mutate_bytes(random, &mut set);
+    }
+    set
+}
+
+const FULL: Shape = Shape { rows: 1_024, chain: 64 };
+
+/// One set of tables, and what is asked of it.
+struct Comparison<'s> {
+    number: u64,
+    set: &'s ByteSet,
+    random: Random,
+    tally: &'s mut Tally,
+}
+
+impl<'s> Comparison<'s> {
+    fn run(&mut self) {
+        let tables = borrowed(self.set);
+        self.imports(&tables);
+        let judged = reference::judged(&tables);
+        for _ in 0..PACKETS {
+            self.packet_questions(&tables, &judged);
+        }
+        if let Ok(judged) = &judged {
+            self.replaced_line(judged);
+        }
+    }
+
+    /// Places that hold anything.
+    fn places(&mut self) -> Places {
+        std::array::from_fn(|_| self.random.word() as i64)
+    }
+
+    fn check<T: PartialEq + std::fmt::Debug>(&self, asked: &str, library: T, reference: T) {
+        if library != reference {
+            let tables = self.set.each_ref().map(|table| table.escape_ascii().to_string());
+            let number = self.number;
+            panic!("set {number}, {asked}\nlibrary   {library:?}\nreference {reference:?}\n{tables:#?}");
+        }
+    }
+
+    /// Imports with enough cells, with more, or with too few.
+    fn imports(&mut self, tables: &Tables) {
+        let rows: usize = tables.iter().map(|table| count_lines(table)).sum();
+        let room = match self.random.below(20) {
+            0..=9 => rows,
+            10..=16 => rows + 1 + self.random.below(20),
+            17 => rows.saturating_sub(1),
+            _ => self.random.below(rows + 1),
+        };
+        if let Ok(imported) = self.import(tables, room) {
+            let owners = (0..TABLES).flat_map(|table| vec![table; count_lines(tables[table])]);
+            owners.zip(&imported).for_each(|(table, &cell)| self.tally.verdict(table, cell));
+        }
+    }
+
+    /// The answer, the cells of the rows and the cells past them, or all untouched.
+    fn import(&mut self, tables: &Tables, room: usize) -> Result<Vec<u16>, Refusal> {
+        let before: Vec<u16> = (0..room).map(|_| self.random.word() as u16).collect();
+        let places = self.places();
+        let mut cells = before.clone();
+        let library = proved::import(tables, &mut cells, places);
+        let imported = reference::import(tables, room);
+        let mut expected = before;
+        if let Ok(imported) = &imported {
+            expected[..imported.cells.len()].copy_from_slice(&imported.cells);
+        }
+        self.check("import's answer", library, answer(&imported, places));
+        self.check("import's cells", &cells, &expected);
+        self.tally.result(Question::Import, library.result);
+        imported.map(|imported| imported.cells)
+    }
+
+    fn packet_questions(&mut self, tables: &Tables, judged: &Result<Judged, Refusal>) {
+        let nothing = reference::judging::judge(&[b""; TABLES]);
+        let known = judged.as_ref().unwrap_or(&nothing);
+        let full = self.number < FULL_SETS && self.random.chance(50);
+        let packet = if full { full_packet(FULL) } else { packets::packet(&mut self.random, known) };
+        let Asked { mut name, occurrence, limited } = packets::asked(&mut self.random, known, &packet);
+        if full && self.random.chance(50) {
+            name = last_parameter(FULL).into_bytes();
+        }
+        let state = states::state(&mut self.random, &packet);
+        self.identify(tables, judged, &packet);
+        self.extract(tables, judged, &packet, &name, occurrence);
+        self.engineer(tables, judged, &packet, &name, occurrence);
+        self.limit_step(tables, judged, &packet, &limited, state);
+    }
+
+    /// Compares one answer and counts its result.
+    fn answered(&mut self, question: Question, asked: &str, library: Answer, reference: Answer) {
+        self.check(asked, library, reference);
+        self.tally.result(question, library.result);
+    }
+
+    fn identify(&mut self, tables: &Tables, judged: &Result<Judged, Refusal>, packet: &[u8]) {
+        let places = self.places();
+        let expected = ask(judged, |judged| identify(judged, packet));
+        let asked = format!("identify {packet:02X?}");
+        let library = proved::identify(tables, packet, places);
+        self.answered(Question::Identify, &asked, library, answer(&expected, places));
+    }
+
+    fn extract(
+        &mut self,
+        tables: &Tables,
+        judged: &Result<Judged, Refusal>,
+        packet: &[u8],
+        name: &[u8],
+        occurrence: usize,
+    ) {
+        let places = self.places();
+        let expected = ask(judged, |judged| extract(judged, packet, name, occurrence));
+        let asked = format!("extract {} {occurrence} of {packet:02X?}", name.escape_ascii());
+        let library = proved::extract(tables, packet, name, occurrence, places);
+        self.answered(Question::Extract, &asked, library, answer(&expected, places));
+        if let Ok(reading) = &expected {
+            self.tally.answer(Question::Extract, kind_of_reading(reading));
+        }
+    }
+
+    fn engineer(
+        &mut self,
+        tables: &Tables,
+        judged: &Result<Judged, Refusal>,
+        packet: &[u8],
+        name: &[u8],
+        occurrence: usize,
+    ) {
+        let places = self.places();
+        let expected = ask(judged, |judged| engineer(judged, packet, name, occurrence));
+        let asked = format!("engineer {} {occurrence} of {packet:02X?}", name.escape_ascii());
+        let library = proved::engineer(tables, packet, name, occurrence, places);
+        self.answered(Question::Engineer, &asked, library, answer(&expected, places));
+        if let Ok(value) = &expected {
+            self.tally.answer(Question::Engineer, kind_of_value(value));
+        }
+    }
+
+    fn limit_step(
+        &mut self,
+        tables: &Tables,
+        judged: &Result<Judged, Refusal>,
+        packet: &[u8],
+        name: &[u8],
+        state: State,
+    ) {
+        let places = self.places();
+        let expected = ask(judged, |judged| limit_step(judged, packet, name, state));
+        let asked = format!("limit step of {} from {state:?} by {packet:02X?}", name.escape_ascii());
+        let library = proved::limit_step(tables, packet, name, state, places);
+        self.answered(Question::LimitStep, &asked, library, answer(&expected, places));
+        if let Ok(after) = &expected {
+            self.tally.answer(Question::LimitStep, kind_of_step(&state, after));
+        }
+    }
+
+    /// Demand 3: a row that reaches a replaced line neither in the old tables nor in the new keeps its verdict.
+    fn replaced_line(&mut self, judged: &Judged) {
+        let Some((changed, line)) = self.with_replaced_line() else { return };
+        let new_tables = borrowed(&changed);
+        let Ok(new_judged) = reference::judged(&new_tables) else { return };
+        let rows = judged.cells().len();
+        let old = self.import(&borrowed(self.set), rows).expect("the old tables are taken");
+        let new = self.import(&new_tables, rows).expect("the new tables are taken");
+        let (from_old, from_new) = (reaching(judged, line), reaching(&new_judged, line));
+        self.tally.replaced.lines += 1;
+        for row in (0..rows).filter(|&row| row != line) {
+            if from_old[row] || from_new[row] {
+                self.tally.replaced.leaning += 1;
+                self.tally.replaced.leaning_changed += u64::from(old[row] != new[row]);
+            } else {
+                self.tally.replaced.apart += 1;
+                self.check(&format!("row {row} without line {line}"), new[row], old[row]);
+            }
+        }
+    }
+
+    /// The tables with one ended line replaced, and the line's place among all rows.
+    fn with_replaced_line(&mut self) -> Option<(ByteSet, usize)> {
+        let table = self.random.below(TABLES);
+        let old: Vec<_> = lines(&self.set[table]).filter(|line| line.ended).collect();
+        if old.is_empty() {
+            return None;
+        }
+        let at = self.random.below(old.len());
+        let other = old[self.random.below(old.len())];
+        let new_bytes = self.new_bytes(old[at].bytes, other.bytes);
+        let mut changed = self.set.clone();
+        changed[table].splice(old[at].start..old[at].start + old[at].bytes.len(), new_bytes);
+        let before: usize = self.set[..table].iter().map(|table| count_lines(table)).sum();
+        Some((changed, before + at))
+    }
+
+    /// Noise, another line, or the old line with one byte changed.
+    fn new_bytes(&mut self, old: &[u8], other: &[u8]) -> Vec<u8> {
+        match self.random.below(10) {
+            0..=3 => noise_line(&mut self.random),
+            4..=5 => other.to_vec(),
+            _ => {
+                let mut bytes = old.to_vec();
+                let at = self.random.below(bytes.len());
+                let new = *self.random.pick(b"\t0123ABa _~PFNSTIUHRYC\r\x7F");
+                bytes.iter_mut().skip(at).take(1).for_each(|byte| *byte = new);
+                bytes
+            }
+        }
+    }
+}
+
+/// A question of tables that are judged, or their refusal.
+fn ask<'j, 'a, T>(
+    judged: &'j Result<Judged<'a>, Refusal>,
+    question: impl FnOnce(&'j Judged<'a>) -> Result<T, Refusal>,
+) -> Result<T, Refusal> {
+    judged.as_ref().map_err(|refusal| *refusal).and_then(question)
+}
+
+fn kind_of_reading(reading: &Reading) -> &'static str {
+    match (reading.raw, reading.valid) {
+        (Raw::Integer(_), true) => "integer, valid",
+        (Raw::Integer(_), false) => "integer, invalid",
+        (Raw::Text { .. }, true) => "string, valid",
+        (Raw::Text { .. }, false) => "string, invalid",
+    }
+}
+
+fn kind_of_value(value: &Value) -> &'static str {
+    match value {
+        Value::Integer(_) => "integer",
+        Value::String { .. } => "string",
+        Value::Text { .. } => "text",
+    }
+}
+
+fn kind_of_step(before: &State, after: &State) -> &'static str {
+    match after.announced {
+        _ if after.run > before.run && after.announced == before.announced => "run raised, announced kept",
+        WITHIN => "within",
+        SOFT => "soft",
+        HARD => "hard",
+        _ => "announced past 2",
+    }
+}
