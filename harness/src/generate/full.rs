@@ -80,7 +80,7 @@ fn plf_row(shape: Shape, at: usize) -> Given {
 }
 
 fn pcf_row(shape: Shape, at: usize) -> Given {
-    let valid = if at % shape.chain == 0 { String::new() } else { parameter(at - 1) };
+    let valid = if at.is_multiple_of(shape.chain) { String::new() } else { parameter(at - 1) };
     let (categ, curtx) = if has_texts(at) { ("S", curve(at)) } else { ("N", curve(at % (shape.rows / 2))) };
     let field = [(5, "3"), (6, "12"), (10, categ), (11, "R"), (18, "5")];
     let names = [(1, parameter(at)), (8, valid), (12, curtx)];
