@@ -6,7 +6,7 @@ use std::hash::Hash;
 use super::lines::{count_lines, lines};
 use super::refusals::{refuse_at, Refusal};
 use super::rows::{read_row, Caf, Cap, Ocf, Ocp, Pcf, Pic, Pid, Plf, Record, Txf, Txp};
-use super::schemas::{verdict, Verdict, GOOD};
+use super::schemas::{verdict, Columns, Verdict, GOOD};
 
 pub const TABLES: usize = 10;
 pub const MOST_BYTES: usize = 65_536;
@@ -49,8 +49,9 @@ pub struct Table<T, K> {
 impl<'a, T: Record<'a>> Table<T, T::Key> {
     /// Reasons 1 to 8.
     fn read(bytes: &'a [u8]) -> Self {
+        let mut columns = Columns::default();
         let rows: Vec<Row<T>> = lines(bytes)
-            .map(|line| match read_row(line) {
+            .map(|line| match read_row(line, &mut columns) {
                 Ok(fields) => Row { cell: GOOD, fields: Some(fields) },
                 Err(cell) => Row { cell, fields: None },
             })
@@ -167,14 +168,14 @@ pub struct Judged<'a> {
 
 /// Refusals 1 and 2, each at its first table, 1 to 10; else the count of all rows.
 pub fn count_rows(tables: &Tables) -> Result<usize, Refusal> {
-    let first = |over: &dyn Fn(&[u8]) -> bool| tables.iter().position(|table| over(table));
-    if let Some(at) = first(&|table| table.len() > MOST_BYTES) {
+    if let Some(at) = tables.iter().position(|table| table.len() > MOST_BYTES) {
         return refuse_at(1, at as u64 + 1);
     }
-    if let Some(at) = first(&|table| count_lines(table) > MOST_ROWS) {
-        return refuse_at(2, at as u64 + 1);
+    let counts = tables.map(count_lines);
+    match counts.iter().position(|&count| count > MOST_ROWS) {
+        Some(at) => refuse_at(2, at as u64 + 1),
+        None => Ok(counts.iter().sum()),
     }
-    Ok(tables.iter().map(|table| count_lines(table)).sum())
 }
 
 /// Judges tables that refusals 1 and 2 don't meet.

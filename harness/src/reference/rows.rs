@@ -3,7 +3,7 @@
 use std::hash::Hash;
 
 use super::lines::Line;
-use super::schemas::{self, check, verdict, Column, Columns, Verdict};
+use super::schemas::{self, verdict, Column, Columns, Verdict};
 
 /// A row of one of the ten tables.
 pub trait Record<'a>: Sized {
@@ -17,10 +17,10 @@ pub trait Record<'a>: Sized {
     fn key(&self) -> Option<Self::Key>;
 }
 
-/// The row of a line without reasons 1 to 8.
-pub fn read_row<'a, T: Record<'a>>(line: Line<'a>) -> Result<T, Verdict> {
-    let columns = check(line, T::SCHEMA)?;
-    T::read(&columns, line).map_err(|column| verdict(8, column))
+/// The row of a line without reasons 1 to 8; `columns` are room to divide it in.
+pub fn read_row<'a, T: Record<'a>>(line: Line<'a>, columns: &mut Columns<'a>) -> Result<T, Verdict> {
+    columns.fill(line, T::SCHEMA)?;
+    T::read(columns, line).map_err(|column| verdict(8, column))
 }
 
 /// The first column of the list whose clash holds.

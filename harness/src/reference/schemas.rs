@@ -141,12 +141,38 @@ pub const SCHEMAS: [&[Column]; 10] = [PID, PIC, PLF, PCF, CAF, CAP, TXF, TXP, OC
 const MOST_COLUMNS: usize = 23;
 
 /// The columns of a line without reasons 1 to 7, counted from 1 as in 01.
+#[derive(Default)]
 pub struct Columns<'a> {
     texts: [&'a [u8]; MOST_COLUMNS],
     numbers: [i64; MOST_COLUMNS],
 }
 
 impl<'a> Columns<'a> {
+    /// Reasons 1 to 7: the first of the line, else its columns are kept.
+    pub fn fill(&mut self, line: Line<'a>, schema: &[Column]) -> Result<(), Verdict> {
+        if !line.ended || line.bytes.len() > 512 {
+            return Err(verdict(1, 0));
+        }
+        if !line.bytes.iter().all(|&byte| byte == b'\t' || (0x20..=0x7E).contains(&byte)) {
+            return Err(verdict(2, 0));
+        }
+        self.divide(line.bytes, schema.len()).ok_or(verdict(3, 0))?;
+        for (at, column) in schema.iter().enumerate() {
+            let number = check_column(self.texts[at], column);
+            self.numbers[at] = number.map_err(|reason| verdict(reason, at as u16 + 1))?;
+        }
+        Ok(())
+    }
+
+    /// 01: "All columns are present."
+    fn divide(&mut self, bytes: &'a [u8], count: usize) -> Option<()> {
+        let mut parts = bytes.split(|&byte| byte == b'\t');
+        for text in &mut self.texts[..count] {
+            *text = parts.next()?;
+        }
+        parts.next().is_none().then_some(())
+    }
+
     pub fn text(&self, column: usize) -> &'a [u8] {
         self.texts[column - 1]
     }
@@ -170,32 +196,6 @@ impl<'a> Columns<'a> {
     pub fn letter_or(&self, column: usize, default: u8) -> u8 {
         self.given(column).map_or(default, |text| text[0])
     }
-}
-
-/// Reasons 1 to 7: the first of the line, else its columns.
-pub fn check<'a>(line: Line<'a>, schema: &[Column]) -> Result<Columns<'a>, Verdict> {
-    if !line.ended || line.bytes.len() > 512 {
-        return Err(verdict(1, 0));
-    }
-    if !line.bytes.iter().all(|&byte| byte == b'\t' || (0x20..=0x7E).contains(&byte)) {
-        return Err(verdict(2, 0));
-    }
-    let mut columns = divide(line.bytes, schema.len()).ok_or(verdict(3, 0))?;
-    for (at, column) in schema.iter().enumerate() {
-        columns.numbers[at] =
-            check_column(columns.texts[at], column).map_err(|reason| verdict(reason, at as u16 + 1))?;
-    }
-    Ok(columns)
-}
-
-/// 01: "All columns are present."
-fn divide(bytes: &[u8], count: usize) -> Option<Columns<'_>> {
-    let mut columns = Columns { texts: [&[]; MOST_COLUMNS], numbers: [0; MOST_COLUMNS] };
-    let mut parts = bytes.split(|&byte| byte == b'\t');
-    for text in &mut columns.texts[..count] {
-        *text = parts.next()?;
-    }
-    parts.next().is_none().then_some(columns)
 }
 
 /// 01: "4 mandatory and empty, 5 too wide, 6 not a number or not a listed letter, 7 out of range".
