@@ -132,7 +132,7 @@ impl<'s> Comparison<'s> {
 
     fn check<T: PartialEq + std::fmt::Debug>(&self, asked: &str, library: T, reference: T) {
         if library != reference {
-            let tables = self.set.each_ref().map(|table| table.escape_ascii().to_string());
+            let tables = self.set.each_ref().map(|table| shown(table));
             let number = self.number;
             panic!("set {number}, {asked}\nlibrary   {library:?}\nreference {reference:?}\n{tables:#?}");
         }
@@ -306,6 +306,14 @@ impl<'s> Comparison<'s> {
                 bytes
             }
         }
+    }
+}
+
+/// A table as text, unless it is long.
+fn shown(table: &[u8]) -> String {
+    match table.len() {
+        0..=4_000 => table.escape_ascii().to_string(),
+        length => format!("{length} bytes"),
     }
 }
 

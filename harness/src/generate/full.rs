@@ -1,6 +1,6 @@
 //! Tables of a given number of rows each, the same at every call: what speed is measured on.
 
-use super::{line, ByteSet, Columns, OCP, PCF};
+use super::{line, ByteSet, Columns};
 use crate::reference::schemas::{Kind, SCHEMAS};
 
 /// 1,024 lines of this many bytes, LF and all, fill a table.
@@ -26,18 +26,17 @@ pub fn full_set(shape: Shape) -> ByteSet {
     std::array::from_fn(|table| (0..shape.rows).flat_map(|at| bytes(table, at)).collect())
 }
 
-/// The columns given, counted from 1, and the text columns of the rest filled until the line is long enough.
-fn padded(table: usize, given: &[(usize, String)]) -> Columns {
+/// The columns given, counted from 1; the other columns of text are filled until the line is long enough.
+fn padded(table: usize, given: &Given) -> Columns {
     let schema = SCHEMAS[table];
     let mut columns: Columns = vec![Vec::new(); schema.len()];
     for (column, text) in given {
         columns[column - 1] = text.clone().into_bytes();
     }
     let mut room = LINE.saturating_sub(line(&columns).len());
-    let named = [PCF, OCP].map(|table| (table, if table == PCF { 8..13 } else { 6..7 }));
+    let free = |at: usize| given.iter().all(|(column, _)| column - 1 != at);
     for (at, column) in schema.iter().enumerate() {
-        let names = named.iter().any(|(named, columns)| *named == table && columns.contains(&(at + 1)));
-        if matches!(column.kind, Kind::Text) && columns[at].is_empty() && !names {
+        if matches!(column.kind, Kind::Text) && free(at) {
             let filled = room.min(column.width);
             columns[at] = vec![b'x'; filled];
             room -= filled;
@@ -52,12 +51,12 @@ fn given(columns: &[(usize, &dyn ToString)]) -> Given {
     columns.iter().map(|(column, value)| (*column, value.to_string())).collect()
 }
 
-pub fn parameter(at: usize) -> String {
+fn parameter(at: usize) -> String {
     format!("P{at:07}")
 }
 
 fn curve(at: usize) -> String {
-    format!("C{at:08}")
+    format!("C{at:09}")
 }
 
 /// Every eighth parameter has texts, the others a curve.
@@ -82,9 +81,10 @@ fn plf_row(shape: Shape, at: usize) -> Given {
 fn pcf_row(shape: Shape, at: usize) -> Given {
     let valid = if at.is_multiple_of(shape.chain) { String::new() } else { parameter(at - 1) };
     let (categ, curtx) = if has_texts(at) { ("S", curve(at)) } else { ("N", curve(at % (shape.rows / 2))) };
-    let field = [(5, "3"), (6, "12"), (10, categ), (11, "R"), (18, "5")];
-    let names = [(1, parameter(at)), (8, valid), (12, curtx)];
-    names.into_iter().chain(field.map(|(column, text)| (column, text.to_string()))).collect()
+    let (name, letter) = (parameter(at), "R");
+    let columns: [(usize, &dyn ToString); 8] =
+        [(1, &name), (5, &3), (6, &12), (8, &valid), (10, &categ), (11, &letter), (12, &curtx), (18, &RAW)];
+    given(&columns)
 }
 
 fn caf_row(_: Shape, at: usize) -> Given {
@@ -109,9 +109,9 @@ fn ocf_row(_: Shape, at: usize) -> Given {
 }
 
 fn ocp_row(_: Shape, at: usize) -> Given {
-    let named = given(&[(1, &parameter(at)), (6, &parameter(0))]);
-    let check = given(&[(2, &1), (3, &"H"), (4, &-1_000_000_000), (5, &999_999_000), (7, &RAW)]);
-    named.into_iter().chain(check).collect()
+    let (name, released) = (parameter(at), parameter(0));
+    let (low, high) = (-1_000_000_000, 999_999_000);
+    given(&[(1, &name), (2, &1), (3, &"H"), (4, &low), (5, &high), (6, &released), (7, &RAW)])
 }
 
 /// The packet of the last pid row.

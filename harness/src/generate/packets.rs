@@ -178,26 +178,37 @@ pub fn asked(random: &mut Random, judged: &Judged, packet: &[u8]) -> Asked {
     let spid = identify(judged, packet).map_or(0, |identity| identity.spid);
     let placed: Vec<&[u8]> =
         judged.plf.well_formed().filter(|row| row.spid == spid).map(|row| row.name).collect();
-    let limited = judged.ocf.well_formed().map(|row| row.name).filter(|name| placed.contains(name)).collect();
+    let limits = judged.ocf.well_formed().map(|row| row.name);
+    let limited: Vec<&[u8]> = limits.filter(|name| placed.contains(name)).collect();
     let name = name(random, judged, &placed);
     let occurrence = occurrence(random, judged, spid, &name);
     Asked { name, occurrence, limited: self::name(random, judged, &limited) }
 }
 
-/// One of these names mostly, else any that the tables have, or noise.
-fn name(random: &mut Random, judged: &Judged, likely: &Vec<&[u8]>) -> Vec<u8> {
+/// One of these names mostly, else any that the tables have, or one that is nearly it.
+fn name(random: &mut Random, judged: &Judged, likely: &[&[u8]]) -> Vec<u8> {
     let parameters = judged.pcf.well_formed().map(|row| row.name);
     let limits = judged.ocf.well_formed().map(|row| row.name);
     let known: Vec<&[u8]> = parameters.chain(limits).collect();
-    let names = match random.below(20) {
-        0 => &Vec::new(),
-        1..=2 => &known,
-        _ if likely.is_empty() => &known,
-        _ => likely,
-    };
-    match names.is_empty() {
-        true => noise_line(random),
-        false => random.pick(names).to_vec(),
+    let names = if likely.is_empty() || random.chance(8) { &known } else { likely };
+    if names.is_empty() {
+        return noise_line(random);
+    }
+    let mut name = random.pick(names).to_vec();
+    if random.chance(5) {
+        spoil(random, &mut name);
+    }
+    name
+}
+
+/// A name that is too long, too short, or another.
+fn spoil(random: &mut Random, name: &mut Vec<u8>) {
+    match random.below(5) {
+        0 => name.push(0),
+        1 => name.push(b' '),
+        2 => name.extend(b"AAAAAAAA"),
+        3 => name.truncate(name.len() - 1),
+        _ => *name = noise_line(random),
     }
 }
 
