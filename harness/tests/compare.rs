@@ -27,8 +27,8 @@ const FULL_SETS: u64 = 20;
 /// Packets for each set, each asked all four packet questions.
 const PACKETS: u64 = 3;
 
-/// The library's own tables and a VALID chain of 1,024 calls lie on the stack.
-const STACK: usize = 16 << 20;
+/// 2 MiB that the library asks for, and as much for the reference.
+const STACK: usize = 4 << 20;
 
 /// The kinds of answers that must occur.
 const ANSWERS: [(Question, &str); 11] = [
@@ -95,14 +95,15 @@ fn compare_set(number: u64, tally: &mut Tally) {
 
 /// Full tables with a few mistakes.
 fn nearly_full_set(random: &mut Random) -> ByteSet {
-    let mut set = full_set(FULL);
+    let chain = *random.pick(&[16, 1_024]);
+    let mut set = full_set(Shape { chain, ..FULL });
     for _ in 0..random.below(5) {
         mutate_bytes(random, &mut set);
     }
     set
 }
 
-const FULL: Shape = Shape { rows: 1_024, chain: 64 };
+const FULL: Shape = Shape { rows: 1_024, chain: 1_024 };
 
 /// One set of tables, and what is asked of it.
 struct Comparison<'s> {
