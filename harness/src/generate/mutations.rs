@@ -1,7 +1,7 @@
 //! Mistakes: of columns, rows, names and bytes.
 
 use super::spelling::{number, text};
-use super::{row, ByteSet, RowSet, CAF, OCF, PCF, TXF};
+use super::{row, ByteSet, RowSet, CAF, CAP, OCF, OCP, PCF, PID, PLF, TXF, TXP};
 use crate::random::Random;
 use crate::reference::judging::TABLES;
 use crate::reference::schemas::{Kind, SCHEMAS};
@@ -18,17 +18,34 @@ const BYTES: [u8; 10] = [b'\n', b'\t', b'\r', 0x00, 0x1F, 0x20, 0x7E, 0x7F, 0x80
 /// The columns that count rows: caf, txf, ocf.
 const COUNTS: [(usize, usize); 3] = [(CAF, 7), (TXF, 4), (OCF, 3)];
 
+/// The columns that name rows: table, column, and the table and column of the key they name.
+const NAMES: [(usize, usize, usize, usize); 12] = [
+    (PLF, 1, PCF, 1),
+    (PLF, 2, PID, 6),
+    (PCF, 8, PCF, 1),
+    (PCF, 8, PCF, 1),
+    (PCF, 8, PCF, 1),
+    (PCF, 12, CAF, 1),
+    (PCF, 12, TXF, 1),
+    (CAP, 1, CAF, 1),
+    (TXP, 1, TXF, 1),
+    (OCF, 1, PCF, 1),
+    (OCP, 1, OCF, 1),
+    (OCP, 6, PCF, 1),
+];
+
 /// One mistake in the rows.
 pub fn mutate_rows(random: &mut Random, rows: &mut RowSet) {
     let table = random.below(TABLES);
     match random.below(20) {
-        0..=9 => change_column(random, rows, table),
-        10..=11 => copy_row(random, rows, table),
-        12 => copy_column(random, rows, table),
-        13 => remove_row(random, rows, table),
-        14 => change_width(random, rows, table),
-        15 => change_count(random, rows),
-        16..=17 => chain(random, rows),
+        0..=7 => change_column(random, rows, table),
+        8..=9 => copy_row(random, rows, table),
+        10 => copy_column(random, rows, table),
+        11 => remove_row(random, rows, table),
+        12 => change_width(random, rows, table),
+        13 => change_count(random, rows),
+        14..=16 => rename(random, rows),
+        17 => retype(random, rows),
         18 => lengthen(random, rows, table),
         _ => move_row(random, rows, table),
     }
@@ -133,15 +150,29 @@ fn change_count(random: &mut Random, rows: &mut RowSet) {
     }
 }
 
-/// VALID of a pcf row names any pcf row, itself too.
-fn chain(random: &mut Random, rows: &mut RowSet) {
+/// A column that names a row names any row of the table, itself too, of whatever kind.
+fn rename(random: &mut Random, rows: &mut RowSet) {
+    let (table, column, named, named_column) = *random.pick(&NAMES);
+    if rows[table].is_empty() || rows[named].is_empty() {
+        return;
+    }
+    let name = random.pick(&rows[named]).get(named_column - 1).cloned();
+    let at = random.below(rows[table].len());
+    if let (Some(text), Some(name)) = (rows[table][at].get_mut(column - 1), name) {
+        *text = name;
+    }
+}
+
+/// A pcf row gets a PTC and a PFC at the ends of what the types have.
+fn retype(random: &mut Random, rows: &mut RowSet) {
     if rows[PCF].is_empty() {
         return;
     }
-    let named = random.pick(&rows[PCF]).first().cloned().unwrap_or_default();
     let at = random.below(rows[PCF].len());
-    if let Some(valid) = rows[PCF][at].get_mut(7) {
-        *valid = named;
+    let ptc = random.between(0, 9);
+    let pfc = *random.pick(&[0, 1, 12, 13, 14, 15, 32, 33, 255, 256]);
+    if let Some(columns) = rows[PCF][at].get_mut(4..6) {
+        columns.clone_from_slice(&[number(random, ptc, 2), number(random, pfc, 5)]);
     }
 }
 
