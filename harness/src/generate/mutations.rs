@@ -1,7 +1,7 @@
 //! Mistakes: of columns, rows, names and bytes.
 
 use super::spelling::{number, text};
-use super::{row, ByteSet, RowSet, CAF, CAP, OCF, OCP, PCF, PID, PLF, TXF, TXP};
+use super::{row, ByteSet, RowSet, CAF, CAP, OCF, OCP, PCF, PIC, PID, PLF, TXF, TXP};
 use crate::random::Random;
 use crate::reference::judging::TABLES;
 use crate::reference::schemas::{Kind, SCHEMAS};
@@ -34,11 +34,28 @@ const NAMES: [(usize, usize, usize, usize); 12] = [
     (OCP, 6, PCF, 1),
 ];
 
+/// Texts of columns.
+type Texts = &'static [(usize, &'static [u8])];
+
+/// Columns that contradict each other twice, or name two rows that aren't there.
+const CLASHES: [(usize, Texts); 8] = [
+    (PIC, &[(3, b"5"), (4, b"0"), (5, b"5"), (6, b"0")]),
+    (PLF, &[(1, b"?"), (2, b"99")]),
+    (PCF, &[(5, b"3"), (6, b"99"), (10, b"T"), (12, b"?")]),
+    (PCF, &[(5, b"8"), (6, b"1"), (10, b"N"), (12, b"?")]),
+    (PCF, &[(8, b"?"), (12, b"?")]),
+    (CAF, &[(3, b"R"), (4, b"R")]),
+    (OCP, &[(3, b"E"), (4, b"1"), (5, b"0")]),
+    (OCP, &[(1, b"?"), (6, b"?")]),
+];
+
 /// One mistake in the rows.
 pub fn mutate_rows(random: &mut Random, rows: &mut RowSet) {
     let table = random.below(TABLES);
     match random.below(20) {
-        0..=7 => change_column(random, rows, table),
+        0..=5 => change_column(random, rows, table),
+        6 => twins(random, rows),
+        7 => clash(random, rows),
         8..=9 => copy_row(random, rows, table),
         10 => copy_column(random, rows, table),
         11 => remove_row(random, rows, table),
@@ -101,6 +118,34 @@ fn copy_row(random: &mut Random, rows: &mut RowSet, table: usize) {
         let copy = random.pick(&rows[table]).clone();
         let at = random.below(rows[table].len() + 1);
         rows[table].insert(at, copy);
+    }
+}
+
+/// Two rows more of a curve, a text or a limit, with one key between them.
+fn twins(random: &mut Random, rows: &mut RowSet) {
+    let table = *random.pick(&[CAP, TXP, OCP]);
+    if rows[table].is_empty() {
+        return;
+    }
+    let mut twin = random.pick(&rows[table]).clone();
+    let key = random.between(0, 99);
+    if let Some(text) = twin.get_mut(1) {
+        *text = number(random, key, 2);
+    }
+    rows[table].extend([twin.clone(), twin]);
+}
+
+/// A row gets two mistakes of one reason, of which the lowest column counts.
+fn clash(random: &mut Random, rows: &mut RowSet) {
+    let (table, columns) = *random.pick(&CLASHES);
+    if rows[table].is_empty() {
+        return;
+    }
+    let at = random.below(rows[table].len());
+    for (column, text) in columns {
+        if let Some(changed) = rows[table][at].get_mut(column - 1) {
+            *changed = text.to_vec();
+        }
     }
 }
 
