@@ -1,7 +1,7 @@
 //! Mistakes: of columns, rows, names and bytes.
 
 use super::spelling::{number, text};
-use super::{row, ByteSet, RowSet, CAF, CAP, OCF, OCP, PCF, PIC, PID, PLF, TXF, TXP};
+use super::{row, ByteSet, Columns, RowSet, CAF, CAP, OCF, OCP, PCF, PIC, PID, PLF, TXF, TXP};
 use crate::random::Random;
 use crate::reference::judging::TABLES;
 use crate::reference::schemas::{Kind, SCHEMAS};
@@ -49,6 +49,10 @@ const CLASHES: [(usize, Texts); 8] = [
     (OCP, &[(1, b"?"), (6, b"?")]),
 ];
 
+/// What would change a curve, a text or a limit if rows that share a key had a part in it.
+const TWINS: [(usize, Texts); 3] =
+    [(CAP, &[(3, b"77777")]), (TXP, &[(3, b"99")]), (OCP, &[(3, b"H"), (4, b"-5"), (5, b"-5"), (6, b"")])];
+
 /// One mistake in the rows.
 pub fn mutate_rows(random: &mut Random, rows: &mut RowSet) {
     let table = random.below(TABLES);
@@ -68,6 +72,13 @@ pub fn mutate_rows(random: &mut Random, rows: &mut RowSet) {
     }
 }
 
+/// Sets a column, counted from 1, where the row has it.
+fn put(row: &mut Columns, column: usize, text: Vec<u8>) {
+    if let Some(changed) = row.get_mut(column - 1) {
+        *changed = text;
+    }
+}
+
 fn change_column(random: &mut Random, rows: &mut RowSet, table: usize) {
     if rows[table].is_empty() {
         rows[table].push(row(random, table, &[]));
@@ -75,9 +86,7 @@ fn change_column(random: &mut Random, rows: &mut RowSet, table: usize) {
     let at = random.below(rows[table].len());
     let column = column_of(random, table);
     let changed = column_text(random, table, column);
-    if let Some(text) = rows[table][at].get_mut(column) {
-        *text = changed;
-    }
+    put(&mut rows[table][at], column + 1, changed);
 }
 
 /// A column of a table, mostly one with a rule beside its width.
@@ -123,15 +132,14 @@ fn copy_row(random: &mut Random, rows: &mut RowSet, table: usize) {
 
 /// Two rows more of a curve, a text or a limit, with one key between them.
 fn twins(random: &mut Random, rows: &mut RowSet) {
-    let table = *random.pick(&[CAP, TXP, OCP]);
+    let (table, columns) = *random.pick(&TWINS);
     if rows[table].is_empty() {
         return;
     }
     let mut twin = random.pick(&rows[table]).clone();
     let key = random.between(0, 99);
-    if let Some(text) = twin.get_mut(1) {
-        *text = number(random, key, 2);
-    }
+    put(&mut twin, 2, number(random, key, 2));
+    columns.iter().for_each(|(column, text)| put(&mut twin, *column, text.to_vec()));
     rows[table].extend([twin.clone(), twin]);
 }
 
@@ -142,11 +150,7 @@ fn clash(random: &mut Random, rows: &mut RowSet) {
         return;
     }
     let at = random.below(rows[table].len());
-    for (column, text) in columns {
-        if let Some(changed) = rows[table][at].get_mut(column - 1) {
-            *changed = text.to_vec();
-        }
-    }
+    columns.iter().for_each(|(column, text)| put(&mut rows[table][at], *column, text.to_vec()));
 }
 
 /// A column of one row becomes that of another, so that two keys or names meet.
@@ -156,9 +160,8 @@ fn copy_column(random: &mut Random, rows: &mut RowSet, table: usize) {
     }
     let (from, to) = (random.below(rows[table].len()), random.below(rows[table].len()));
     let column = random.below(6);
-    let copied = rows[table][from].get(column).cloned();
-    if let (Some(text), Some(copied)) = (rows[table][to].get_mut(column), copied) {
-        *text = copied;
+    if let Some(copied) = rows[table][from].get(column).cloned() {
+        put(&mut rows[table][to], column + 1, copied);
     }
 }
 
@@ -190,9 +193,7 @@ fn change_count(random: &mut Random, rows: &mut RowSet) {
     }
     let at = random.below(rows[table].len());
     let count = random.between(1, 4);
-    if let Some(text) = rows[table][at].get_mut(column - 1) {
-        *text = number(random, count, 2);
-    }
+    put(&mut rows[table][at], column, number(random, count, 2));
 }
 
 /// A column that names a row names any row of the table, itself too, of whatever kind.
@@ -201,10 +202,9 @@ fn rename(random: &mut Random, rows: &mut RowSet) {
     if rows[table].is_empty() || rows[named].is_empty() {
         return;
     }
-    let name = random.pick(&rows[named]).get(named_column - 1).cloned();
     let at = random.below(rows[table].len());
-    if let (Some(text), Some(name)) = (rows[table][at].get_mut(column - 1), name) {
-        *text = name;
+    if let Some(name) = random.pick(&rows[named]).get(named_column - 1).cloned() {
+        put(&mut rows[table][at], column, name);
     }
 }
 
@@ -216,9 +216,8 @@ fn retype(random: &mut Random, rows: &mut RowSet) {
     let at = random.below(rows[PCF].len());
     let ptc = random.between(0, 9);
     let pfc = *random.pick(&[0, 1, 12, 13, 14, 15, 32, 33, 255, 256]);
-    if let Some(columns) = rows[PCF][at].get_mut(4..6) {
-        columns.clone_from_slice(&[number(random, ptc, 2), number(random, pfc, 5)]);
-    }
+    put(&mut rows[PCF][at], 5, number(random, ptc, 2));
+    put(&mut rows[PCF][at], 6, number(random, pfc, 5));
 }
 
 /// A line around 512 bytes.
