@@ -157,40 +157,43 @@ impl Tally {
     }
 }
 
-impl fmt::Display for Tally {
-    fn fmt(&self, out: &mut fmt::Formatter) -> fmt::Result {
-        writeln!(
-            out,
-            "{} table sets, {} rows, {} packet questions",
-            self.sets,
-            self.rows,
-            self.packet_questions()
-        )?;
+impl Tally {
+    fn show_reasons(&self, out: &mut fmt::Formatter) -> fmt::Result {
         write!(out, "\nreason")?;
         TABLE_NAMES.iter().try_for_each(|name| write!(out, "{name:>8}"))?;
         for reason in (0..=10).chain([12, 11]) {
             write!(out, "\n{reason:6}")?;
             (0..TABLES).try_for_each(|table| write!(out, "{:8}", self.reason_count(table, reason)))?;
         }
-        let met: usize = self.verdicts.len();
-        writeln!(out, "\n{met} different verdicts (table, reason, column)")?;
+        writeln!(out, "\n{} different verdicts (table, reason, column)", self.verdicts.len())
+    }
+
+    fn show_results(&self, out: &mut fmt::Formatter) -> fmt::Result {
         write!(out, "\nresult")?;
         QUESTIONS.iter().try_for_each(|question| write!(out, "{:>10}", format!("{question:?}")))?;
-        for number in [0, 1, 2, 3].into_iter().chain(20..=36) {
+        for number in (0..=3).chain(20..=36) {
             write!(out, "\n{number:6}")?;
-            for question in QUESTIONS {
-                let count = self.results.get(&(question, number)).copied().unwrap_or(0);
-                write!(out, "{count:10}")?;
-            }
+            let count = |question| self.results.get(&(question, number)).copied().unwrap_or(0);
+            QUESTIONS.iter().try_for_each(|question| write!(out, "{:10}", count(*question)))?;
         }
         writeln!(out, "\n")?;
         for ((question, kind), count) in &self.answers {
             writeln!(out, "{:10} {kind}: {count}", format!("{question:?}"))?;
         }
+        Ok(())
+    }
+}
+
+impl fmt::Display for Tally {
+    fn fmt(&self, out: &mut fmt::Formatter) -> fmt::Result {
+        let (sets, rows, questions) = (self.sets, self.rows, self.packet_questions());
+        writeln!(out, "{sets} table sets, {rows} rows, {questions} packet questions")?;
+        self.show_reasons(out)?;
+        self.show_results(out)?;
         let Replaced { lines, apart, leaning, leaning_changed } = self.replaced;
         writeln!(
             out,
-            "\nlines replaced: {lines}; rows that don't reach the line, all as they were: {apart}; "
+            "\nlines replaced: {lines}; rows that don't reach the line, all as they were: {apart};"
         )?;
         writeln!(out, "rows that reach it: {leaning}, of these changed: {leaning_changed}")
     }
