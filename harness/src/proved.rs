@@ -34,10 +34,6 @@ questions! {
     petrolyaz_engineer(
         packet: *const u8, packet_length: usize, name: *const u8, name_length: usize, occurrence: usize
     );
-}
-
-#[cfg(feature = "limit-step")]
-questions! {
     petrolyaz_limit_step(
         packet: *const u8, packet_length: usize, name: *const u8, name_length: usize,
         fresh: bool, apid: u16, count: u16, run: u8, announced: u8
@@ -80,11 +76,6 @@ pub fn engineer(tables: &Tables, packet: &[u8], name: &[u8], occurrence: usize, 
     ask!(petrolyaz_engineer, tables, places, packet, packet_length, name.as_ptr(), name.len(), occurrence)
 }
 
-/// Whether the library has the limit step.
-pub const LIMIT_STEP: bool = cfg!(feature = "limit-step");
-
-/// The limit step, of a library that has it.
-#[cfg(feature = "limit-step")]
 pub fn limit_step(tables: &Tables, packet: &[u8], name: &[u8], state: State, places: Places) -> Answer {
     let State { fresh, apid, count, run, announced } = state;
     let (packet, packet_length) = (packet.as_ptr(), packet.len());
@@ -103,9 +94,4 @@ pub fn limit_step(tables: &Tables, packet: &[u8], name: &[u8], state: State, pla
         run,
         announced
     )
-}
-
-#[cfg(not(feature = "limit-step"))]
-pub fn limit_step(_: &Tables, _: &[u8], _: &[u8], _: State, _: Places) -> Answer {
-    unreachable!("asked only where LIMIT_STEP says so")
 }

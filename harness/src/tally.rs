@@ -20,7 +20,7 @@ pub enum Question {
 
 use Question::{Engineer, Extract, Identify, Import, LimitStep};
 
-pub const QUESTIONS: [Question; 5] = [Import, Identify, Extract, Engineer, LimitStep];
+const QUESTIONS: [Question; 5] = [Import, Identify, Extract, Engineer, LimitStep];
 
 impl Question {
     /// The refusals that 01 has for it.
@@ -125,8 +125,8 @@ impl Tally {
         self.results.iter().filter(|((question, _), _)| *question != Import).map(|(_, count)| count).sum()
     }
 
-    /// What 01 has of these questions, and their kinds of answers, that was never met.
-    pub fn missing(&self, questions: &[Question], answers: &[(Question, &'static str)]) -> Vec<String> {
+    /// What 01 has, and which of these kinds of answers, that was never met.
+    pub fn missing(&self, answers: &[(Question, &'static str)]) -> Vec<String> {
         let mut missing = Vec::new();
         for (table, name) in TABLE_NAMES.iter().enumerate() {
             let never = |verdict: &Verdict| !self.verdicts.contains_key(&(table, *verdict));
@@ -135,7 +135,7 @@ impl Tally {
                 verdicts.map(|verdict| format!("{name}: reason {} column {}", verdict / 256, verdict % 256)),
             );
         }
-        for &question in questions {
+        for question in QUESTIONS {
             let never = |number: &u64| !self.results.contains_key(&(question, *number));
             let numbers = question.refusals().into_iter().chain([0]).filter(never);
             missing.extend(numbers.map(|number| format!("{question:?}: {number}")));
@@ -145,8 +145,7 @@ impl Tally {
                 missing.push(format!("refusal {} at table {}", at.0, at.1));
             }
         }
-        let asked = answers.iter().filter(|(question, _)| questions.contains(question));
-        let never = asked.filter(|answer| !self.answers.contains_key(answer));
+        let never = answers.iter().filter(|answer| !self.answers.contains_key(answer));
         missing.extend(never.map(|(question, kind)| format!("{question:?}: {kind}")));
         missing
     }

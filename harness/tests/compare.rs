@@ -18,7 +18,7 @@ use harness::reference::packets::{extract, identify, Raw, Reading};
 use harness::reference::reach::reaching;
 use harness::reference::values::{engineer, Value};
 use harness::reference::{self, Judged, Refusal, Tables};
-use harness::tally::{Question, Tally, QUESTIONS};
+use harness::tally::{Question, Tally};
 
 const SMALL_SETS: u64 = 40_000;
 const LARGE_SETS: u64 = 100;
@@ -51,8 +51,7 @@ fn the_library_answers_as_the_reference() {
     println!("{tally}");
     assert!(tally.sets >= 20_000 && tally.packet_questions() >= 200_000);
     assert!(tally.replaced.leaning_changed > 0);
-    let asked = |question: &Question| *question != Question::LimitStep || proved::LIMIT_STEP;
-    let missing = tally.missing(&QUESTIONS.into_iter().filter(asked).collect::<Vec<_>>(), &ANSWERS);
+    let missing = tally.missing(&ANSWERS);
     assert!(missing.is_empty(), "never met: {missing:#?}");
 }
 
@@ -184,9 +183,7 @@ impl<'s> Comparison<'s> {
         self.extract(tables, judged, &packet, &name, occurrence);
         self.engineer(tables, judged, &packet, &name, occurrence);
         let state = states::state(&mut self.random, &packet);
-        if proved::LIMIT_STEP {
-            self.limit_step(tables, judged, &packet, &limited, state);
-        }
+        self.limit_step(tables, judged, &packet, &limited, state);
     }
 
     /// Compares one answer and counts its result.

@@ -69,12 +69,10 @@ fn measure_all(tables: &Tables, shape: Shape, rounds: usize) {
     let by_reference = |judged: &Judged| answer(&engineer(judged, packet, name, 1), NO_PLACES);
     let by_library = || proved::engineer(tables, packet, name, 1, NO_PLACES);
     measure_packet("engineer", rounds, tables, &once, by_library, by_reference);
-    if proved::LIMIT_STEP {
-        let fresh = State { fresh: true, ..State::default() };
-        let by_reference = |judged: &Judged| answer(&limit_step(judged, packet, name, fresh), NO_PLACES);
-        let by_library = || proved::limit_step(tables, packet, name, fresh, NO_PLACES);
-        measure_packet("limit step", rounds, tables, &once, by_library, by_reference);
-    }
+    let fresh = State { fresh: true, ..State::default() };
+    let by_reference = |judged: &Judged| answer(&limit_step(judged, packet, name, fresh), NO_PLACES);
+    let by_library = || proved::limit_step(tables, packet, name, fresh, NO_PLACES);
+    measure_packet("limit step", rounds, tables, &once, by_library, by_reference);
 }
 
 /// A packet question: the reference judges the tables in it, and once apart from it.
