@@ -1,10 +1,14 @@
 -- The tables in the space that they are read into: 65,537 bytes for each, one more than a table may have.
-use Prim.Native.Nat.{ℕ, _*_}
+use Prim.Native.Nat.{ℕ, _+_, _*_}
 use mathlib.Core.List.{List, [], _∷_, map}
 use mathlib.Core.Bool.{cond}
-use lib.Dec.{ltb}
+use lib.Dec.{ltb, leb}
 use lib.ListN.{getD}
 use Rattle.lines.specs.Columns.{partOf}
+
+-- where a table of so many bytes ends; 0 for what is no table, or more than its room
+unfoldable pub endOf : ℕ → ℕ → ℕ
+endOf t count = cond (ltb t 10) (cond (leb count 65537) (t * 65537 + count) 0) 0
 
 -- the table with this number, from 0, by where each ends
 unfoldable pub tableIn : List ℕ → List ℕ → ℕ → List ℕ

@@ -15,7 +15,8 @@ use words::say;
 use words::say::words;
 ghost use mathlib.Core.Path.{_≡_};
 ghost use mathlib.Core.List.{map};
-ghost use Rattle.files.specs.Space.{tableIn, tablesIn};
+ghost use Rattle.files.specs.Reads.{Within};
+ghost use Rattle.files.specs.Space.{endOf, tableIn, tablesIn};
 
 // 0 where there is such a directory, else the number of the system's error. Reading a directory fails, by which it is told from a file.
 pub fn directory_error(directory: &[u8]) -> i32 {
@@ -64,7 +65,9 @@ fn say_failed(t: usize, error: i32) {
 }
 
 // The table with this number, from 0, into its part of the space.
-fn read_table(directory: &[u8], t: usize, space: &mut [u8]) -> Got {
+fn read_table(directory: &[u8], t: usize, space: &mut [u8]) -> Got
+    ensures { λ r. ⌜ Within r 65537 ⌝ }
+{
     if TABLES <= t {
         return Got::Missing;
     }
@@ -79,7 +82,9 @@ fn read_table(directory: &[u8], t: usize, space: &mut [u8]) -> Got {
 }
 
 // Where a table of so many bytes ends in the space.
-fn end_of(t: usize, count: usize) -> usize {
+fn end_of(t: usize, count: usize) -> usize
+    ensures { λ r. ⌜ r ≡ endOf t count ⌝ }
+{
     if TABLES <= t {
         return 0;
     }
