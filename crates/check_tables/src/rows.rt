@@ -50,13 +50,14 @@ fn cell_at(cells: &[u16], at: usize) -> u16
     0
 }
 
-// The row with this number, from 0, of a table whose cells start at a place.
+// A line for the row with this number, from 0, unless it is good.
 fn say_cell(t: usize, row: usize, verdict: u16) {
     if verdict != 0 {
         say_row(t, wrapping_add_usize(row, 1), verdict as usize);
     }
 }
 
+// The rows of a table, whose cells start at a place.
 fn say_table(t: usize, rows: usize, cells: &[u16], from: usize) {
     for row in 0..rows {
         say_cell(t, row, cell_at(cells, wrapping_add_usize(from, row)));

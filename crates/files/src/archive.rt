@@ -8,8 +8,8 @@ ghost use Rattle.files.specs.Packets.{Framed, Stopped, lengthSaid};
 // A packet has at most so many bytes.
 pub const MOST_PACKET: usize = 8192;
 
-// The longest packet that a length field can tell of is so many pieces of 8,192 bytes, and a little more.
-const PIECES: usize = 9;
+// The longest packet that a length field can tell of has so many pieces of 8,192 bytes after its first six.
+const PIECES: usize = 8;
 
 // How long the packet at the start of the buffer is; of one that is too long only its first six bytes were read.
 // Or the archive ends here, or within a packet; or the number of the system's error; or the buffer is under 8,192 bytes.

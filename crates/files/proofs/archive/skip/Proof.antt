@@ -8,10 +8,10 @@ use Rattle.files.proofs.archive.skip.Statement.{statement}
 use Rattle.files.proofs.archive.skip.Tie as tie
 
 abbrev Inv-loop : tie.InvT-loop
-Inv-loop fd length packet₀ left₀ counter₀ packet left counter = (size packet ≡ size packet₀) × (counter ≤ 9)
+Inv-loop fd length packet₀ left₀ counter₀ packet left counter = (size packet ≡ size packet₀) × (counter ≤ 8)
 
 abbrev μ-loop : tie.MeasureT-loop
-μ-loop fd length packet₀ left₀ counter₀ packet left counter = 9 - counter
+μ-loop fd length packet₀ left₀ counter₀ packet left counter = 8 - counter
 
 loop-holds : tie.Need-loop-holds Inv-loop μ-loop
 loop-holds c = (omega arith, omega arith)
