@@ -1,18 +1,16 @@
 -- The search for a table that is too large, and the count of rows. Assumes nothing.
-use mathlib.Core.Path.{_≡_, refl, ap}
+use mathlib.Core.Path.{_≡_, refl, sym, _∙_}
 use mathlib.Core.List.{List, [], _∷_}
 use mathlib.Core.Bool.{Bool, true, false, cond}
-use Prim.Native.Nat.{ℕ, zero, suc, _+_, _≤_, _<_}
+use Prim.Native.Nat.{ℕ, zero, suc, _+_, _-_, _≤_, _<_}
 use native.Mathlib.Omega.{arith}
 use native.Mathlib.Numerals.{add-one}
-use lib.Dec.{ltb}
+use lib.Dec.{eqb, ltb}
 use lib.ListN.{length, getD, drop, drop-of-length-le}
 use borrow.Author.Tests.{eq-eqb, ne-eqb, ltb-false}
 use Rattle.laws.proofs.Cases.{cond-cases}
 use Rattle.laws.proofs.Lists.{split}
-use Rattle.lines.specs.Lines.{linesOf, nextLine}
-use Rattle.lines.specs.declared.walk.NextLine.{NextLine}
-use Rattle.lines.proofs.LineLaws.{lines-next, lines-none}
+use Rattle.lines.specs.Lines.{Line, lineFeed, onFirst, lead, linesOf, whole}
 use Rattle.verdicts.specs.Answer.{firstTable, tooLong, tooManyRows}
 use Rattle.tables.specs.Sizes.{sizesOf}
 use Rattle.tables.specs.declared.Sizes.the-variants.{Fit, TooLong, TooManyRows}
@@ -74,10 +72,62 @@ module _ (texts : List (List ℕ)) where
   unfolding sizesOf
   sizes-fit {n} {m} e z p h = rw (← e, ← p, eq-eqb n 0 z, eq-eqb m 0 h)
 
--- a line counted, and the lines after it
-pub count-more : (table : List ℕ) (from : ℕ) {n : NextLine} → n ≡ nextLine table from → from < length table
-    → length (linesOf (drop from table)) ≡ suc (length (linesOf (drop (n .next) table)))
-count-more table from e h = ap length (lines-next table from _ e h)
+-- Rows by their line feeds
 
-pub count-none : (table : List ℕ) (from : ℕ) → length table ≤ from → length (linesOf (drop from table)) ≡ 0
-count-none table from h = ap length (lines-none table from h)
+unfoldable pub feeds : List ℕ → ℕ
+feeds [] = 0
+feeds (b ∷ bs) = cond (eqb b lineFeed) 1 0 + feeds bs
+
+pub feeds-next : (table : List ℕ) (i : ℕ) {n : ℕ} → i < length table → n ≡ cond (eqb (getD table i 0) lineFeed) 1 0
+    → feeds (drop i table) ≡ n + feeds (drop (i + 1) table)
+unfolding feeds
+feeds-next table i h e = rw (split table i 0 h, e)
+
+pub feeds-none : (table : List ℕ) (i : ℕ) → length table ≤ i → feeds (drop i table) ≡ 0
+unfolding feeds
+feeds-none table i h = rw (drop-of-length-le table h)
+
+-- a byte in front of lines that are there makes none more, unless it is a line feed
+front-length : (b c : ℕ) (ls : List Line) → length (lead b (lead c ls)) ≡ cond (eqb b lineFeed) 1 0 + length (lead c ls)
+unfolding lead onFirst
+front-length b c ls = go (eqb b lineFeed) (eqb c lineFeed) ls
+  where
+    go : (x y : Bool) (l : List Line)
+        → length (cond x (record { bytes = []; ended = true } ∷ cond y (record { bytes = []; ended = true } ∷ l) (onFirst c l)) (onFirst b (cond y (record { bytes = []; ended = true } ∷ l) (onFirst c l))))
+        ≡ cond x 1 0 + length (cond y (record { bytes = []; ended = true } ∷ l) (onFirst c l))
+    go true y l = omega arith
+    go false true l = omega arith
+    go false false [] = omega arith
+    go false false (k ∷ l) = omega arith
+
+-- 01: "A row is a line ended by LF"; "Bytes after the last LF are one row"
+pub rows-by-feeds : (table : List ℕ) → length (linesOf table) ≡ feeds table + cond (whole table) 0 1
+unfolding linesOf feeds whole lead onFirst
+rows-by-feeds [] = refl
+rows-by-feeds (b ∷ []) = go (eqb b lineFeed)
+  where
+    go : (x : Bool) → length {A = Line} (cond x (record { bytes = []; ended = true } ∷ []) (record { bytes = b ∷ []; ended = false } ∷ [])) ≡ cond x 1 0 + 0 + cond x 0 1
+    go true = refl
+    go false = refl
+rows-by-feeds (b ∷ c ∷ bs) = omega (arith, front-length b c (linesOf bs), rows-by-feeds (c ∷ bs))
+
+-- the last byte tells
+pub last-tells : (table : List ℕ) (k : ℕ) → suc k ≡ length table → eqb (getD table k 0) lineFeed ≡ whole table
+unfolding whole
+last-tells [] k e = absurd (omega arith)
+last-tells (b ∷ []) zero e = refl
+last-tells (b ∷ []) (suc k) e = absurd (omega arith)
+last-tells (b ∷ c ∷ bs) zero e = absurd (omega arith)
+last-tells (b ∷ c ∷ bs) (suc k) e = last-tells (c ∷ bs) k (omega arith)
+
+pub whole-none : (table : List ℕ) → length table ≡ 0 → true ≡ whole table
+unfolding whole
+whole-none [] h = refl
+whole-none (b ∷ bs) h = absurd (omega arith)
+
+module _ (table : List ℕ) {n : ℕ} (e : n ≡ feeds table) where
+  pub rows-whole : whole table ≡ true → n ≡ length (linesOf table)
+  rows-whole t = sym (rows-by-feeds table ∙ rw (t, ← e) (omega arith))
+
+  pub rows-open : whole table ≡ false → n + 1 ≡ length (linesOf table)
+  rows-open f = sym (rows-by-feeds table ∙ rw (f, ← e) refl)

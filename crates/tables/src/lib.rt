@@ -1,11 +1,12 @@
 // Ten tables as one array of slices: a table by its number, its rows counted, and refusals 1 and 2.
-use lines::walk::next_line;
 use schemas::Table;
 ghost use mathlib.Core.Path.{_≡_};
+ghost use mathlib.Core.Bool.{cond};
 ghost use mathlib.Core.List.{map, []};
+ghost use lib.Dec.{eqb};
 ghost use Prim.Native.Nat.{_≤_};
 ghost use lib.ListN.{length, getD, take};
-ghost use Rattle.lines.specs.Lines.{linesOf};
+ghost use Rattle.lines.specs.Lines.{lineFeed, linesOf, whole};
 ghost use Rattle.schemas.specs.declared.Table.the-variants.{Ocp};
 ghost use Rattle.verdicts.specs.Entries.{carried};
 ghost use Rattle.verdicts.specs.Answer.{tooLong, tooManyRows};
@@ -17,6 +18,8 @@ pub const TABLES: usize = 10;
 pub const MOST_BYTES: usize = 65536;
 
 pub const MOST_ROWS: usize = 1024;
+
+const LINE_FEED: u8 = 10;
 
 // Whether the tables are of a size that any question takes; else the first that isn't, from 1.
 pub enum Sizes {
@@ -54,17 +57,37 @@ pub fn kind_of(t: usize) -> Table
     }
 }
 
+// 1 for a line feed.
+fn feed(byte: u8) -> usize
+    ensures { λ r. ⌜ (r ≡ cond (eqb byte lineFeed) 1 0) × (r ≤ 1) ⌝ }
+{
+    if byte == LINE_FEED { 1 } else { 0 }
+}
+
+// Whether no bytes stand after the last line feed.
+fn is_whole(table: &[u8]) -> bool
+    ensures { λ r. ⌜ r ≡ whole (now (table .entry)) ⌝ }
+{
+    if table.len() == 0 {
+        return true;
+    }
+    table[table.len() - 1] == LINE_FEED
+}
+
+// Rows are counted by their line feeds alone, a byte at a time; bytes after the last one are a row more.
 pub fn row_count(table: &[u8]) -> usize
     ensures { λ r. ⌜ r ≡ length (linesOf (now (table .entry))) ⌝ }
 {
     let mut n: usize = 0;
-    let mut from: usize = 0;
-    while from < table.len() {
-        let line = next_line(table, from);
-        n += 1;
-        from = line.next;
+    let mut i: usize = 0;
+    while i < table.len() {
+        n += feed(table[i]);
+        i += 1;
     }
-    n
+    if is_whole(table) {
+        return n;
+    }
+    n + 1
 }
 
 fn too_long(tables: [&[u8]; TABLES]) -> usize
