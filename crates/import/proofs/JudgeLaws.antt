@@ -1,5 +1,5 @@
 -- The passes one after the other: what each leaves in its array is what the next one reads. Assumes nothing.
-use mathlib.Core.Path.{_≡_, ap, _∙_}
+use mathlib.Core.Path.{_≡_, ap, sym, _∙_}
 use mathlib.Core.List.{List}
 use Prim.Native.Nat.{ℕ, _+_, _≤_}
 use native.Mathlib.Omega.{arith}
@@ -9,6 +9,13 @@ use lib.Seq.{sets, length-sets}
 use Rattle.digests.specs.Namings.{metBy}
 use Rattle.import.specs.Model.{tabulate, filled, flag, linkedAt, chainedAt, goodAt, finalOf, namedVerdicts}
 use Rattle.import.specs.Model.{soundAt, targetOf, baseOf, countAt, circleAt, judgedVerdicts}
+
+-- an array made of k times v, and one that is as long
+pub made : (k v : ℕ) → k ≡ length (replicate {A = ℕ} k v)
+made k v = sym (length-replicate {A = ℕ} k v)
+
+pub long : (k v : ℕ) {m : ℕ} → m ≡ length (replicate {A = ℕ} k v) → k ≡ m
+long k v e = made k v ∙ sym e
 
 -- an array of zeros with the values of a function at its first n places, as a pass leaves it
 abbrev pub fill : (ℕ → ℕ) → ℕ → List ℕ

@@ -1,62 +1,62 @@
 -- Each pass reads what the passes before it left: `named-law`.
 use borrow.Author.Needs.{needs}
-use Rattle.import.proofs.JudgeLaws.{named-law}
+use Rattle.import.proofs.JudgeLaws.{made, long, named-law}
 use Rattle.import.proofs.judge.judge_names.Statement.{statement}
 use Rattle.import.proofs.judge.judge_names.Tie as tie
 
 slice-aggregate-mark-clean : tie.Need-slice-aggregate-mark-clean
-slice-aggregate-mark-clean c = search needs
+slice-aggregate-mark-clean c = made 10240 0
 
 mark-clean-requires : tie.Need-mark-clean-requires
-mark-clean-requires c κs = search needs
+mark-clean-requires c κs = c .before .before .before .before .before .before .before .before .before .pre .0
 
 slice-aggregate-mark-whole : tie.Need-slice-aggregate-mark-whole
-slice-aggregate-mark-whole c = search needs
+slice-aggregate-mark-whole c = made 10240 0
 
 mark-whole-requires : tie.Need-mark-whole-requires
-mark-whole-requires c κs = search needs
+mark-whole-requires c κs = c .before .before .before .before .before .before .before .before .before .before .before .before .pre .0
 
 slice-aggregate-mark-linked : tie.Need-slice-aggregate-mark-linked
-slice-aggregate-mark-linked c = search needs
+slice-aggregate-mark-linked c = long 10240 0 (c .before .before .before .before .before .mark-clean .kept .1 .0)
 
 slice-aggregate-mark-linked-2 : tie.Need-slice-aggregate-mark-linked-2
-slice-aggregate-mark-linked-2 c = search needs
+slice-aggregate-mark-linked-2 c = made 10240 0
 
 mark-linked-requires : tie.Need-mark-linked-requires
-mark-linked-requires c κs = search needs
+mark-linked-requires c κs = c .before .before .before .before .before .before .before .before .before .before .before .before .before .before .before .before .pre .0
 
 slice-aggregate-mark-chained : tie.Need-slice-aggregate-mark-chained
-slice-aggregate-mark-chained c = search needs
+slice-aggregate-mark-chained c = long 10240 0 (c .before .before .mark-linked .kept .1 .1 .1 .1 .0)
 
 slice-aggregate-mark-chained-2 : tie.Need-slice-aggregate-mark-chained-2
-slice-aggregate-mark-chained-2 c = search needs
+slice-aggregate-mark-chained-2 c = long 10240 0 (c .before .before .before .before .before .before .before .mark-whole .kept .1 .0)
 
 slice-aggregate-mark-chained-3 : tie.Need-slice-aggregate-mark-chained-3
-slice-aggregate-mark-chained-3 c = search needs
+slice-aggregate-mark-chained-3 c = long 10240 0 (c .before .before .before .before .before .before .before .before .before .before .before .mark-clean .kept .1 .0)
 
 slice-aggregate-mark-chained-4 : tie.Need-slice-aggregate-mark-chained-4
-slice-aggregate-mark-chained-4 c = search needs
+slice-aggregate-mark-chained-4 c = made 10240 0
 
 add-mark-chained : tie.Need-add-mark-chained
 add-mark-chained c = search needs
 
 mark-chained-requires : tie.Need-mark-chained-requires
-mark-chained-requires c κs = search needs
+mark-chained-requires c κs = c .before .before .before .before .before .before .before .before .before .before .before .before .before .before .before .before .before .before .before .before .before .before .pre .0
 
 slice-aggregate-mark-good : tie.Need-slice-aggregate-mark-good
-slice-aggregate-mark-good c = search needs
+slice-aggregate-mark-good c = long 10240 0 (c .before .before .before .before .before .before .before .before .before .before .before .before .before .before .before .mark-clean .kept .1 .0)
 
 slice-aggregate-mark-good-2 : tie.Need-slice-aggregate-mark-good-2
-slice-aggregate-mark-good-2 c = search needs
+slice-aggregate-mark-good-2 c = long 10240 0 (c .before .before .before .mark-chained .kept .1 .1 .1 .1 .1 .1 .0)
 
 slice-aggregate-mark-good-3 : tie.Need-slice-aggregate-mark-good-3
-slice-aggregate-mark-good-3 c = search needs
+slice-aggregate-mark-good-3 c = made 10240 0
 
 mark-good-requires : tie.Need-mark-good-requires
 mark-good-requires c κs = c .before .before .before .before .before .before .before .before .before .before .before .before .before .before .before .before .before .before .before .before .before .before .before .before .before .before .before .pre .0
 
 slice-aggregate-write-verdicts : tie.Need-slice-aggregate-write-verdicts
-slice-aggregate-write-verdicts c = search needs
+slice-aggregate-write-verdicts c = long 10240 0 (c .before .before .mark-good .kept .1 .1 .1 .1 .1 .1 .1 .0)
 
 write-verdicts-requires : tie.Need-write-verdicts-requires
 write-verdicts-requires c κs = c .before .before .before .before .before .before .before .before .before .before .before .before .before .before .before .before .before .before .before .before .before .before .before .before .before .before .before .before .before .before .before .pre .1

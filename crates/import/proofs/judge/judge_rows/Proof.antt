@@ -1,5 +1,6 @@
 -- The indexes of the rows lead to the rows of each table: `table-index`.
 use Rattle.import.proofs.BucketLaws.{table-index}
+use Rattle.import.proofs.JudgeLaws.{made, long}
 use Rattle.import.proofs.LinkLaws.{fresh-index}
 use borrow.Author.Needs.{needs}
 use Rattle.import.proofs.judge.judge_rows.Statement.{statement}
@@ -18,31 +19,31 @@ cast-groups : tie.Need-cast-groups
 cast-groups c = search needs
 
 slice-aggregate-index-rows : tie.Need-slice-aggregate-index-rows
-slice-aggregate-index-rows c = search needs
+slice-aggregate-index-rows c = made 20480 (c .before .before .before .before .before .before .before .before .before .before .before .before .before .before .before .before .before .args .n)
 
 index-rows-requires : tie.Need-index-rows-requires
 index-rows-requires c κs = let s = c .before .before .before .before .before .before .before .before .before .before .before .before .before .before .before .before .before in ((s .pre .0 .2, s .pre .0 .0 .table), fresh-index (s .args .n))
 
 slice-aggregate-index-rows-2 : tie.Need-slice-aggregate-index-rows-2
-slice-aggregate-index-rows-2 c = search needs
+slice-aggregate-index-rows-2 c = made 20480 (c .before .before .before .before .before .before .before .before .before .before .before .before .before .before .before .before .before .before .before .before .args .n)
 
 index-rows-requires-2 : tie.Need-index-rows-requires-2
 index-rows-requires-2 c κs = let s = c .before .before .before .before .before .before .before .before .before .before .before .before .before .before .before .before .before .before .before .before in ((s .pre .0 .2, s .pre .0 .0 .table), fresh-index (s .args .n))
 
 slice-aggregate-index-rows-3 : tie.Need-slice-aggregate-index-rows-3
-slice-aggregate-index-rows-3 c = search needs
+slice-aggregate-index-rows-3 c = made 20480 (c .before .before .before .before .before .before .before .before .before .before .before .before .before .before .before .before .before .before .before .before .before .before .before .args .n)
 
 index-rows-requires-3 : tie.Need-index-rows-requires-3
 index-rows-requires-3 c κs = let s = c .before .before .before .before .before .before .before .before .before .before .before .before .before .before .before .before .before .before .before .before .before .before .before in ((s .pre .0 .2, s .pre .0 .0 .table), fresh-index (s .args .n))
 
 slice-aggregate-judge-indexed : tie.Need-slice-aggregate-judge-indexed
-slice-aggregate-judge-indexed c = search needs
+slice-aggregate-judge-indexed c = long 20480 (c .before .before .before .before .before .before .before .before .before .before .before .before .before .before .before .before .before .before .before .before .before .before .before .before .before .before .args .n) (c .before .before .before .before .before .before .before .before .index-rows .kept .1 .1 .1 .1 .0)
 
 slice-aggregate-judge-indexed-2 : tie.Need-slice-aggregate-judge-indexed-2
-slice-aggregate-judge-indexed-2 c = search needs
+slice-aggregate-judge-indexed-2 c = long 20480 (c .before .before .before .before .before .before .before .before .before .before .before .before .before .before .before .before .before .before .before .before .before .before .before .before .before .before .before .args .n) (c .before .before .before .before .before .before .index-rows2 .kept .1 .1 .1 .1 .0)
 
 slice-aggregate-judge-indexed-3 : tie.Need-slice-aggregate-judge-indexed-3
-slice-aggregate-judge-indexed-3 c = search needs
+slice-aggregate-judge-indexed-3 c = long 20480 (c .before .before .before .before .before .before .before .before .before .before .before .before .before .before .before .before .before .before .before .before .before .before .before .before .before .before .before .before .args .n) (c .before .before .before .before .index-rows3 .kept .1 .1 .1 .1 .0)
 
 judge-indexed-requires : tie.Need-judge-indexed-requires
 judge-indexed-requires c κs = let g = c .before .before .before .before .before in
@@ -56,7 +57,7 @@ same-length : tie.Need-same-length
 same-length c = search needs
 
 returns : tie.Need-returns
-returns c = search needs
+returns c = c .before .before .judge-indexed .ensures
 
 pub judge-rows-spec : {M : Type 1} → statement M
 judge-rows-spec =
