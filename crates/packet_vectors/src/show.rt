@@ -5,39 +5,12 @@ use packets::extract::Extracted;
 use packets::extract::extract;
 use packets::identify::Identified;
 use packets::identify::identify;
-use packets::refusal::Refusal;
+use show_refusals::labelled as number;
+use show_refusals::refused;
 use tables::TABLES;
 use units::ByteOffset;
 use units::RowNumber;
 use units::Spid;
-
-fn number(label: &[u8], n: u64) {
-    io::write_all(1, label);
-    io::print_decimal(1, n);
-}
-
-fn at(refusal: u64, place: usize) {
-    number(b"refused ", refusal);
-    number(b" at ", place as u64);
-}
-
-// 01: "A refusal writes nothing and returns number and place"
-fn refused(refusal: Refusal) {
-    match refusal {
-        Refusal::TableTooLong(table) => at(1, table),
-        Refusal::TooManyRows(table) => at(2, table),
-        Refusal::PacketLength => at(20, 0),
-        Refusal::Version => at(21, 0),
-        Refusal::LengthField => at(22, 0),
-        Refusal::DataField => at(23, 0),
-        Refusal::IdentificationLeaves(byte) => at(24, byte.0),
-        Refusal::NoPidRow => at(25, 0),
-        Refusal::NoPlfRow => at(26, 0),
-        Refusal::NoOccurrence => at(27, 0),
-        Refusal::FieldLeaves(byte) => at(28, byte.0),
-        Refusal::StringOffByte(byte) => at(29, byte.0),
-    }
-}
 
 fn packet(row: RowNumber, spid: Spid, numbers: FiveNumbers) {
     number(b"row ", row.0 as u64);

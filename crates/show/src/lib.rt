@@ -98,7 +98,8 @@ fn byte(b: u8) {
     io::print_hex(STDOUT_FILENO, b as u64, 2);
 }
 
-fn bytes_of(p: &[u8]) {
+// Each byte in hexadecimal, after a space.
+pub fn bytes_of(p: &[u8]) {
     let mut i = 0;
     while i < p.len() {
         byte(p[i]);

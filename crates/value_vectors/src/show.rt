@@ -1,41 +1,15 @@
 // One line for each answer.
 use curves::ints::size;
 use fields::text::string_part;
-use packets::refusal::Refusal;
+use show_refusals::labelled as number;
+use show_refusals::refused;
+use show_refusals::refused_at;
 use tables::TABLES;
 use tables::table_at;
 use units::ByteOffset;
 use units::RowNumber;
 use values::engineer::Engineered;
 use values::engineer::engineer;
-
-fn number(label: &[u8], n: u64) {
-    io::write_all(1, label);
-    io::print_decimal(1, n);
-}
-
-fn at(refusal: u64, place: usize) {
-    number(b"refused ", refusal);
-    number(b" at ", place as u64);
-}
-
-// 01: "A refusal writes nothing and returns number and place"
-fn refused(refusal: Refusal) {
-    match refusal {
-        Refusal::TableTooLong(table) => at(1, table),
-        Refusal::TooManyRows(table) => at(2, table),
-        Refusal::PacketLength => at(20, 0),
-        Refusal::Version => at(21, 0),
-        Refusal::LengthField => at(22, 0),
-        Refusal::DataField => at(23, 0),
-        Refusal::IdentificationLeaves(byte) => at(24, byte.0),
-        Refusal::NoPidRow => at(25, 0),
-        Refusal::NoPlfRow => at(26, 0),
-        Refusal::NoOccurrence => at(27, 0),
-        Refusal::FieldLeaves(byte) => at(28, byte.0),
-        Refusal::StringOffByte(byte) => at(29, byte.0),
-    }
-}
 
 fn integer(v: i64) {
     if v < 0 {
@@ -64,9 +38,9 @@ fn answer(tables: [&[u8]; TABLES], p: &[u8], name: &[u8], occurrence: usize) {
         Engineered::Number(v) => integer(v),
         Engineered::Part(from, bytes) => part(from, bytes),
         Engineered::Text(row, from, bytes) => text(table_at(tables, 7), row, from, bytes),
-        Engineered::OffCurve => at(30, 0),
-        Engineered::OutOfRange => at(31, 0),
-        Engineered::NoText => at(32, 0),
+        Engineered::OffCurve => refused_at(30, 0),
+        Engineered::OutOfRange => refused_at(31, 0),
+        Engineered::NoText => refused_at(32, 0),
         Engineered::Refused(refusal) => refused(refusal),
     }
     io::write_all(1, b"\n");
