@@ -1,6 +1,7 @@
 -- The answer of a step by number. Assumes nothing: these are definitions.
 use Prim.Native.Nat.{ℕ}
-use mathlib.Core.Bool.{Bool, not, cond, _&&_}
+use mathlib.Core.Path.{_≡_, refl}
+use mathlib.Core.Bool.{Bool, true, not, cond, _&&_}
 use lib.Dec.{eqb}
 use Rattle.limits.specs.Step.{Stepping, refused, stepped}
 use Rattle.limits.specs.declared.state.LimitState.{LimitState}
@@ -27,3 +28,9 @@ sameState s t =
 -- 1 where two answers are the same, else 0
 unfoldable pub sameAnswer : Answer → Answer → ℕ
 sameAnswer a b = cond (eqb (a .number) (b .number) && (eqb (a .place) (b .place) && sameState (a .state) (b .state))) 1 0
+
+-- the same state, refused with another number
+example : sameAnswer (refusedAt (record { fresh = true; apid = 0; count = 0; run = 0; announced = 0 }) 35 0)
+    (refusedAt (record { fresh = true; apid = 0; count = 0; run = 0; announced = 0 }) 36 0) ≡ 0
+unfolding sameAnswer refusedAt
+example = refl

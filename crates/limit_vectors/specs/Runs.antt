@@ -1,5 +1,6 @@
 -- A run of the steps of a text. Assumes nothing: these are definitions.
 use Prim.Native.Nat.{ℕ, _+_}
+use mathlib.Core.Path.{_≡_, refl}
 use mathlib.Core.Bool.{cond}
 use mathlib.Core.List.{List, [], _∷_}
 use lib.Dec.{eqb}
@@ -7,7 +8,7 @@ use Rattle.lines.specs.Lines.{Line}
 use Rattle.lines.specs.Columns.{columnIn, divided}
 use Rattle.limits.specs.Step.{limitStepOf, limitStepBy}
 use Rattle.limits.specs.declared.state.LimitState.{LimitState}
-use Rattle.limit_vectors.specs.States.{stateIn}
+use Rattle.limit_vectors.specs.States.{freshState, stateIn}
 use Rattle.limit_vectors.specs.Answers.{answerOf, sameAnswer}
 use Rattle.limit_vectors.specs.declared.run.Run.{Run}
 
@@ -38,3 +39,8 @@ module _ (texts : List (List ℕ)) (cells : List ℕ) where
   unfoldable pub runOf : List Line → LimitState → Run
   runOf [] state = unasked state
   runOf (l ∷ ls) state = onward (taken (l .bytes) state) (runOf ls (taken (l .bytes) state .state))
+
+-- no lines, no steps
+example : runOf [] [] [] freshState ≡ unasked freshState
+unfolding runOf
+example = refl

@@ -1,7 +1,8 @@
 -- The state that a step of a text meets. Assumes nothing: these are definitions.
 use Prim.Native.Nat.{ℕ, _%_}
+use mathlib.Core.Path.{_≡_, refl}
 use mathlib.Core.Bool.{true, cond}
-use mathlib.Core.List.{List}
+use mathlib.Core.List.{List, []}
 use lib.Dec.{eqb}
 use Rattle.lines.specs.Columns.{columnIn}
 use Rattle.lines.specs.declared.columns.Columns.{Columns}
@@ -29,3 +30,7 @@ stateIn line columns before = cond (eqb (columns .count) 2) before (stateOf line
 
 unfoldable pub freshState : LimitState
 freshState = record { fresh = true; apid = 0; count = 0; run = 0; announced = 0 }
+
+example : stateIn [] (record { starts = []; ends = []; count = 2 }) freshState ≡ freshState
+unfolding stateIn
+example = refl

@@ -2,8 +2,8 @@
 use crate::states::show_state;
 use limits::state::LimitState;
 use limits::step::Stepped;
-use show_refusals::number_of;
-use show_refusals::place_of;
+use packets::refusal::number_of;
+use packets::refusal::place_of;
 use show_refusals::refused_at;
 ghost use mathlib.Core.Path.{_≡_};
 ghost use Rattle.limits.specs.Answer.{said};
@@ -11,12 +11,12 @@ ghost use Rattle.limit_vectors.specs.Answers.{refusedAt, answerOf, sameT
 
 // The number and place of a refusal, 0 where there is none, and the state that the next packet meets.
 pub(crate) struct Answer {
-    pub number: u64,
+    pub number: u8,
     pub place: usize,
     pub state: LimitState,
 }
 
-fn refused_from(state: LimitState, number: u64, place: usize) -> Answer
+fn refused_from(state: LimitState, number: u8, place: usize) -> Answer
     ensures { λ r. ⌜ r ≡ refusedAt state number place ⌝ }
 {
     Answer {
@@ -86,6 +86,6 @@ pub(crate) fn show_answer(answer: Answer) {
         let state = answer.state;
         show_state(state);
     } else {
-        refused_at(answer.number, answer.place);
+        refused_at(answer.number as u64, answer.place);
     }
 }
