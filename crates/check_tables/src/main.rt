@@ -4,16 +4,14 @@ mod rows;
 use files::arguments::LONGEST;
 use files::arguments::say_argument;
 use files::directory::SPACE;
-use files::directory::directory_error;
-use files::directory::load;
+use files::directory::load_directory;
 use files::directory::tables_in;
-use files::errors::say_error;
 use import::Imported;
 use import::import;
 use rows::say_rows;
 use tables::MOST_ROWS;
 use tables::TABLES;
-use words::refusals::say_refused_table;
+use words::refusals::say_refused;
 use words::say;
 use words::say::words;
 
@@ -33,29 +31,19 @@ fn judge(tables: [&[u8]; TABLES]) {
             say_rows(tables, &cells);
             say_counts(rows, good);
         }
-        Imported::TooLong(t) => say_refused_table(1, t),
-        Imported::TooManyRows(t) => say_refused_table(2, t),
-        Imported::TooFewCells => say_refused_table(3, 0),
+        Imported::TooLong(t) => say_refused(1, t),
+        Imported::TooManyRows(t) => say_refused(2, t),
+        Imported::TooFewCells => say_refused(3, 0),
     }
 }
 
 fn check_directory(directory: &[u8]) {
-    let error = directory_error(directory);
-    if error != 0 {
-        words(directory);
-        words(b": ");
-        say_error(error);
-        words(b"\n");
-        return;
-    }
     let mut memory = [0u8; SPACE];
     let space: &mut [u8] = &mut memory;
-    let loaded = load(directory, space);
+    let loaded = load_directory(directory, space);
     let ends = loaded.ends;
     if loaded.whole {
         judge(tables_in(space, ends));
-    } else {
-        words(b"not imported, since a table was not read\n");
     }
 }
 

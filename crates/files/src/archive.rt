@@ -1,7 +1,7 @@
 // An archive of packets end to end, each as long as its length field says, read one by one from a file of any length.
 use crate::source::short;
 ghost use mathlib.Core.Path.{_≡_};
-ghost use Prim.Native.Nat.{_≤_};
+ghost use Prim.Native.Nat.{_-_, _≤_};
 ghost use lib.ListN.{length};
 ghost use Rattle.files.specs.Packets.{Framed, Stopped, lengthSaid};
 
@@ -81,10 +81,24 @@ fn skip_some(fd: i32, left: usize, packet: &mut [u8]) -> usize
     left - io::read_full(fd, &mut packet[..left])
 }
 
+// How many bytes a packet has after its first six.
+fn beyond_six(length: usize) -> usize
+    ensures { λ r. ⌜ r ≡ length - 6 ⌝ }
+{
+    if length < 6 {
+        return 0;
+    }
+    length - 6
+}
+
 // Passes over the rest of a packet of which six bytes were read: at most 65,536 bytes, by pieces of at most 8,192.
-pub fn skip(fd: i32, length: usize, packet: &mut [u8]) {
-    let mut left = if length < 6 { 0 } else { length - 6 };
+// Answers how many of its bytes were not there.
+pub fn skip(fd: i32, length: usize, packet: &mut [u8]) -> usize
+    ensures { λ r. ⌜ r ≤ length ⌝ }
+{
+    let mut left = beyond_six(length);
     for _ in 0..PIECES {
         left = skip_some(fd, left, packet);
     }
+    left
 }

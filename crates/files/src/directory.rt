@@ -124,6 +124,26 @@ pub fn load(directory: &[u8], space: &mut [u8]) -> Loaded {
     Loaded { ends, whole }
 }
 
+// The same, and a line where there is no such directory, or a table was not read.
+pub fn load_directory(directory: &[u8], space: &mut [u8]) -> Loaded {
+    let error = directory_error(directory);
+    if error != 0 {
+        words(directory);
+        words(b": ");
+        say_error(error);
+        words(b"\n");
+        return Loaded {
+            ends: [0; TABLES],
+            whole: false,
+        };
+    }
+    let loaded = load(directory, space);
+    if !loaded.whole {
+        words(b"not imported, since a table was not read\n");
+    }
+    loaded
+}
+
 // The table with this number, from 0, as it was read.
 pub fn table_in<'a>(space: &'a [u8], ends: [usize; TABLES], t: usize) -> &'a [u8]
     ensures { λ r. ⌜ now r ≡ tableIn (now (space .entry)) ends t ⌝ }

@@ -36,17 +36,29 @@ pub fn say_refusal(refusal: usize) {
     }
 }
 
-// A line for a refusal by its number and its table, from 1, or 0 where it is that of no table.
-pub fn say_refused_table(refusal: usize, t: usize) {
-    words(b"refused: ");
-    say::number(refusal);
-    if t != 0 {
-        words(b" at table ");
-        say::number(t);
-        words(b" (");
-        say::name(table_name(t));
-        words(b")");
+// Where a refusal has a place: its table, from 1, or the byte in which its field starts.
+fn say_place(refusal: usize, place: usize) {
+    match refusal {
+        1 | 2 => {
+            words(b" at table ");
+            say::number(place);
+            words(b" (");
+            say::name(table_name(place));
+            words(b")");
+        }
+        24 | 28 | 29 => {
+            words(b" at byte ");
+            say::number(place);
+        }
+        _ => words(b""),
     }
+}
+
+// A line for a refusal by its number and place.
+pub fn say_refused(refusal: usize, place: usize) {
+    words(b"refused ");
+    say::number(refusal);
+    say_place(refusal, place);
     words(b": ");
     say_refusal(refusal);
     words(b"\n");
