@@ -2,9 +2,9 @@
 use rows::letters::Category;
 use rows::letters::Nature;
 use rows::records::PcfRow;
+use rows::width::is_whole;
 ghost use mathlib.Core.Path.{_≡_};
 ghost use mathlib.Core.Bool.{cond};
-ghost use Rattle.rows.specs.Contradictions.{isWhole};
 ghost use Rattle.verdicts.specs.Facts.{raw, whole, numeric, calibrated, pcfFacts};
 ghost use Rattle.digests.specs.Digest.{mark, marksOf};
 
@@ -15,16 +15,6 @@ fn mark(met: bool, weight: u8) -> u8
         return weight;
     }
     0
-}
-
-// Whether a type code is that of a whole number: 1 to 4.
-fn is_whole(ptc: u32) -> bool
-    ensures { λ r. ⌜ r ≡ isWhole ptc ⌝ }
-{
-    if 1 <= ptc {
-        return ptc <= 4;
-    }
-    false
 }
 
 fn is_raw(row: PcfRow) -> bool

@@ -1,33 +1,12 @@
 // States, as a step has them in its columns.
-use limits::state::LimitState;
+use limit_state::state::LimitState;
 use lines::columns::Columns;
 use lines::columns::column;
-use numbers::Number;
-use numbers::read_number;
+use rows::values::natural_or;
 use show::words;
 use show_refusals::labelled;
 ghost use mathlib.Core.Path.{_≡_};
-ghost use Rattle.rows.specs.Values.{naturalOr};
 ghost use Rattle.limit_vectors.specs.States.{freshState, stateOf, stateIn};
-
-// A number from 0 to 4,294,967,295, else 0.
-fn natural(text: &[u8]) -> u32
-    ensures { λ r. ⌜ r ≡ naturalOr 0 (now (text .entry)) ⌝ }
-{
-    match read_number(text) {
-        Number::Value(v) => {
-            if v < 0 {
-                return 0;
-            }
-            if v < 0x1_0000_0000 {
-                return v as u32;
-            }
-            0
-        }
-        Number::NotNumber => 0,
-        Number::Beyond => 0,
-    }
-}
 
 pub(crate) fn fresh_state() -> LimitState
     ensures { λ r. ⌜ r ≡ freshState ⌝ }
@@ -47,10 +26,10 @@ fn state_of(line: &[u8], columns: Columns) -> LimitState
 {
     LimitState {
         fresh: columns.count == 7,
-        apid: (natural(column(line, columns, 2)) % 65536) as u16,
-        count: (natural(column(line, columns, 3)) % 65536) as u16,
-        run: (natural(column(line, columns, 4)) % 256) as u8,
-        announced: (natural(column(line, columns, 5)) % 256) as u8,
+        apid: (natural_or(column(line, columns, 2), 0) % 65536) as u16,
+        count: (natural_or(column(line, columns, 3), 0) % 65536) as u16,
+        run: (natural_or(column(line, columns, 4), 0) % 256) as u8,
+        announced: (natural_or(column(line, columns, 5), 0) % 256) as u8,
     }
 }
 

@@ -12,9 +12,10 @@ use crate::records::PlfRow;
 use crate::records::TxfRow;
 use crate::records::TxpRow;
 use crate::width::Width;
+use crate::width::is_whole;
 use crate::width::width_of;
 ghost use mathlib.Core.Path.{_≡_};
-ghost use Rattle.rows.specs.Contradictions.{noWidth, picContradiction, plfContradiction, isWhole, isRefused, categoryClash, curveClash, pcfContradiction, isReal, cafContradiction, txfContradiction, txpContradiction, isCarriedCoding, ocfContradiction, isCarriedCheck, ocpContradiction};
+ghost use Rattle.rows.specs.Contradictions.{noWidth, picContradiction, plfContradiction, isRefused, categoryClash, curveClash, pcfContradiction, isReal, cafContradiction, txfContradiction, txpContradiction, isCarriedCoding, ocfContradiction, isCarriedCheck, ocpContradiction};
 ghost use Rattle.rows.specs.Width.{widthOf};
 
 // A field that is used, and has no bit.
@@ -48,16 +49,6 @@ pub(crate) fn plf_contradiction(row: PlfRow) -> u8
         }
     }
     0
-}
-
-// Whether a type code is that of a whole number: 1 to 4.
-fn is_whole(ptc: u32) -> bool
-    ensures { λ r. ⌜ r ≡ isWhole ptc ⌝ }
-{
-    if 1 <= ptc {
-        return ptc <= 4;
-    }
-    false
 }
 
 fn has_no_width(ptc: u32, pfc: u32) -> bool

@@ -6,5 +6,5 @@ pub mod decoded;
 pub mod letters;
 pub mod read;
 pub mod records;
-mod values;
+pub mod values;
 pub mod width;

@@ -9,7 +9,7 @@ use numbers::read_number;
 ghost use mathlib.Core.Path.{_≡_};
 ghost use Rattle.rows.specs.Values.{naturalOr, integerOr, letterOf, isGiven, optionalName, optionalCurve, optionalApid};
 
-pub(crate) fn natural_or(text: &[u8], default: u32) -> u32
+pub fn natural_or(text: &[u8], default: u32) -> u32
     ensures { λ r. ⌜ r ≡ naturalOr default (now (text .entry)) ⌝ }
 {
     match read_number(text) {

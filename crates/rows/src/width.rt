@@ -1,6 +1,7 @@
 // The width of a field by its type code and format code.
 ghost use mathlib.Core.Path.{_≡_};
 ghost use Prim.Native.Nat.{_*_};
+ghost use Rattle.rows.specs.Contradictions.{isWhole};
 ghost use Rattle.rows.specs.Width.{widthOf, within, integerWidth};
 
 // The width in bits, or no such pair of codes.
@@ -57,4 +58,14 @@ pub fn width_of(ptc: u32, pfc: u32) -> Width
         8 => string_width(pfc),
         _ => Width::Refused,
     }
+}
+
+// Whether a type code is that of a whole number: 1 to 4.
+pub fn is_whole(ptc: u32) -> bool
+    ensures { λ r. ⌜ r ≡ isWhole ptc ⌝ }
+{
+    if 1 <= ptc {
+        return ptc <= 4;
+    }
+    false
 }

@@ -10,8 +10,8 @@ use Rattle.limit_vectors.proofs.states.state_of.Tie as tie
 column-requires : tie.Need-column-requires
 column-requires c κs = search needs
 
-natural-requires : tie.Need-natural-requires
-natural-requires c κs = search needs
+natural-or-requires : tie.Need-natural-or-requires
+natural-or-requires c κs = search needs
 
 cast-t7 : tie.Need-cast-t7
 cast-t7 c = search needs
@@ -19,8 +19,8 @@ cast-t7 c = search needs
 column-requires-2 : tie.Need-column-requires-2
 column-requires-2 c κs = search needs
 
-natural-requires-2 : tie.Need-natural-requires-2
-natural-requires-2 c κs = search needs
+natural-or-requires-2 : tie.Need-natural-or-requires-2
+natural-or-requires-2 c κs = search needs
 
 cast-t11 : tie.Need-cast-t11
 cast-t11 c = search needs
@@ -28,8 +28,8 @@ cast-t11 c = search needs
 column-requires-3 : tie.Need-column-requires-3
 column-requires-3 c κs = search needs
 
-natural-requires-3 : tie.Need-natural-requires-3
-natural-requires-3 c κs = search needs
+natural-or-requires-3 : tie.Need-natural-or-requires-3
+natural-or-requires-3 c κs = search needs
 
 cast-t15 : tie.Need-cast-t15
 cast-t15 c = search needs
@@ -37,8 +37,8 @@ cast-t15 c = search needs
 column-requires-4 : tie.Need-column-requires-4
 column-requires-4 c κs = search needs
 
-natural-requires-4 : tie.Need-natural-requires-4
-natural-requires-4 c κs = search needs
+natural-or-requires-4 : tie.Need-natural-or-requires-4
+natural-or-requires-4 c κs = search needs
 
 cast-t19 : tie.Need-cast-t19
 cast-t19 c = search needs
@@ -51,25 +51,25 @@ returns c =
     let n2 = n3 .before .before in
     let n1 = n2 .before .before in
     state-made _ _ _ _ _ _
-    (n1 .natural .ensures ∙ ap (naturalOr 0) (n1 .before .column .ensures))
-    (n2 .natural2 .ensures ∙ ap (naturalOr 0) (n2 .before .column2 .ensures))
-    (n3 .natural3 .ensures ∙ ap (naturalOr 0) (n3 .before .column3 .ensures))
-    (n4 .natural4 .ensures ∙ ap (naturalOr 0) (n4 .before .column4 .ensures))
+    (n1 .natural-or .ensures ∙ ap (naturalOr 0) (n1 .before .column .ensures))
+    (n2 .natural-or2 .ensures ∙ ap (naturalOr 0) (n2 .before .column2 .ensures))
+    (n3 .natural-or3 .ensures ∙ ap (naturalOr 0) (n3 .before .column3 .ensures))
+    (n4 .natural-or4 .ensures ∙ ap (naturalOr 0) (n4 .before .column4 .ensures))
 
 pub state-of-spec : {M : Type 1} → statement M
 state-of-spec =
     tie.close
     (tie.spec
     column-requires
-    natural-requires
+    natural-or-requires
     cast-t7
     column-requires-2
-    natural-requires-2
+    natural-or-requires-2
     cast-t11
     column-requires-3
-    natural-requires-3
+    natural-or-requires-3
     cast-t15
     column-requires-4
-    natural-requires-4
+    natural-or-requires-4
     cast-t19
     returns)

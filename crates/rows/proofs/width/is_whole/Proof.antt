@@ -1,7 +1,7 @@
 -- Both tests of the range.
 use borrow.Author.Tests.{le-leb, lt-leb}
-use Rattle.rows.proofs.contradictions.is_whole.Statement.{statement}
-use Rattle.rows.proofs.contradictions.is_whole.Tie as tie
+use Rattle.rows.proofs.width.is_whole.Statement.{statement}
+use Rattle.rows.proofs.width.is_whole.Tie as tie
 
 returns : tie.Need-returns
 returns c = rw (le-leb 1 (c .before .args .ptc) (c .if1 .taken))
