@@ -1,7 +1,7 @@
 #!/usr/bin/env python3
-"""Writes packets.bin: the packets of five minutes, one every two seconds, with a part of them played again.
+"""Writes packets.bin: the housekeeping packets of two and a half hours, one a minute, with an hour of them played again.
 
-Packets 0 to 119, then 60 to 89 once more, byte for byte, then 120 to 149. README.md says what happens when.
+Packets 0 to 119, then 60 to 119 once more, byte for byte, then 120 to 149. README.md says what happens when.
 """
 import os
 import struct
@@ -49,7 +49,7 @@ def packet(i):
     heating = 30 <= i < 40
     current = 230 if i == 33 else 120 if heating else 3
     flags = acquiring << 7 | heating << 6 | 1 << 5 | (2 if heating else 0)
-    field_header = struct.pack(">BBBBIH", 0x10, 3, 25, 0, 700000000 + 2 * i, 0)
+    field_header = struct.pack(">BBBBIH", 0x10, 3, 25, 0, 700000000 + 60 * i, 0)
     data = struct.pack(">BBBB", 1, flags, 0x20, i % 256)
     data += struct.pack(">HHh4HBB4sh", plate(i), plate(i) - 900, shroud(i), *fast(i), current, 80, b"v1.3", 250)
     length = 6 + len(field_header) + len(data) + 2
@@ -59,7 +59,7 @@ def packet(i):
 
 
 def main():
-    order = list(range(120)) + list(range(60, 90)) + list(range(120, 150))
+    order = list(range(120)) + list(range(60, 120)) + list(range(120, 150))
     folder = os.path.dirname(os.path.abspath(__file__))
     with open(os.path.join(folder, "packets.bin"), "wb") as file:
         file.write(b"".join(packet(i) for i in order))
