@@ -5,7 +5,7 @@ mod holds;
 pub mod keys;
 pub mod list;
 mod walk;
-mod words;
+pub mod words;
 
 use lines::names::Name;
 use units::Spid;

@@ -17,7 +17,7 @@ ghost use Rattle.lookup.specs.Listed.{nameWord, wordOf, wantedWord};
 const TAB: u8 = 9;
 
 // The bytes of a line before its first TAB.
-fn first_column<'a>(line: &'a [u8]) -> &'a [u8]
+pub fn first_column<'a>(line: &'a [u8]) -> &'a [u8]
     ensures { λ r. ⌜ now r ≡ column (now (line .entry)) 0 ⌝ }
 {
     let mut i: usize = 0;

@@ -12,9 +12,9 @@ use Rattle.laws.specs.Lists.{keep}
 use Rattle.laws.proofs.Lists.{split, map-at}
 use Rattle.laws.proofs.Cases.{cond-cases}
 use Rattle.laws.proofs.Tests.{keep-length}
-use Rattle.lines.specs.Names.{sameCurveName}
+use Rattle.lines.specs.Names.{curveNameOf, sameCurveName}
 use Rattle.lines.specs.declared.names.CurveName.{CurveName}
-use Rattle.rows.specs.Records.{capRow}
+use Rattle.rows.specs.Records.{column, capRow}
 use Rattle.rows.specs.declared.records.CapRow.{CapRow}
 use Rattle.lookup.specs.GoodRows.{Row}
 use Rattle.lookup.specs.Listed.{looked, lineAt, wordOf, noRow, Lists}
@@ -91,15 +91,20 @@ pick-done name rows {n = n} {i = i} h k =
       number = rw none at (k .number);
     }
 
+-- the name that a line starts with
+module _ (rows : List Row) {text starts numbers : List ℕ} {n i : ℕ} (told : Told rows text starts numbers n) (h : i < n) {start : ℕ} {line first : List ℕ}
+    (s : start ≡ getD starts i 0) (l : line ≡ lineAt text start) (f : first ≡ column line 0) {own : CurveName} (o : own ≡ curveNameOf first) where
+  pub of-name : (name : CurveName) {b : Bool} → b ≡ sameCurveName own name → isOf name (getD rows i noRow) ≡ b
+  unfolding isOf
+  of-name name q =
+      let bytes : line ≡ getD rows i noRow .bytes = l ∙ ap (lineAt text) s ∙ told .bytes i h in
+      sym (q ∙ ap (λ (x : CurveName). sameCurveName x name) (o ∙ ap curveNameOf (f ∙ ap (λ (z : List ℕ). column z 0) bytes)))
+
 -- a row read at the start of its line
 module _ (rows : List Row) {text starts numbers : List ℕ} {n i : ℕ} (told : Told rows text starts numbers n) (h : i < n) {start : ℕ} {line : List ℕ} {r : CapRow}
     (s : start ≡ getD starts i 0) (l : line ≡ lineAt text start) (e : r ≡ capRow line) where
   read : r ≡ capRow (getD rows i noRow .bytes)
   read = e ∙ ap capRow (l ∙ ap (lineAt text) s ∙ told .bytes i h)
-
-  pub of-name : (name : CurveName) {b : Bool} → b ≡ sameCurveName (r .numbr) name → isOf name (getD rows i noRow) ≡ b
-  unfolding isOf capRow
-  of-name name q = sym (q ∙ ap (λ (x : CapRow). sameCurveName (x .numbr) name) read)
 
   pub second-is : r .xvals ≡ secondOf (getD rows i noRow)
   unfolding secondOf capRow

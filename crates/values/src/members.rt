@@ -1,9 +1,11 @@
 // The rows of a curve or of a set of texts, gathered.
 use lines::names::CurveName;
+use lines::names::curve_name_of;
 use lines::names::same_curve_name;
 use lookup::find::line_at;
 use lookup::find::start_at;
 use lookup::list::list_good;
+use lookup::words::first_column;
 use rows::decoded::cap_of;
 use schemas::Table;
 use tables::MOST_ROWS;
@@ -32,9 +34,10 @@ fn pick(
     while i < rows {
         let start = start_at(allstarts, i);
         let number = start_at(allnumbers, i);
-        let row = cap_of(line_at(text, start));
-        let own = row.numbr;
+        let line = line_at(text, start);
+        let own = curve_name_of(first_column(line));
         if same_curve_name(own, name) {
+            let row = cap_of(line);
             let second = row.xvals;
             let third = row.yvals;
             seconds[n] = second;

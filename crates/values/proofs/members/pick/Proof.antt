@@ -30,11 +30,17 @@ start-at-requires-2 c κs = tt
 line-at-requires : tie.Need-line-at-requires Inv-loop μ-loop
 line-at-requires c κs = tt
 
-cap-of-requires : tie.Need-cap-of-requires Inv-loop μ-loop
-cap-of-requires c κs = tt
+first-column-requires : tie.Need-first-column-requires Inv-loop μ-loop
+first-column-requires c κs = tt
+
+curve-name-of-requires : tie.Need-curve-name-of-requires Inv-loop μ-loop
+curve-name-of-requires c κs = tt
 
 same-curve-name-requires : tie.Need-same-curve-name-requires Inv-loop μ-loop
 same-curve-name-requires c κs = tt
+
+cap-of-requires : tie.Need-cap-of-requires Inv-loop μ-loop
+cap-of-requires c κs = tt
 
 mul-second : tie.Need-mul-second Inv-loop μ-loop
 mul-second c = omega arith
@@ -70,34 +76,35 @@ loop-less : tie.Need-loop-less Inv-loop μ-loop
 loop-less c = omega arith
 
 -- the two integers passed their words unchanged
-second-word : (c : tie.After-struct-told2 Inv-loop μ-loop) → (let z = c .before .before .before .before .before .cap-of .result .xvals in toZ w64 (ofZ w64 z) ≡ z)
+second-word : (c : tie.After-struct-told2 Inv-loop μ-loop) → (let z = c .before .before .cap-of .result .xvals in toZ w64 (ofZ w64 z) ≡ z)
 second-word c =
-    let f : SFits w64 (c .before .before .before .before .before .cap-of .result .xvals) = search needs in
+    let f : SFits w64 (c .before .before .cap-of .result .xvals) = search needs in
     toZ-ofZ f
 
-third-word : (c : tie.After-struct-told2 Inv-loop μ-loop) → (let z = c .before .before .before .before .before .cap-of .result .yvals in toZ w64 (ofZ w64 z) ≡ z)
+third-word : (c : tie.After-struct-told2 Inv-loop μ-loop) → (let z = c .before .before .cap-of .result .yvals in toZ w64 (ofZ w64 z) ≡ z)
 third-word c =
-    let f : SFits w64 (c .before .before .before .before .before .cap-of .result .yvals) = search needs in
+    let f : SFits w64 (c .before .before .cap-of .result .yvals) = search needs in
     toZ-ofZ f
 
 loop-again : tie.Need-loop-again Inv-loop μ-loop
 loop-again c =
-    let s = c .before .before .before in
-    let r = s .before .before in
-    let a = r .before .before .before in
+    let r = c .before .before in
+    let s = r .before .before in
+    let o = s .before in
+    let a = o .before .before .before .before in
     let t = a .before in (
       omega arith,
       omega arith,
       λ l told.
           let h = t .loop-test .taken in
           let st = a .start-at .ensures in
-          let li = r .before .line-at .ensures in
+          let li = o .before .before .line-at .ensures in
           pick-more _ l _ (omega (arith, told .count)) (t .before .loop .inv .2 l told)
-          (of-name l told h st li (r .cap-of .ensures) _ (s .same-curve-name .ensures) ∙ c .before .before .if1 .taken)
+          (of-name l told h st li (o .before .first-column .ensures) (o .curve-name-of .ensures) _ (s .same-curve-name .ensures) ∙ r .before .if1 .taken)
           (second-word c ∙ second-is l told h st li (r .cap-of .ensures))
           (third-word c ∙ third-is l told h st li (r .cap-of .ensures))
           (st ∙ told .start _ h)
-          (r .before .before .start-at2 .ensures ∙ told .number _ h),
+          (o .before .before .before .start-at2 .ensures ∙ told .number _ h),
     )
 
 add-i-2 : tie.Need-add-i-2 Inv-loop μ-loop
@@ -109,15 +116,16 @@ loop-less-2 c = omega arith
 loop-again-2 : tie.Need-loop-again-2 Inv-loop μ-loop
 loop-again-2 c =
     let s = c .before in
-    let r = s .before .before in
-    let a = r .before .before .before in
+    let o = s .before in
+    let a = o .before .before .before .before in
     let t = a .before in (
       omega arith,
       omega arith,
       λ l told.
           let h = t .loop-test .taken in
           pick-other _ l _ (omega (arith, told .count)) (t .before .loop .inv .2 l told)
-          (of-name l told h (a .start-at .ensures) (r .before .line-at .ensures) (r .cap-of .ensures) _ (s .same-curve-name .ensures) ∙ c .if1 .left),
+          (of-name l told h (a .start-at .ensures) (o .before .before .line-at .ensures) (o .before .first-column .ensures) (o .curve-name-of .ensures) _ (s .same-curve-name .ensures)
+          ∙ c .if1 .left),
     )
 
 returns : tie.Need-returns Inv-loop μ-loop
@@ -133,8 +141,10 @@ pick-spec =
     start-at-requires
     start-at-requires-2
     line-at-requires
-    cap-of-requires
+    first-column-requires
+    curve-name-of-requires
     same-curve-name-requires
+    cap-of-requires
     mul-second
     element-set-from-second
     mul-third
