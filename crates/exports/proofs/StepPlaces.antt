@@ -25,12 +25,12 @@ use Rattle.lookup.specs.Holder.{holder}
 use Rattle.readings.specs.RawValues.{rawOf}
 use Rattle.readings.specs.Readings.{Read, refused as notRead, integer, string, Located, both, located}
 use Rattle.packets.specs.Identification.{Identification, refused as notIdentified, identified}
-use Rattle.limits.specs.State.{isState, isNewer}
+use Rattle.limit_state.specs.State.{isState, isNewer}
 use Rattle.limits.specs.Values.{Values, refused as noValues, are, occurrences, before, rawValues, isRefusal, unlessRefused, valuesUnder}
 use Rattle.limits.specs.Step.{Stepping, refused, Rows, Asked, unanswered, found, withPlace, withLimits, ofPacket, askedOf, readingAt, valuesOf, accepted, byValues, inTime, stepAt, stepFrom, stepIn, rowsBy, limitStepBy, limitStepOf}
-use Rattle.limits.specs.declared.state.LimitState.{LimitState}
-use Rattle.limits.specs.declared.severity.Severity.{Severity}
-use Rattle.limits.specs.declared.severity.Progress.{Progress}
+use Rattle.limit_state.specs.declared.state.LimitState.{LimitState}
+use Rattle.limit_state.specs.declared.severity.Severity.{Severity}
+use Rattle.limit_state.specs.declared.severity.Progress.{Progress}
 use Rattle.exports.specs.Answers.{placeIn, ofIdentification, ofRead, ofStepping}
 use Rattle.exports.proofs.RowRanges.{PlfRanges, plf-found}
 use Rattle.exports.proofs.SmallPlaces.{sized, placeI, headed-small, raw-small, placeE, valid-small}

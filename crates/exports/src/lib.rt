@@ -5,7 +5,7 @@ use crate::tell::tell_identified;
 use crate::tell::tell_imported;
 use crate::tell::tell_stepped;
 use import::import;
-use limits::state::LimitState;
+use limit_state::state::LimitState;
 use limits::step::limit_step;
 use packets::extract::extract;
 use packets::identify::identify;

@@ -4,7 +4,7 @@ mod tables_of;
 
 use calibration::curve::CurveValue;
 use calibration::curve::curve_at;
-use limits::state::is_newer;
+use limit_state::state::is_newer;
 use numbers::Number;
 use numbers::read_number;
 use rows::letters::OffEnds;

@@ -12,7 +12,7 @@ use Rattle.lines.specs.Columns.{columnIn, divided}
 use Rattle.lines.specs.declared.columns.Columns.{Columns}
 use Rattle.limits.specs.Step.{limitStepOf, limitStepBy}
 use Rattle.limits.specs.Answer.{said}
-use Rattle.limits.specs.declared.state.LimitState.{LimitState}
+use Rattle.limit_state.specs.declared.state.LimitState.{LimitState}
 use Rattle.limits.specs.declared.step.Stepped.{Stepped}
 use Rattle.limit_vectors.specs.States.{numberIn, stateOf, stateIn}
 use Rattle.limit_vectors.specs.Answers.{refusedAt, answerOf, sameState, sameAnswer}

@@ -4,7 +4,7 @@ use mathlib.Core.Path.{_≡_, refl}
 use mathlib.Core.Bool.{Bool, true, not, cond, _&&_}
 use lib.Dec.{eqb}
 use Rattle.limits.specs.Step.{Stepping, refused, stepped}
-use Rattle.limits.specs.declared.state.LimitState.{LimitState}
+use Rattle.limit_state.specs.declared.state.LimitState.{LimitState}
 use Rattle.limit_vectors.specs.declared.answers.Answer.{Answer}
 
 unfoldable pub refusedAt : LimitState → (number place : ℕ) → Answer

@@ -7,7 +7,7 @@ use lib.Dec.{eqb}
 use Rattle.lines.specs.Lines.{Line}
 use Rattle.lines.specs.Columns.{columnIn, divided}
 use Rattle.limits.specs.Step.{limitStepOf, limitStepBy}
-use Rattle.limits.specs.declared.state.LimitState.{LimitState}
+use Rattle.limit_state.specs.declared.state.LimitState.{LimitState}
 use Rattle.limit_vectors.specs.States.{freshState, stateIn}
 use Rattle.limit_vectors.specs.Answers.{answerOf, sameAnswer}
 use Rattle.limit_vectors.specs.declared.run.Run.{Run}

@@ -7,7 +7,7 @@ use lib.Dec.{eqb}
 use Rattle.lines.specs.Columns.{columnIn}
 use Rattle.lines.specs.declared.columns.Columns.{Columns}
 use Rattle.rows.specs.Values.{naturalOr}
-use Rattle.limits.specs.declared.state.LimitState.{LimitState}
+use Rattle.limit_state.specs.declared.state.LimitState.{LimitState}
 
 -- the number in column k
 unfoldable pub numberIn : List ℕ → Columns → (k : ℕ) → ℕ

@@ -1,6 +1,6 @@
 // Answers of limit steps, by number.
 use crate::states::show_state;
-use limits::state::LimitState;
+use limit_state::state::LimitState;
 use limits::step::Stepped;
 use packets::refusal::number_of;
 use packets::refusal::place_of;

@@ -8,7 +8,7 @@ use crate::states::show_state;
 use crate::states::state_in;
 use import::Imported;
 use import::import;
-use limits::state::LimitState;
+use limit_state::state::LimitState;
 use limits::step::limit_step;
 use limits::step::limit_step_by;
 use lines::columns::column;

@@ -12,9 +12,9 @@ use Rattle.laws.specs.Lists.{keep}
 use Rattle.laws.proofs.Lists.{split}
 use Rattle.laws.proofs.Cases.{bool-cases, and-left, and-right}
 use Rattle.laws.proofs.Tests.{keep-length}
-use Rattle.lines.specs.Names.{sameName}
+use Rattle.lines.specs.Names.{nameOf, sameName}
 use Rattle.lines.specs.declared.names.Name.{Name}
-use Rattle.rows.specs.Records.{plfRow, pcfRow, ocpRow}
+use Rattle.rows.specs.Records.{column, plfRow, pcfRow, ocpRow}
 use Rattle.rows.specs.declared.records.OcpRow.{OcpRow}
 use Rattle.schemas.specs.declared.Table.the-variants.{Ocp}
 use Rattle.lookup.specs.GoodRows.{Row}
@@ -27,7 +27,8 @@ use Rattle.readings.specs.declared.locate.RowStarts.{RowStarts}
 use Rattle.readings.specs.declared.raw.RawValue.{RawValue}
 use Rattle.values.proofs.MemberLaws.{front-is}
 use Rattle.limits.specs.Checks.{checksOf, equals, rawEquals, applies}
-use Rattle.limits.specs.Held.{levelOf, Held, Filled, Room, Starting}
+use Rattle.limit_state.specs.Held.{levelOf, Held}
+use Rattle.limits.specs.Filled.{Filled, Room, Starting}
 
 -- Whether a check applies
 
@@ -49,7 +50,12 @@ module _ (l c : List Row) (p : List ℕ) (spid : ℕ) (row : OcpRow) where
     unfolding applies atStarts rawEquals
     applies-located f raw plfLine pcfLine el ec er eb = rw (t, ← at, f, ← el, ← ec, ← er) eb
 
--- and is one of the parameter's
+-- and is one of the parameter's, by the name that its line starts with
+pub own-name : (line : List ℕ) {first : List ℕ} {own : Name} (name : Name) {b : Bool} → first ≡ column line 0 → own ≡ nameOf first → b ≡ sameName own name
+    → sameName (ocpRow line .name) name ≡ b
+unfolding ocpRow
+own-name line name f o q = sym (q ∙ ap (λ (x : Name). sameName x name) (o ∙ ap nameOf f))
+
 pub counts-both : {a b : Bool} (d : Bool) → a ≡ true → b ≡ d → b ≡ (a && d)
 counts-both d t e = rw t e
 

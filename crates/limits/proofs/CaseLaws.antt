@@ -34,8 +34,9 @@ use Rattle.packets.specs.Identification.{Identification, refused as notIdentifi
 use Rattle.packets.proofs.FoundLaws.{found-by}
 use Rattle.packets.proofs.IdentifyLaws.{in-refused}
 use Rattle.values.specs.Members.{members, secondOf, thirdOf}
-use Rattle.limits.specs.State.{isState, isNewer}
-use Rattle.limits.specs.Checks.{checksOf, applies, severityOf}
+use Rattle.limit_state.specs.State.{isState, isNewer}
+use Rattle.limit_state.specs.Violations.{severityOf}
+use Rattle.limits.specs.Checks.{checksOf, applies}
 use Rattle.limits.specs.Values.{occurrences, rawValues, engineering, valuesUnder}
 use Rattle.limits.specs.Scale.{scaleOf, valueOn}
 use Rattle.limits.specs.Time.{timeOf}
@@ -61,9 +62,9 @@ use Rattle.limits.specs.Step.{
   stepFrom,
   stepIn,
 }
-use Rattle.limits.specs.declared.state.LimitState.{LimitState}
-use Rattle.limits.specs.declared.severity.Severity.{Severity}
-use Rattle.limits.specs.declared.severity.Progress.{Progress}
+use Rattle.limit_state.specs.declared.state.LimitState.{LimitState}
+use Rattle.limit_state.specs.declared.severity.Severity.{Severity}
+use Rattle.limit_state.specs.declared.severity.Progress.{Progress}
 use Rattle.limits.specs.declared.scale.Scale.{Scale}
 use Rattle.limits.specs.declared.step.Time.{Time}
 use Rattle.limits.specs.declared.step.Time.the-variants.{Newer, NotNewer, OtherApid}

@@ -13,8 +13,8 @@ use Rattle.rows.specs.declared.letters.LimitValue.the-variants.{Raw, Engineerin
 use Rattle.rows.specs.declared.records.OcfRow.{OcfRow}
 use Rattle.readings.specs.RawValues.{Raw as RawValue, refused as rawRefused, integer as rawInteger, string as rawString, rawOf}
 use Rattle.readings.specs.Readings.{Read, Located, withValidity, validity}
-use Rattle.limits.specs.State.{isState}
-use Rattle.limits.specs.Severity.{afterReadings}
+use Rattle.limit_state.specs.State.{isState}
+use Rattle.limit_state.specs.Severity.{afterReadings}
 use Rattle.limits.specs.Values.{Values, refused as noValues, are, occurrences, rawValues, engineering, answers, unlessRefused, valuesUnder}
 use Rattle.limits.specs.Step.{
   refused,
@@ -33,9 +33,9 @@ use Rattle.limits.specs.Step.{
   rowsBy,
   limitStepBy,
 }
-use Rattle.limits.specs.declared.state.LimitState.{LimitState}
-use Rattle.limits.specs.declared.severity.Severity.{Severity}
-use Rattle.limits.specs.declared.severity.Progress.{Progress}
+use Rattle.limit_state.specs.declared.state.LimitState.{LimitState}
+use Rattle.limit_state.specs.declared.severity.Severity.{Severity}
+use Rattle.limit_state.specs.declared.severity.Progress.{Progress}
 use Rattle.limits.proofs.StepLaws.{time-passed, state-passed, sizes-passed}
 
 -- readings that are invalid give no values

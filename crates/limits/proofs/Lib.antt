@@ -1,11 +1,7 @@
-pub mod StateLaws
-pub mod SeverityLaws
-pub mod CheckLaws
 pub mod StepLaws
 pub mod OnceLaws
 pub mod InvalidLaws
 pub mod RawLaws
-pub mod SeverityOfLaws
 pub mod ApplyingLaws
 pub mod ScaleLaws
 pub mod PassLaws

@@ -1,14 +1,16 @@
 -- A packet is accepted once: offered again it is refused, at once or after the next. Assumes nothing.
 use mathlib.Core.Path.{_≡_, refl, sym, _∙_}
 use mathlib.Core.Bool.{Bool, false}
-use mathlib.Core.List.{List}
+use mathlib.Core.List.{List, [], _∷_}
 use Prim.Native.Nat.{ℕ}
+use Rattle.laws.specs.Lists.{any}
+use Rattle.laws.proofs.Cases.{false≢true, false-of, or-left, or-right}
 use Rattle.headers.specs.Header.{sequenceCount}
 use Rattle.verdicts.specs.Verdicts.{verdicts}
-use Rattle.limits.specs.State.{isNewer}
-use Rattle.limits.specs.Step.{Stepping, refused, stepped, stepIn, rowsBy, limitStepBy, limitStepOf, stateAfter}
-use Rattle.limits.specs.declared.state.LimitState.{LimitState}
-use Rattle.limits.proofs.StateLaws.{never-newer, one-way}
+use Rattle.limit_state.specs.State.{isNewer}
+use Rattle.limits.specs.Step.{Stepping, refused, stepped, stepIn, rowsBy, limitStepBy, limitStepOf, stateAfter, afterPackets}
+use Rattle.limit_state.specs.declared.state.LimitState.{LimitState}
+use Rattle.limit_state.proofs.StateLaws.{never-newer, one-way}
 use Rattle.limits.proofs.StepLaws.{stateOf, in-left, in-newer, in-old, left-state, sizes-passed}
 
 module _ (texts : List (List ℕ)) (cells p name : List ℕ) (s : LimitState) {f : Bool} {a c r n : ℕ} where
@@ -51,6 +53,29 @@ module _ (texts : List (List ℕ)) (cells p name : List ℕ) where
           → stateAfter (stateAfter s answer) (limitStepBy texts cells p name (stateAfter s answer)) ≡ stateAfter s answer
       go (refused number place) e = rw e
       go (stepped f a c r n) e = rw (once texts cells p name s e)
+
+-- packets that aren't newer, whatever their APID, leave a state that isn't fresh as it was
+module _ (texts : List (List ℕ)) (cells name : List ℕ) (s : LimitState) (used : s .fresh ≡ false) where
+  pub old-ignored : (p : List ℕ) → isNewer (sequenceCount p) (s .count) ≡ false → stateAfter s (limitStepBy texts cells p name s) ≡ s
+  unfolding stateAfter limitStepBy
+  old-ignored p old = go (limitStepBy texts cells p name s) refl
+    where
+      go : (answer : Stepping) → limitStepBy texts cells p name s ≡ answer → stateAfter s answer ≡ s
+      go (refused number place) e = refl
+      go (stepped f a c r n) e =
+          let k = sizes-passed texts (stepIn (rowsBy texts cells) p name s) (refused 0 0) e in
+          absurd (false≢true (sym old ∙ in-newer (rowsBy texts cells) p name s (k .0) used .1))
+
+  -- so an hour of packets played again changes nothing, as long as none of them is newer
+  pub played-again : (packets : List (List ℕ)) → any (λ p. isNewer (sequenceCount p) (s .count)) packets ≡ false → afterPackets texts cells name s packets ≡ s
+  unfolding afterPackets
+  played-again [] none-newer = refl
+  played-again (p ∷ later) none-newer =
+      let newer = isNewer (sequenceCount p) (s .count) in
+      let others = any (λ q. isNewer (sequenceCount q) (s .count)) later in
+      let old = false-of newer (λ t. false≢true (sym none-newer ∙ or-left others t)) in
+      let old-others = false-of others (λ t. false≢true (sym none-newer ∙ or-right newer t)) in
+      rw (old-ignored p old) (played-again later old-others)
 
 -- the same of the public question
 module _ (texts : List (List ℕ)) (name : List ℕ) where

@@ -19,12 +19,12 @@ use Rattle.rows.specs.declared.records.PcfRow.{PcfRow}
 use Rattle.readings.specs.RawValues.{Raw, refused as rawRefused, integer as rawInteger, string as rawString, saidRaw, rawOf}
 use Rattle.readings.specs.Readings.{Read, withValidity}
 use Rattle.readings.specs.declared.raw.RawValue.{RawValue}
-use Rattle.limits.specs.Severity.{afterReading, afterReadings}
+use Rattle.limit_state.specs.Severity.{afterReading, afterReadings}
 use Rattle.limits.specs.Values.{Values, refused as noValues, are, occurrences, before, rawValues, isRefusal, answers, unlessRefused, valuesUnder}
 use Rattle.limits.specs.Step.{Stepping, refused, accepted, byValues}
 use Rattle.limits.specs.Pass.{afterValue, afterValues, ended, numberIn}
-use Rattle.limits.specs.declared.severity.Severity.{Severity}
-use Rattle.limits.specs.declared.severity.Progress.{Progress}
+use Rattle.limit_state.specs.declared.severity.Severity.{Severity}
+use Rattle.limit_state.specs.declared.severity.Progress.{Progress}
 use Rattle.limits.specs.declared.occurrences.Pass.{Pass}
 
 -- one raw value has one number

@@ -15,8 +15,8 @@ use Rattle.headers.specs.Header.{apid, sequenceCount}
 use Rattle.verdicts.specs.Verdicts.{verdicts}
 use Rattle.verdicts.specs.Answer.{tooLong, tooManyRows}
 use Rattle.packets.specs.Refusals.{bySizes}
-use Rattle.limits.specs.State.{isState, isNewer}
-use Rattle.limits.specs.Severity.{afterReadings}
+use Rattle.limit_state.specs.State.{isState, isNewer}
+use Rattle.limit_state.specs.Severity.{afterReadings}
 use Rattle.limits.specs.Values.{Values, refused as noValues, are}
 use Rattle.limits.specs.Step.{
   Stepping,
@@ -39,11 +39,11 @@ use Rattle.limits.specs.Step.{
   limitStepBy,
   limitStepOf,
 }
-use Rattle.limits.specs.declared.state.LimitState.{LimitState}
-use Rattle.limits.specs.declared.severity.Severity.{Severity}
-use Rattle.limits.specs.declared.severity.Progress.{Progress}
-use Rattle.limits.proofs.StateLaws.{state-small, makes-state}
-use Rattle.limits.proofs.SeverityLaws.{Small, readings-small}
+use Rattle.limit_state.specs.declared.state.LimitState.{LimitState}
+use Rattle.limit_state.specs.declared.severity.Severity.{Severity}
+use Rattle.limit_state.specs.declared.severity.Progress.{Progress}
+use Rattle.limit_state.proofs.StateLaws.{state-small, makes-state}
+use Rattle.limit_state.proofs.SeverityLaws.{Small, readings-small}
 
 -- an APID has 11 bits, and a count 14
 pub apid-small : (p : List ℕ) → apid p ≤ 2047

@@ -2,7 +2,7 @@
 use mathlib.Core.Path.{_≡_, refl}
 use Rattle.packets.specs.Refusals.{numberOf, placeOf}
 use Rattle.limits.specs.Step.{Stepping, refused, stepped}
-use Rattle.limits.specs.declared.state.LimitState.{LimitState}
+use Rattle.limit_state.specs.declared.state.LimitState.{LimitState}
 use Rattle.limits.specs.declared.step.Stepped.{Stepped}
 use Rattle.limits.specs.declared.step.Stepped.the-variants.{Is, OffCurve, OutOfRange, NoLimits, NoState, NotNewer, OtherApid, Refused}
 

@@ -1,12 +1,10 @@
-pub mod State
-pub mod Severity
 pub mod Checks
 pub mod Values
 pub mod Step
 pub mod Answer
 pub mod Time
 pub mod Limited
-pub mod Held
+pub mod Filled
 pub mod Scale
 pub mod Pass
 pub mod StepExamples

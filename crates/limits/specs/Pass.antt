@@ -8,12 +8,12 @@ use lib.IntN.{ℤ, pos}
 use Rattle.laws.specs.Said.{Said, value, refused as refusedWith, free}
 use Rattle.readings.specs.RawValues.{Raw, refused as rawRefused, integer as rawInteger, string as rawString}
 use Rattle.packets.specs.Refusals.{numberOf, placeOf}
-use Rattle.limits.specs.Severity.{raised, violation, afterReading}
+use Rattle.limit_state.specs.Severity.{raised, violation, afterReading}
 use Rattle.limits.specs.Values.{Values, refused as noValues, are}
 use Rattle.limits.specs.Step.{Stepping, refused, stepped, accepted}
-use Rattle.limits.specs.declared.severity.Severity.{Severity}
-use Rattle.limits.specs.declared.severity.Severity.the-variants.{Within, Soft, Hard}
-use Rattle.limits.specs.declared.severity.Progress.{Progress}
+use Rattle.limit_state.specs.declared.severity.Severity.{Severity}
+use Rattle.limit_state.specs.declared.severity.Severity.the-variants.{Within, Soft, Hard}
+use Rattle.limit_state.specs.declared.severity.Progress.{Progress}
 use Rattle.limits.specs.declared.occurrences.Pass.{Pass}
 use Rattle.limits.specs.declared.occurrences.RawNumber.{RawNumber}
 use Rattle.limits.specs.declared.occurrences.RawNumber.the-variants.{Is, Refused}

@@ -1,7 +1,7 @@
 -- A limit step: the state after a packet. Assumes nothing: these are definitions.
 use Prim.Native.Nat.{ℕ}
 use mathlib.Core.Bool.{Bool, false, cond}
-use mathlib.Core.List.{List, [], map}
+use mathlib.Core.List.{List, [], _∷_, map}
 use mathlib.Core.Option.{Option, none, some}
 use lib.Dec.{eqb}
 use lib.IntN.{ℤ}
@@ -20,13 +20,14 @@ use Rattle.readings.specs.RawValues.{rawOf}
 use Rattle.readings.specs.Readings.{Read, Located, located, withValidity, validity}
 use Rattle.packets.specs.Refusals.{bySizes}
 use Rattle.packets.specs.Identification.{Identification, refused as notIdentified, identified, identifyIn}
-use Rattle.limits.specs.State.{isState, isNewer}
-use Rattle.limits.specs.Severity.{afterReadings}
-use Rattle.limits.specs.Checks.{checksOf, applies, severityOf}
+use Rattle.limit_state.specs.State.{isState, isNewer}
+use Rattle.limit_state.specs.Severity.{afterReadings}
+use Rattle.limit_state.specs.Violations.{severityOf}
+use Rattle.limits.specs.Checks.{checksOf, applies}
 use Rattle.limits.specs.Values.{Values, refused as noValues, are, occurrences, rawValues, engineering, valuesUnder}
-use Rattle.limits.specs.declared.state.LimitState.{LimitState}
-use Rattle.limits.specs.declared.severity.Severity.{Severity}
-use Rattle.limits.specs.declared.severity.Progress.{Progress}
+use Rattle.limit_state.specs.declared.state.LimitState.{LimitState}
+use Rattle.limit_state.specs.declared.severity.Severity.{Severity}
+use Rattle.limit_state.specs.declared.severity.Progress.{Progress}
 
 -- the state after the packet, or a refusal with its number and place
 pub data Stepping : Type 0 where
@@ -142,3 +143,8 @@ limitStepOf texts p name s = limitStepBy texts (verdicts texts) p name s
 unfoldable pub stateAfter : LimitState → Stepping → LimitState
 stateAfter s (refused number place) = s
 stateAfter s (stepped fresh apid count run announced) = record { fresh = fresh; apid = apid; count = count; run = run; announced = announced }
+
+-- and the state after packets that are offered one after the other
+unfoldable pub afterPackets : List (List ℕ) → (cells name : List ℕ) → LimitState → (packets : List (List ℕ)) → LimitState
+afterPackets texts cells name s [] = s
+afterPackets texts cells name s (p ∷ later) = afterPackets texts cells name (stateAfter s (limitStepBy texts cells p name s)) later

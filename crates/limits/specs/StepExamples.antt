@@ -49,9 +49,10 @@ use Rattle.packets.specs.Numbers.{typeOf, subtypeOf, numbersOf, orOther, picRow
 use Rattle.packets.specs.Identification.{chosen, chooseBy, choose, afterHeader, identifyIn}
 use Rattle.values.specs.Members.{isOf, members, secondOf, thirdOf}
 use Rattle.values.specs.Engineering.{endsOf}
-use Rattle.limits.specs.State.{isOver, hasNumber, isState, ahead, isNewer}
-use Rattle.limits.specs.Severity.{raised, violation, afterReading, afterReadings}
-use Rattle.limits.specs.Checks.{checksOf, equals, rawEquals, applies, isViolated, isHard, isSoft, severityOf}
+use Rattle.limit_state.specs.State.{isOver, hasNumber, isState, ahead, isNewer}
+use Rattle.limit_state.specs.Severity.{raised, violation, afterReading, afterReadings}
+use Rattle.limit_state.specs.Violations.{isViolated, isHard, isSoft, severityOf}
+use Rattle.limits.specs.Checks.{checksOf, equals, rawEquals, applies}
 use Rattle.limits.specs.Values.{
   occurrences,
   before,
@@ -82,7 +83,7 @@ use Rattle.limits.specs.Step.{
   stepFrom,
   stepIn,
 }
-use Rattle.limits.specs.declared.state.LimitState.{LimitState}
+use Rattle.limit_state.specs.declared.state.LimitState.{LimitState}
 
 -- here ";" stands for TAB
 abbrev line : String → Row

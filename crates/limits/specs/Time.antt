@@ -3,8 +3,8 @@ use Prim.Native.Nat.{ℕ}
 use mathlib.Core.Path.{_≡_, refl}
 use mathlib.Core.Bool.{true, false, cond}
 use lib.Dec.{eqb}
-use Rattle.limits.specs.State.{ahead, isNewer}
-use Rattle.limits.specs.declared.state.LimitState.{LimitState}
+use Rattle.limit_state.specs.State.{ahead, isNewer}
+use Rattle.limit_state.specs.declared.state.LimitState.{LimitState}
 use Rattle.limits.specs.declared.step.Time.{Time}
 use Rattle.limits.specs.declared.step.Time.the-variants.{Newer, NotNewer, OtherApid}
 

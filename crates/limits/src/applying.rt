@@ -1,14 +1,16 @@
 // The checks of a parameter that apply in a packet.
+use limit_state::checks::level_of;
 use lines::names::Name;
+use lines::names::name_of;
 use lines::names::same_name;
 use lookup::find::line_at;
 use lookup::find::start_at;
 use lookup::list::list_good;
+use lookup::words::first_column;
 use readings::locate::locate;
 use readings::raw::RawValue;
 use readings::raw::raw_of;
 use rows::decoded::ocp_of;
-use rows::letters::CheckType;
 use rows::records::OcpRow;
 use schemas::Table;
 use tables::MOST_ROWS;
@@ -19,12 +21,13 @@ ghost use mathlib.Core.Bool.{_&&_};
 ghost use mathlib.Core.List.{map};
 ghost use Rattle.laws.specs.Lists.{keep};
 ghost use Rattle.lines.specs.Names.{sameName};
+ghost use Rattle.rows.specs.Records.{ocpRow};
 ghost use Rattle.lookup.specs.Listed.{looked};
 ghost use Rattle.readings.specs.RawValues.{saidRaw};
 ghost use Rattle.readings.specs.Starts.{OfListed};
 ghost use Rattle.limits.specs.Checks as spec;
 ghost use Rattle.limits.specs.Checks.{equals, checksOf};
-ghost use Rattle.limits.specs.Held.{levelOf, Filled, Room, OfStarts};
+ghost use Rattle.limits.specs.Filled.{Filled, Room, OfStarts};
 
 // Whether a raw value is an integer and this one.
 fn has_value(raw: RawValue, valpar: i64) -> bool
@@ -82,19 +85,7 @@ fn applies(
     )
 }
 
-fn level_of(check: CheckType) -> u8
-    ensures { λ r. ⌜ r ≡ levelOf check ⌝ }
-{
-    match check {
-        CheckType::Soft => 1,
-        CheckType::Hard => 2,
-        CheckType::Delta => 0,
-        CheckType::Consistency => 0,
-        CheckType::Event => 0,
-    }
-}
-
-// Whether the check is one of the parameter's and applies.
+// Whether the check of this line is one of the parameter's, which most aren't, and applies.
 fn counts(
     plf: &[u8],
     plfwords: &[u64],
@@ -107,11 +98,11 @@ fn counts(
     p: &[u8],
     spid: Spid,
     name: Name,
-    row: OcpRow,
+    line: &[u8],
 ) -> bool
-    ensures { λ r. ⌜ OfListed (now (plf .entry)) (now (plfwords .entry)) (now (plfstarts .entry)) plfrows (now (pcf .entry)) (now (pcfwords .entry)) (now (pcfstarts .entry)) pcfrows (λ l c. r ≡ (sameName (row .name) name && spec.applies l c (now (p .entry)) (spid .0) row)) ⌝ }
+    ensures { λ r. ⌜ OfListed (now (plf .entry)) (now (plfwords .entry)) (now (plfstarts .entry)) plfrows (now (pcf .entry)) (now (pcfwords .entry)) (now (pcfstarts .entry)) pcfrows (λ l c. r ≡ (sameName (ocpRow (now (line .entry)) .name) name && spec.applies l c (now (p .entry)) (spid .0) (ocpRow (now (line .entry))))) ⌝ }
 {
-    let own = row.name;
+    let own = name_of(first_column(line));
     if same_name(own, name) {
         return applies(
             plf,
@@ -124,7 +115,7 @@ fn counts(
             pcfrows,
             p,
             spid,
-            row,
+            ocp_of(line),
         );
     }
     false
@@ -157,7 +148,7 @@ fn fill_checks(
     let mut n: usize = 0;
     let mut i: usize = 0;
     while i < rows {
-        let row = ocp_of(line_at(ocp, start_at(starts, i)));
+        let line = line_at(ocp, start_at(starts, i));
         if counts(
             plf,
             plfwords,
@@ -170,8 +161,9 @@ fn fill_checks(
             p,
             spid,
             name,
-            row,
+            line,
         ) {
+            let row = ocp_of(line);
             let low = row.lvalu;
             let high = row.hvalu;
             let check = row.check;

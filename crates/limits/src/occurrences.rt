@@ -1,12 +1,12 @@
 // The occurrences of a parameter in a packet, checked in order.
-use crate::checks::severity_of;
 use crate::scale::Scale;
 use crate::scale::value_on;
-use crate::severity::Progress;
-use crate::severity::after_reading;
-use crate::state::LimitState;
 use crate::step::Stepped;
 use calibration::curve::CurveValue;
+use limit_state::checks::severity_of;
+use limit_state::severity::Progress;
+use limit_state::severity::after_reading;
+use limit_state::state::LimitState;
 use packets::refusal::Refusal;
 use readings::raw::RawValue;
 use readings::raw::raw_of;
@@ -17,8 +17,8 @@ ghost use Rattle.rows.specs.declared.letters.LimitValue.the-variants.{Engineeri
 ghost use Rattle.headers.specs.Header as header;
 ghost use Rattle.readings.specs.RawValues.{saidRaw, rawOf};
 ghost use Rattle.readings.specs.Readings.{withValidity};
-ghost use Rattle.limits.specs.Checks.{severityOf};
-ghost use Rattle.limits.specs.Held.{OfHeld};
+ghost use Rattle.limit_state.specs.Violations.{severityOf};
+ghost use Rattle.limit_state.specs.Held.{OfHeld};
 ghost use Rattle.limits.specs.Values.{occurrences, rawValues, valuesUnder};
 ghost use Rattle.limits.specs.Scale.{valueOn};
 ghost use Rattle.limits.specs.Step.{byValues};

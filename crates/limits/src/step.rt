@@ -2,14 +2,14 @@
 use crate::applying::applying_checks;
 use crate::occurrences::check_occurrences;
 use crate::scale::scale_of;
-use crate::severity::Progress;
-use crate::state::LimitState;
-use crate::state::is_newer;
-use crate::state::is_state;
 use headers::Header;
 use headers::read_header;
 use import::Imported;
 use import::import;
+use limit_state::severity::Progress;
+use limit_state::state::LimitState;
+use limit_state::state::is_newer;
+use limit_state::state::is_state;
 use lines::names::Name;
 use lines::names::name_of;
 use lookup::Space;
@@ -50,8 +50,8 @@ ghost use Rattle.readings.specs.Readings.{located, withValidity};
 ghost use Rattle.readings.specs.Starts.{OfListed};
 ghost use Rattle.limits.specs.Answer.{said};
 ghost use Rattle.readings.specs.RawValues.{rawOf};
-ghost use Rattle.limits.specs.Checks.{severityOf};
-ghost use Rattle.limits.specs.Held.{OfHeld};
+ghost use Rattle.limit_state.specs.Violations.{severityOf};
+ghost use Rattle.limit_state.specs.Held.{OfHeld};
 ghost use Rattle.limits.specs.Values.{occurrences, rawValues, engineering, valuesUnder};
 ghost use Rattle.limits.specs.Time.{timeOf};
 ghost use Rattle.limits.specs.Limited.{rowAt, limitsRow};
@@ -194,7 +194,7 @@ fn step_located(
         &mut highs,
         &mut levels,
     );
-    let valid = validity(
+    let is_valid = validity(
         plf,
         plfwords,
         plfstarts,
@@ -218,7 +218,7 @@ fn step_located(
         p,
         apid,
         count,
-        valid,
+        is_valid,
         ocf,
         state,
         &lows[..checks],

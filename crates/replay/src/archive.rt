@@ -8,7 +8,7 @@ use files::archive::Next;
 use files::archive::next_packet;
 use files::archive::skip;
 use files::errors::say_error;
-use limits::state::LimitState;
+use limit_state::state::LimitState;
 use lines::columns::part;
 use tables::TABLES;
 use words::refusals::say_refused;

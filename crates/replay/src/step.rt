@@ -1,7 +1,7 @@
 // One packet offered to the limit step, and the line for it.
 use fields::field::Unsigned;
 use fields::field::read_unsigned;
-use limits::state::LimitState;
+use limit_state::state::LimitState;
 use limits::step::Stepped;
 use limits::step::limit_step_by;
 use packets::refusal::Refusal;

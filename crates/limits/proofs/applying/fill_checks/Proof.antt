@@ -1,14 +1,16 @@
 -- The invariant: with the rows left, the arrays are as they were with all checks that count.
-use mathlib.Core.Path.{_≡_, refl}
+use mathlib.Core.Path.{_≡_, refl, ap, _∙_}
 use mir.Facts.{toZ-ofZ}
 use mir.Val.{SFits, toZ, ofZ}
 use mir.Syntax.{w64}
 use borrow.Author.Needs.{needs}
 use Prim.Native.Nat.{_-_, _≤_}
 use native.Mathlib.Omega.{arith}
+use Rattle.rows.specs.declared.records.OcpRow.{OcpRow}
 use Rattle.readings.specs.Starts.{OfListed}
+use Rattle.limit_state.specs.Held.{levelOf}
 use Rattle.limits.specs.Checks as spec
-use Rattle.limits.specs.Held.{Room, OfStarts}
+use Rattle.limits.specs.Filled.{Room, OfStarts}
 use Rattle.limits.proofs.ApplyingLaws.{Counting, count-start, count-more, count-other, count-done, room-more}
 use Rattle.limits.proofs.applying.fill_checks.Statement.{statement}
 use Rattle.limits.proofs.applying.fill_checks.Tie as tie
@@ -31,11 +33,11 @@ start-at-requires c κs = tt
 line-at-requires : tie.Need-line-at-requires Inv-loop μ-loop
 line-at-requires c κs = tt
 
-ocp-of-requires : tie.Need-ocp-of-requires Inv-loop μ-loop
-ocp-of-requires c κs = tt
-
 counts-requires : tie.Need-counts-requires Inv-loop μ-loop
 counts-requires c κs = tt
+
+ocp-of-requires : tie.Need-ocp-of-requires Inv-loop μ-loop
+ocp-of-requires c κs = tt
 
 mul-low : tie.Need-mul-low Inv-loop μ-loop
 mul-low c = omega arith
@@ -65,31 +67,33 @@ loop-less : tie.Need-loop-less Inv-loop μ-loop
 loop-less c = omega arith
 
 -- the two integers passed their words unchanged
-low-word : (c : tie.After-level-of Inv-loop μ-loop) → (let z = c .before .before .before .before .before .ocp-of .result .lvalu in toZ w64 (ofZ w64 z) ≡ z)
+low-word : (c : tie.After-level-of Inv-loop μ-loop) → (let z = c .before .before .before .ocp-of .result .lvalu in toZ w64 (ofZ w64 z) ≡ z)
 low-word c =
-    let f : SFits w64 (c .before .before .before .before .before .ocp-of .result .lvalu) = search needs in
+    let f : SFits w64 (c .before .before .before .ocp-of .result .lvalu) = search needs in
     toZ-ofZ f
 
-high-word : (c : tie.After-level-of Inv-loop μ-loop) → (let z = c .before .before .before .before .before .ocp-of .result .hvalu in toZ w64 (ofZ w64 z) ≡ z)
+high-word : (c : tie.After-level-of Inv-loop μ-loop) → (let z = c .before .before .before .ocp-of .result .hvalu in toZ w64 (ofZ w64 z) ≡ z)
 high-word c =
-    let f : SFits w64 (c .before .before .before .before .before .ocp-of .result .hvalu) = search needs in
+    let f : SFits w64 (c .before .before .before .ocp-of .result .hvalu) = search needs in
     toZ-ofZ f
 
 loop-again : tie.Need-loop-again Inv-loop μ-loop
 loop-again c =
-    let i = c .before .before .before in
+    let o = c .before .before .before in
+    let i = o .before in
     let k = i .before in
-    let r = k .before in
-    let a = r .before .before in
+    let a = k .before .before in
     let t = a .before in (
       omega arith,
       omega arith,
       t .before .loop .inv .2,
       room-more _ _ _ (omega arith) (t .before .loop .inv .3),
-      λ x y l d o told.
-          count-more _ _ told (t .loop-test .taken) (a .start-at .ensures) (r .before .line-at .ensures) (r .ocp-of .ensures) (k .counts .ensures x y l d)
-          (t .before .loop .inv .4 x y l d o told)
-          (i .if1 .taken) (low-word c) (high-word c) (c .level-of .ensures),
+      λ x y l d rs told.
+          let row = o .ocp-of .ensures in
+          count-more _ _ told (t .loop-test .taken) (a .start-at .ensures) (k .before .line-at .ensures) refl (k .counts .ensures x y l d)
+          (t .before .loop .inv .4 x y l d rs told)
+          (i .if1 .taken) (low-word c ∙ ap (λ (r : OcpRow). r .lvalu) row) (high-word c ∙ ap (λ (r : OcpRow). r .hvalu) row)
+          (c .level-of .ensures ∙ ap (λ (r : OcpRow). levelOf (r .check)) row),
     )
 
 add-i-2 : tie.Need-add-i-2 Inv-loop μ-loop
@@ -101,16 +105,15 @@ loop-less-2 c = omega arith
 loop-again-2 : tie.Need-loop-again-2 Inv-loop μ-loop
 loop-again-2 c =
     let k = c .before in
-    let r = k .before in
-    let a = r .before .before in
+    let a = k .before .before in
     let t = a .before in (
       omega arith,
       omega arith,
       t .before .loop .inv .2,
       t .before .loop .inv .3,
-      λ x y l d o told.
-          count-other _ _ told (t .loop-test .taken) (a .start-at .ensures) (r .before .line-at .ensures) (r .ocp-of .ensures) (k .counts .ensures x y l d)
-          (t .before .loop .inv .4 x y l d o told)
+      λ x y l d rs told.
+          count-other _ _ told (t .loop-test .taken) (a .start-at .ensures) (k .before .line-at .ensures) refl (k .counts .ensures x y l d)
+          (t .before .loop .inv .4 x y l d rs told)
           (c .if1 .left),
     )
 
@@ -126,8 +129,8 @@ fill-checks-spec =
     loop-holds
     start-at-requires
     line-at-requires
-    ocp-of-requires
     counts-requires
+    ocp-of-requires
     mul-low
     element-set-from-low
     mul-high

@@ -11,8 +11,8 @@ use mir.Syntax.{w64}
 use borrow.Author.Needs.{needs}
 use Rattle.rows.specs.Records.{plfRow, pcfRow}
 use Rattle.readings.specs.RawValues.{rawOf}
-use Rattle.limits.specs.Checks.{severityOf}
-use Rattle.limits.specs.Held.{OfHeld}
+use Rattle.limit_state.specs.Violations.{severityOf}
+use Rattle.limit_state.specs.Held.{OfHeld}
 use Rattle.limits.specs.Values.{are}
 use Rattle.limits.specs.Scale.{valueOn}
 use Rattle.limits.specs.Answer.{said}

@@ -7,7 +7,7 @@ use borrow.Author.Needs.{needs}
 use Rattle.calibration.specs.Curve as curve
 use Rattle.calibration.specs.declared.curve.CurveValue.{CurveValue}
 use Rattle.limits.specs.Scale.{valueOn}
-use Rattle.limits.specs.Checks.{severityOf}
+use Rattle.limit_state.specs.Violations.{severityOf}
 use Rattle.limits.proofs.ScaleLaws.{value-said}
 use Rattle.limits.proofs.PassLaws.{after-number, after-off, after-beyond, after-free}
 use Rattle.limits.proofs.occurrences.check_value.Statement.{statement}

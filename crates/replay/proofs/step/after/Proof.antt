@@ -2,7 +2,7 @@
 use mathlib.Core.Path.{_≡_, sym, ap}
 use Rattle.limits.specs.Answer.{said}
 use Rattle.limits.specs.Step.{stateAfter}
-use Rattle.limits.specs.declared.state.LimitState.{LimitState}
+use Rattle.limit_state.specs.declared.state.LimitState.{LimitState}
 use Rattle.limits.specs.declared.step.Stepped.{Stepped}
 use borrow.Author.Needs.{needs}
 use Rattle.replay.proofs.step.after.Statement.{statement}

@@ -1,0 +1,4 @@
+pub mod State
+pub mod Severity
+pub mod Violations
+pub mod Held

@@ -1,0 +1,4 @@
+// The limit state of a parameter: which packets it takes, and how readings change it.
+pub mod checks;
+pub mod severity;
+pub mod state;
