@@ -9,7 +9,7 @@ use lib.Dec.{ltb}
 use lib.ListN.{length, getD, set, take, drop, length-set, length-map, length-append, drop-of-length-le, List·getD-append, List·getD-eq-default}
 use borrow.Author.Tests.{ltb-true, ltb-false}
 use Rattle.laws.proofs.Cases.{bool-cases}
-use lib.Seq.{sets, length-sets, sets-eq, getD-set-same, getD-set-other}
+use lib.Seq.{sets, sets-eq, getD-set-same, getD-set-other}
 use Rattle.laws.proofs.Lists.{split, map-at}
 use Rattle.lines.specs.Lines.{Line, linesOf, nextLine}
 use Rattle.lines.specs.declared.walk.NextLine.{NextLine}
@@ -24,7 +24,7 @@ use Rattle.verdicts.proofs.EntryLaws.{rows-before-next}
 use Rattle.digests.specs.Digest.{digestOf}
 use Rattle.digests.specs.declared.records.Digest.{Digest}
 use Rattle.tables.proofs.SizeLaws.{few}
-use Rattle.import.specs.Rows.{KeptRow, keptOf, keptFrom, keptRows, heldOf, Filled, Bytes, noKeptRow, Store, Room, SameLengths, putRow, putRows, KeptTable, KeptAll}
+use Rattle.import.specs.Rows.{KeptRow, keptOf, keptFrom, keptRows, heldOf, Filled, Bytes, noKeptRow, Store, putRow, putRows, KeptTable, KeptAll}
 
 -- The rows that are kept
 
@@ -75,13 +75,6 @@ module _ (f : Store → List ℕ) (w : KeptRow → ℕ) (one : (s : Store) (at :
   array-is s at [] = refl
   array-is s at (r ∷ rows) = array-is (putRow s at r) (suc at) rows ∙ ap (λ (l : List ℕ). sets l (suc at) (map w rows)) (one s at r)
 
-  array-length : (s : Store) (at : ℕ) (rows : List KeptRow) → length (f (putRows s at rows)) ≡ length (f s)
-  array-length s at rows = ap length (array-is s at rows) ∙ length-sets (f s) at (map w rows)
-
-  -- arrays that are the same once rows are stored are equally long
-  array-same : (s₀ s : Store) (k at : ℕ) (us vs : List KeptRow) → putRows s at us ≡ putRows s₀ k vs → length (f s) ≡ length (f s₀)
-  array-same s₀ s k at us vs e = sym (array-length s at us) ∙ ap (λ (x : Store). length (f x)) e ∙ array-length s₀ k vs
-
   -- each row's word stands at its place
   array-at : (s : Store) (rows : List KeptRow) → length rows ≤ length (f s) → (j : ℕ) → j < length rows → getD (f (putRows s 0 rows)) j 0 ≡ w (getD rows j noKeptRow)
   array-at s rows room j h =
@@ -90,46 +83,22 @@ module _ (f : Store → List ℕ) (w : KeptRow → ℕ) (one : (s : Store) (at :
       let e : f (putRows s 0 rows) ≡ map w rows ++ drop (0 + length (map w rows)) (f s) = array-is s 0 rows ∙ sets-eq (map w rows) (f s) 0 (omega arith) in
       ap (λ (xs : List ℕ). getD xs j 0) e ∙ List·getD-append (map w rows) (drop (0 + length (map w rows)) (f s)) 0 j l ∙ map-at w rows j noKeptRow 0 h
 
--- and so are all fourteen
-pub same-lengths : (s₀ s : Store) (k at : ℕ) (us vs : List KeptRow) → putRows s at us ≡ putRows s₀ k vs → SameLengths s₀ s
-unfolding putRow
-same-lengths s₀ s k at us vs e =
-    record {
-      own = array-same (λ s. s .own) (λ r. r .digest .verdict) (λ s at r. refl) s₀ s k at us vs e;
-      kind = array-same (λ s. s .kind) (λ r. r .table) (λ s at r. refl) s₀ s k at us vs e;
-      held = array-same (λ s. s .held) (λ r. heldOf (r .digest)) (λ s at r. refl) s₀ s k at us vs e;
-      ka = array-same (λ s. s .ka) (λ r. r .digest .key .a) (λ s at r. refl) s₀ s k at us vs e;
-      kb = array-same (λ s. s .kb) (λ r. r .digest .key .b) (λ s at r. refl) s₀ s k at us vs e;
-      kc = array-same (λ s. s .kc) (λ r. r .digest .key .c) (λ s at r. refl) s₀ s k at us vs e;
-      oa = array-same (λ s. s .oa) (λ r. r .digest .one .a) (λ s at r. refl) s₀ s k at us vs e;
-      ob = array-same (λ s. s .ob) (λ r. r .digest .one .b) (λ s at r. refl) s₀ s k at us vs e;
-      ta = array-same (λ s. s .ta) (λ r. r .digest .two .a) (λ s at r. refl) s₀ s k at us vs e;
-      tb = array-same (λ s. s .tb) (λ r. r .digest .two .b) (λ s at r. refl) s₀ s k at us vs e;
-      oc = array-same (λ s. s .oc) (λ r. r .digest .one .code) (λ s at r. refl) s₀ s k at us vs e;
-      tc = array-same (λ s. s .tc) (λ r. r .digest .two .code) (λ s at r. refl) s₀ s k at us vs e;
-      number = array-same (λ s. s .number) (λ r. r .digest .number) (λ s at r. refl) s₀ s k at us vs e;
-      marks = array-same (λ s. s .marks) (λ r. r .digest .marks) (λ s at r. refl) s₀ s k at us vs e;
-    }
-
--- arrays that are as long have the same room
-pub same-room : (s₀ s : Store) → SameLengths s₀ s → Room s₀ → Room s
-same-room s₀ s l r =
-    record {
-      own = rw (l .own) (r .own);
-      kind = rw (l .kind) (r .kind);
-      held = rw (l .held) (r .held);
-      ka = rw (l .ka) (r .ka);
-      kb = rw (l .kb) (r .kb);
-      kc = rw (l .kc) (r .kc);
-      oa = rw (l .oa) (r .oa);
-      ob = rw (l .ob) (r .ob);
-      ta = rw (l .ta) (r .ta);
-      tb = rw (l .tb) (r .tb);
-      oc = rw (l .oc) (r .oc);
-      tc = rw (l .tc) (r .tc);
-      number = rw (l .number) (r .number);
-      marks = rw (l .marks) (r .marks);
-    }
+-- each array has a place for each row that there may be
+pub record Room (s : Store) : Type 0 where
+  pub own : 10240 ≤ length (s .own)
+  pub kind : 10240 ≤ length (s .kind)
+  pub held : 10240 ≤ length (s .held)
+  pub ka : 10240 ≤ length (s .ka)
+  pub kb : 10240 ≤ length (s .kb)
+  pub kc : 10240 ≤ length (s .kc)
+  pub oa : 10240 ≤ length (s .oa)
+  pub ob : 10240 ≤ length (s .ob)
+  pub ta : 10240 ≤ length (s .ta)
+  pub tb : 10240 ≤ length (s .tb)
+  pub oc : 10240 ≤ length (s .oc)
+  pub tc : 10240 ≤ length (s .tc)
+  pub number : 10240 ≤ length (s .number)
+  pub marks : 10240 ≤ length (s .marks)
 
 -- rows stored from the front are filled in
 pub put-filled : (s : Store) (rows : List KeptRow) → length rows ≤ 10240 → Room s
@@ -166,12 +135,6 @@ module _ (table : Table) (t from : ℕ) (text : List ℕ) (s₀ : Store) where
   keep-start = record { within = omega arith; count = refl; left = refl }
 
   module _ (s : Store) (at a : ℕ) (k : Keeping table t from text s₀ s at a) where
-    pub keep-lengths : SameLengths s₀ s
-    keep-lengths = same-lengths s₀ s _ _ _ _ (k .left)
-
-    pub keep-room : Room s₀ → Room s
-    keep-room = same-room s₀ s keep-lengths
-
     -- there is a place for the next line
     pub keep-below : (n : NextLine) → n ≡ nextLine text a → a < length text → at < from + length (linesOf text)
     keep-below n e h = omega (arith, k .count, ap length (lines-next text a n e h))
@@ -243,12 +206,6 @@ module _ (texts : List (List ℕ)) (ten : length texts ≡ 10) (s₀ : Store) wh
       }
 
   module _ (s : Store) (starts : List ℕ) (rows t : ℕ) (p : Passing texts s₀ s starts rows t) where
-    pub pass-lengths : SameLengths s₀ s
-    pass-lengths = same-lengths s₀ s _ _ _ _ (p .left)
-
-    pub pass-room : Room s₀ → Room s
-    pass-room = same-room s₀ s pass-lengths
-
     -- there is a place for each line of the next table
     pub pass-fits : tooManyRows texts ≡ 0 → t < 10 → rows + length (linesOf (getD texts t [])) ≤ 10240
     pass-fits m h = omega (arith, p .most, few texts t (omega arith) m)
@@ -274,7 +231,7 @@ module _ (texts : List (List ℕ)) (ten : length texts ≡ 10) (s₀ : Store) wh
           bytes = λ u i l. up-to (λ (u : ℕ). getD (getD texts u []) i 0 < 256) t (λ v b. p .bytes v i b) (k .bytes i) u (omega arith);
         }
 
-    pub pass-end : Room s₀ → 10 ≤ t → KeptAll texts starts rows s₀ s
+    pub pass-end : Room s₀ → 10 ≤ t → KeptAll texts starts rows s
     unfolding putRows
     pass-end room h =
         let z : t ≡ 10 = omega (arith, p .within) in
@@ -287,5 +244,4 @@ module _ (texts : List (List ℕ)) (ten : length texts ≡ 10) (s₀ : Store) wh
           starts = λ u l. p .starts u (omega arith);
           filled = λ j l. rw e (put-filled s₀ (keptRows texts) (omega (arith, p .most)) room j (omega arith));
           bytes = all-bytes texts ten (λ u i l. p .bytes u i (omega arith));
-          lengths = pass-lengths;
         }

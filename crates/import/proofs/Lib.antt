@@ -19,6 +19,7 @@ pub mod KeyTies
 pub mod LinkLaws
 pub mod MetLaws
 pub mod NameTies
+pub mod PartLaws
 pub mod ReadLaws
 pub mod ResolveLaws
 pub mod RowTies

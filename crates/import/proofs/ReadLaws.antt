@@ -12,6 +12,3 @@ past-end s i h = sym (List·getD-eq-default s 0 h)
 
 pub half-place : (at : ℕ) → at < 10240 → Fits w64 (at * 2)
 half-place at h = search needs
-
-pub word-place : (at : ℕ) → at < 10240 → Fits w64 (at * 8)
-word-place at h = search needs

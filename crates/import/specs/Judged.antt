@@ -8,8 +8,15 @@ use lib.Seq.{sets}
 use Rattle.verdicts.specs.Answer as answer
 use Rattle.verdicts.specs.Entries.{allRows}
 use Rattle.verdicts.specs.Verdicts.{verdicts}
+use Rattle.import.specs.Model.{judgedVerdicts}
+use Rattle.import.specs.Rows.{Store}
 use Rattle.import.specs.declared.Imported.{Imported}
 use Rattle.import.specs.declared.Imported.the-variants.{Done, TooLong, TooManyRows, TooFewCells}
+
+-- the verdicts of the first n rows, by the arrays that keep them
+abbrev pub verdictsOf : Store → List ℕ → ℕ → List ℕ
+verdictsOf s starts n =
+    judgedVerdicts (s .own) (s .kind) starts (s .held) (s .ka) (s .kb) (s .kc) (s .oa) (s .ob) (s .ta) (s .tb) (s .oc) (s .tc) (s .number) (s .marks) n
 
 -- the cells hold the verdicts of all rows where there are enough of them, and else what they held
 unfoldable pub judgedCells : List (List ℕ) → List ℕ → List ℕ

@@ -1,10 +1,10 @@
 -- The rows as an import keeps them: in table order, each with the number of its table and its digest.
-use Prim.Native.Nat.{ℕ, suc, _+_, _≤_, _<_}
+use Prim.Native.Nat.{ℕ, suc, _+_, _*_, _≤_, _<_}
 use mathlib.Core.Path.{_≡_}
 use mathlib.Core.Bool.{cond}
 use mathlib.Core.List.{List, [], _∷_, _++_}
 use lib.Dec.{eqb}
-use lib.ListN.{length, getD, set}
+use lib.ListN.{length, getD, set, take, drop}
 use Rattle.lines.specs.Lines.{Line, linesOf}
 use Rattle.schemas.specs.declared.Table.{Table}
 use Rattle.verdicts.specs.Entries.{carried}
@@ -115,22 +115,20 @@ store own′ kind′ held′ ka′ kb′ kc′ oa′ ob′ ta′ tb′ oc′ tc�
       marks = marks′;
     }
 
--- each array has a place for each row that there may be
-pub record Room (s : Store) : Type 0 where
-  pub own : 10240 ≤ length (s .own)
-  pub kind : 10240 ≤ length (s .kind)
-  pub held : 10240 ≤ length (s .held)
-  pub ka : 10240 ≤ length (s .ka)
-  pub kb : 10240 ≤ length (s .kb)
-  pub kc : 10240 ≤ length (s .kc)
-  pub oa : 10240 ≤ length (s .oa)
-  pub ob : 10240 ≤ length (s .ob)
-  pub ta : 10240 ≤ length (s .ta)
-  pub tb : 10240 ≤ length (s .tb)
-  pub oc : 10240 ≤ length (s .oc)
-  pub tc : 10240 ≤ length (s .tc)
-  pub number : 10240 ≤ length (s .number)
-  pub marks : 10240 ≤ length (s .marks)
+-- part k of a lent array, which has 10240 places for each
+unfoldable pub part : ℕ → List ℕ → List ℕ
+part k xs = take 10240 (drop (k * 10240) xs)
+
+-- the three lent arrays have all their places
+pub record Sized (own′ bytes′ words′ : List ℕ) : Type 0 where
+  pub own : length own′ ≡ 10240
+  pub bytes : length bytes′ ≡ 51200
+  pub words : length words′ ≡ 81920
+
+-- the fourteen arrays as the first pass has them: in three that are lent
+unfoldable pub storeOf : List ℕ → List ℕ → List ℕ → Store
+storeOf own bytes words =
+    store own (part 0 bytes) (part 1 bytes) (part 0 words) (part 1 words) (part 2 words) (part 3 words) (part 4 words) (part 5 words) (part 6 words) (part 2 bytes) (part 3 bytes) (part 7 words) (part 4 bytes)
 
 -- the arrays with the words of a row stored at a place
 unfoldable pub putRow : Store → ℕ → KeptRow → Store
@@ -163,29 +161,11 @@ pub record KeptTable (table : Table) (t from : ℕ) (text : List ℕ) (before af
   pub stored : after ≡ putRows before from (keptOf table t (linesOf text))
   pub bytes : (i : ℕ) → getD text i 0 < 256
 
--- each array is as long as it was
-pub record SameLengths (before after : Store) : Type 0 where
-  pub own : length (after .own) ≡ length (before .own)
-  pub kind : length (after .kind) ≡ length (before .kind)
-  pub held : length (after .held) ≡ length (before .held)
-  pub ka : length (after .ka) ≡ length (before .ka)
-  pub kb : length (after .kb) ≡ length (before .kb)
-  pub kc : length (after .kc) ≡ length (before .kc)
-  pub oa : length (after .oa) ≡ length (before .oa)
-  pub ob : length (after .ob) ≡ length (before .ob)
-  pub ta : length (after .ta) ≡ length (before .ta)
-  pub tb : length (after .tb) ≡ length (before .tb)
-  pub oc : length (after .oc) ≡ length (before .oc)
-  pub tc : length (after .tc) ≡ length (before .tc)
-  pub number : length (after .number) ≡ length (before .number)
-  pub marks : length (after .marks) ≡ length (before .marks)
-
 -- all rows are kept: how many there are, where each table's start, and their words
-pub record KeptAll (texts : List (List ℕ)) (starts′ : List ℕ) (rows′ : ℕ) (before after : Store) : Type 0 where
+pub record KeptAll (texts : List (List ℕ)) (starts′ : List ℕ) (rows′ : ℕ) (after : Store) : Type 0 where
   pub rows : rows′ ≡ length (keptRows texts)
   pub count : rows′ ≡ rowsBefore texts 10
   pub most : rows′ ≤ 10240
   pub starts : Starts texts starts′
   pub filled : Filled (keptRows texts) rows′ (after .own) (after .kind) (after .held) (after .ka) (after .kb) (after .kc) (after .oa) (after .ob) (after .ta) (after .tb) (after .oc) (after .tc) (after .number) (after .marks) noKeptRow
   pub bytes : Bytes texts
-  pub lengths : SameLengths before after

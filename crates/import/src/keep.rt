@@ -15,7 +15,42 @@ ghost use Rattle.lines.specs.Lines.{linesOf};
 ghost use Rattle.schemas.specs.declared.Table.the-variants.{Ocp};
 ghost use Rattle.verdicts.specs.Entries.{carried};
 ghost use Rattle.verdicts.specs.Answer.{tooManyRows};
-ghost use Rattle.import.specs.Rows.{store, Room, putRow, KeptTable, KeptAll};
+ghost use Rattle.import.specs.Rows.{Sized, storeOf, putRow, KeptTable, KeptAll};
+
+// The most rows there may be.
+pub(crate) const MOST: usize = 10240;
+
+// Five arrays lie in the bytes of the rows: where each starts.
+pub(crate) const BYTES: usize = 51200;
+
+pub(crate) const KIND: usize = 0;
+
+pub(crate) const HELD: usize = 10240;
+
+pub(crate) const OC: usize = 20480;
+
+pub(crate) const TC: usize = 30720;
+
+pub(crate) const MARKS: usize = 40960;
+
+// And eight in their words.
+pub(crate) const WORDS: usize = 81920;
+
+pub(crate) const KA: usize = 0;
+
+pub(crate) const KB: usize = 10240;
+
+pub(crate) const KC: usize = 20480;
+
+pub(crate) const OA: usize = 30720;
+
+pub(crate) const OB: usize = 40960;
+
+pub(crate) const TA: usize = 51200;
+
+pub(crate) const TB: usize = 61440;
+
+pub(crate) const NUMBER: usize = 71680;
 
 // Where each table's rows start, and the last one's end; and how many rows there are.
 pub(crate) struct Kept {
@@ -30,44 +65,34 @@ fn held_of(verdict: u16, keyed: u8) -> u8
     if verdict == 0 { keyed } else { 0 }
 }
 
-// The words of a row, stored.
+// The words of a row, stored at its place in each array.
 fn keep_row(
     d: Digest,
     t: u8,
     at: usize,
-    own: &mut [u16],
-    kind: &mut [u8],
-    held: &mut [u8],
-    ka: &mut [u64],
-    kb: &mut [u64],
-    kc: &mut [u64],
-    oa: &mut [u64],
-    ob: &mut [u64],
-    ta: &mut [u64],
-    tb: &mut [u64],
-    oc: &mut [u8],
-    tc: &mut [u8],
-    number: &mut [u64],
-    marks: &mut [u8],
+    own: &mut [u16; MOST],
+    bytes: &mut [u8; BYTES],
+    words: &mut [u64; WORDS],
 )
     requires { ⌜ at < 10240 ⌝ }
-    requires { ⌜ Room (store (now own) (now kind) (now held) (now ka) (now kb) (now kc) (now oa) (now ob) (now ta) (now tb) (now oc) (now tc) (now number) (now marks)) ⌝ }
-    ensures { λ r. ⌜ store (now (own .exit)) (now (kind .exit)) (now (held .exit)) (now (ka .exit)) (now (kb .exit)) (now (kc .exit)) (now (oa .exit)) (now (ob .exit)) (now (ta .exit)) (now (tb .exit)) (now (oc .exit)) (now (tc .exit)) (now (number .exit)) (now (marks .exit)) ≡ putRow (store (now (own .entry)) (now (kind .entry)) (now (held .entry)) (now (ka .entry)) (now (kb .entry)) (now (kc .entry)) (now (oa .entry)) (now (ob .entry)) (now (ta .entry)) (now (tb .entry)) (now (oc .entry)) (now (tc .entry)) (now (number .entry)) (now (marks .entry))) at record { table = t; digest = d } ⌝ }
+    requires { ⌜ Sized (now own) (now bytes) (now words) ⌝ }
+    ensures { λ r. ⌜ storeOf (now (own .exit)) (now (bytes .exit)) (now (words .exit)) ≡ putRow (storeOf (now (own .entry)) (now (bytes .entry)) (now (words .entry))) at record { table = t; digest = d } ⌝ }
+    ensures { λ r. ⌜ Sized (now (own .exit)) (now (bytes .exit)) (now (words .exit)) ⌝ }
 {
     own[at] = d.verdict;
-    kind[at] = t;
-    held[at] = held_of(d.verdict, d.keyed);
-    ka[at] = d.key.a;
-    kb[at] = d.key.b;
-    kc[at] = d.key.c;
-    oa[at] = d.one.a;
-    ob[at] = d.one.b;
-    ta[at] = d.two.a;
-    tb[at] = d.two.b;
-    oc[at] = d.one.code;
-    tc[at] = d.two.code;
-    number[at] = d.number as u64;
-    marks[at] = d.marks;
+    bytes[KIND + at] = t;
+    bytes[HELD + at] = held_of(d.verdict, d.keyed);
+    bytes[OC + at] = d.one.code;
+    bytes[TC + at] = d.two.code;
+    bytes[MARKS + at] = d.marks;
+    words[KA + at] = d.key.a;
+    words[KB + at] = d.key.b;
+    words[KC + at] = d.key.c;
+    words[OA + at] = d.one.a;
+    words[OB + at] = d.one.b;
+    words[TA + at] = d.two.a;
+    words[TB + at] = d.two.b;
+    words[NUMBER + at] = d.number as u64;
 }
 
 // The rows of a table, stored from a place on; the place after the last.
@@ -75,24 +100,14 @@ fn keep_table(
     table: &[u8],
     t: usize,
     from: usize,
-    own: &mut [u16],
-    kind: &mut [u8],
-    held: &mut [u8],
-    ka: &mut [u64],
-    kb: &mut [u64],
-    kc: &mut [u64],
-    oa: &mut [u64],
-    ob: &mut [u64],
-    ta: &mut [u64],
-    tb: &mut [u64],
-    oc: &mut [u8],
-    tc: &mut [u8],
-    number: &mut [u64],
-    marks: &mut [u8],
+    own: &mut [u16; MOST],
+    bytes: &mut [u8; BYTES],
+    words: &mut [u64; WORDS],
 ) -> usize
     requires { ⌜ (t < 10) × (from + length (linesOf (now table)) ≤ 10240) ⌝ }
-    requires { ⌜ Room (store (now own) (now kind) (now held) (now ka) (now kb) (now kc) (now oa) (now ob) (now ta) (now tb) (now oc) (now tc) (now number) (now marks)) ⌝ }
-    ensures { λ r. ⌜ KeptTable (getD carried t Ocp) t from (now (table .entry)) (store (now (own .entry)) (now (kind .entry)) (now (held .entry)) (now (ka .entry)) (now (kb .entry)) (now (kc .entry)) (now (oa .entry)) (now (ob .entry)) (now (ta .entry)) (now (tb .entry)) (now (oc .entry)) (now (tc .entry)) (now (number .entry)) (now (marks .entry))) (store (now (own .exit)) (now (kind .exit)) (now (held .exit)) (now (ka .exit)) (now (kb .exit)) (now (kc .exit)) (now (oa .exit)) (now (ob .exit)) (now (ta .exit)) (now (tb .exit)) (now (oc .exit)) (now (tc .exit)) (now (number .exit)) (now (marks .exit))) r ⌝ }
+    requires { ⌜ Sized (now own) (now bytes) (now words) ⌝ }
+    ensures { λ r. ⌜ KeptTable (getD carried t Ocp) t from (now (table .entry)) (storeOf (now (own .entry)) (now (bytes .entry)) (now (words .entry))) (storeOf (now (own .exit)) (now (bytes .exit)) (now (words .exit))) r ⌝ }
+    ensures { λ r. ⌜ Sized (now (own .exit)) (now (bytes .exit)) (now (words .exit)) ⌝ }
 {
     let mut at = from;
     let mut a: usize = 0;
@@ -100,25 +115,7 @@ fn keep_table(
         let line = next_line(table, a);
         let e = line.end;
         let d = digest(kind_of(t), &table[a..e], line.ended);
-        keep_row(
-            d,
-            t as u8,
-            at,
-            own,
-            kind,
-            held,
-            ka,
-            kb,
-            kc,
-            oa,
-            ob,
-            ta,
-            tb,
-            oc,
-            tc,
-            number,
-            marks,
-        );
+        keep_row(d, t as u8, at, own, bytes, words);
         at += 1;
         a = line.next;
     }
@@ -139,24 +136,14 @@ fn start_next(kept: Kept, t: usize, rows: usize) -> Kept
 // The rows of the ten tables, stored.
 pub(crate) fn keep_tables(
     tables: [&[u8]; TABLES],
-    own: &mut [u16],
-    kind: &mut [u8],
-    held: &mut [u8],
-    ka: &mut [u64],
-    kb: &mut [u64],
-    kc: &mut [u64],
-    oa: &mut [u64],
-    ob: &mut [u64],
-    ta: &mut [u64],
-    tb: &mut [u64],
-    oc: &mut [u8],
-    tc: &mut [u8],
-    number: &mut [u64],
-    marks: &mut [u8],
+    own: &mut [u16; MOST],
+    bytes: &mut [u8; BYTES],
+    words: &mut [u64; WORDS],
 ) -> Kept
     requires { ⌜ tooManyRows (map now tables) ≡ 0 ⌝ }
-    requires { ⌜ Room (store (now own) (now kind) (now held) (now ka) (now kb) (now kc) (now oa) (now ob) (now ta) (now tb) (now oc) (now tc) (now number) (now marks)) ⌝ }
-    ensures { λ r. ⌜ KeptAll (map now (tables .entry)) (r .starts) (r .rows) (store (now (own .entry)) (now (kind .entry)) (now (held .entry)) (now (ka .entry)) (now (kb .entry)) (now (kc .entry)) (now (oa .entry)) (now (ob .entry)) (now (ta .entry)) (now (tb .entry)) (now (oc .entry)) (now (tc .entry)) (now (number .entry)) (now (marks .entry))) (store (now (own .exit)) (now (kind .exit)) (now (held .exit)) (now (ka .exit)) (now (kb .exit)) (now (kc .exit)) (now (oa .exit)) (now (ob .exit)) (now (ta .exit)) (now (tb .exit)) (now (oc .exit)) (now (tc .exit)) (now (number .exit)) (now (marks .exit))) ⌝ }
+    requires { ⌜ Sized (now own) (now bytes) (now words) ⌝ }
+    ensures { λ r. ⌜ KeptAll (map now (tables .entry)) (r .starts) (r .rows) (storeOf (now (own .exit)) (now (bytes .exit)) (now (words .exit))) ⌝ }
+    ensures { λ r. ⌜ Sized (now (own .exit)) (now (bytes .exit)) (now (words .exit)) ⌝ }
 {
     let mut kept = Kept {
         starts: [0; 11],
@@ -164,25 +151,7 @@ pub(crate) fn keep_tables(
     };
     let mut t: usize = 0;
     while t < TABLES {
-        let rows = keep_table(
-            table_at(tables, t),
-            t,
-            kept.rows,
-            own,
-            kind,
-            held,
-            ka,
-            kb,
-            kc,
-            oa,
-            ob,
-            ta,
-            tb,
-            oc,
-            tc,
-            number,
-            marks,
-        );
+        let rows = keep_table(table_at(tables, t), t, kept.rows, own, bytes, words);
         t += 1;
         kept = start_next(kept, t, rows);
     }

@@ -1,174 +1,173 @@
--- One store into each array.
-use Rattle.import.specs.Rows.{putRow}
-use native.Mathlib.Nat.{le-trans}
-use lib.ListN.{length-set}
+-- One store into each array, in its part of those lent.
+use lib.Dec.{lit≤}
 use borrow.Author.Needs.{needs}
-use Rattle.import.proofs.ReadLaws.{half-place, word-place}
+use Rattle.import.proofs.ReadLaws.{half-place}
+use Rattle.import.proofs.PartLaws.{place-fits, word-fits, place-in, put-row, put-sized}
 use Rattle.import.proofs.keep.keep_row.Statement.{statement}
 use Rattle.import.proofs.keep.keep_row.Tie as tie
 
 mul-own : tie.Need-mul-own
-mul-own c = half-place _ (c .before .before .before .before .before .before .before .before .before .before .before .before .before .before .pre .0)
+mul-own c = half-place _ (c .pre .0)
 
-slice-write-own : tie.Need-slice-write-own
-slice-write-own c = le-trans (c .before .before .before .before .before .before .before .before .before .before .before .before .before .before .pre .0) (c .before .before .before .before .before .before .before .before .before .before .before .before .before .before .pre .1 .own)
+element-write-own : tie.Need-element-write-own
+element-write-own c = c .pre .0
 
-slice-write-kind : tie.Need-slice-write-kind
-slice-write-kind c = le-trans (c .before .before .before .before .before .before .before .before .before .before .before .before .before .before .pre .0) (c .before .before .before .before .before .before .before .before .before .before .before .before .before .before .pre .1 .kind)
+add-bytes : tie.Need-add-bytes
+add-bytes c = place-fits 0 _ (c .pre .0) (lit≤ tt)
+
+element-write-bytes : tie.Need-element-write-bytes
+element-write-bytes c = place-in 0 _ (c .pre .0) (lit≤ tt) 51200 (lit≤ tt)
 
 held-of-requires : tie.Need-held-of-requires
 held-of-requires c κs = tt
 
-slice-write-held : tie.Need-slice-write-held
-slice-write-held c = le-trans (c .before .before .before .before .before .before .before .before .before .before .before .before .before .before .before .pre .0) (c .before .before .before .before .before .before .before .before .before .before .before .before .before .before .before .pre .1 .held)
+add-bytes-2 : tie.Need-add-bytes-2
+add-bytes-2 c = place-fits 10240 _ (c .before .pre .0) (lit≤ tt)
 
-mul-ka : tie.Need-mul-ka
-mul-ka c = word-place _ (c .before .before .before .before .before .before .before .before .before .before .before .before .before .before .before .pre .0)
+element-write-bytes-2 : tie.Need-element-write-bytes-2
+element-write-bytes-2 c = place-in 10240 _ (c .before .pre .0) (lit≤ tt) 51200 (lit≤ tt)
 
-slice-write-ka : tie.Need-slice-write-ka
-slice-write-ka c = le-trans (c .before .before .before .before .before .before .before .before .before .before .before .before .before .before .before .pre .0) (c .before .before .before .before .before .before .before .before .before .before .before .before .before .before .before .pre .1 .ka)
+add-bytes-3 : tie.Need-add-bytes-3
+add-bytes-3 c = place-fits 20480 _ (c .before .pre .0) (lit≤ tt)
 
-mul-kb : tie.Need-mul-kb
-mul-kb c = word-place _ (c .before .before .before .before .before .before .before .before .before .before .before .before .before .before .before .pre .0)
+element-write-bytes-3 : tie.Need-element-write-bytes-3
+element-write-bytes-3 c = place-in 20480 _ (c .before .pre .0) (lit≤ tt) 51200 (lit≤ tt)
 
-slice-write-kb : tie.Need-slice-write-kb
-slice-write-kb c = le-trans (c .before .before .before .before .before .before .before .before .before .before .before .before .before .before .before .pre .0) (c .before .before .before .before .before .before .before .before .before .before .before .before .before .before .before .pre .1 .kb)
+add-bytes-4 : tie.Need-add-bytes-4
+add-bytes-4 c = place-fits 30720 _ (c .before .pre .0) (lit≤ tt)
 
-mul-kc : tie.Need-mul-kc
-mul-kc c = word-place _ (c .before .before .before .before .before .before .before .before .before .before .before .before .before .before .before .pre .0)
+element-write-bytes-4 : tie.Need-element-write-bytes-4
+element-write-bytes-4 c = place-in 30720 _ (c .before .pre .0) (lit≤ tt) 51200 (lit≤ tt)
 
-slice-write-kc : tie.Need-slice-write-kc
-slice-write-kc c = le-trans (c .before .before .before .before .before .before .before .before .before .before .before .before .before .before .before .pre .0) (c .before .before .before .before .before .before .before .before .before .before .before .before .before .before .before .pre .1 .kc)
+add-bytes-5 : tie.Need-add-bytes-5
+add-bytes-5 c = place-fits 40960 _ (c .before .pre .0) (lit≤ tt)
 
-mul-oa : tie.Need-mul-oa
-mul-oa c = word-place _ (c .before .before .before .before .before .before .before .before .before .before .before .before .before .before .before .pre .0)
+element-write-bytes-5 : tie.Need-element-write-bytes-5
+element-write-bytes-5 c = place-in 40960 _ (c .before .pre .0) (lit≤ tt) 51200 (lit≤ tt)
 
-slice-write-oa : tie.Need-slice-write-oa
-slice-write-oa c = le-trans (c .before .before .before .before .before .before .before .before .before .before .before .before .before .before .before .pre .0) (c .before .before .before .before .before .before .before .before .before .before .before .before .before .before .before .pre .1 .oa)
+add-words : tie.Need-add-words
+add-words c = place-fits 0 _ (c .before .pre .0) (lit≤ tt)
 
-mul-ob : tie.Need-mul-ob
-mul-ob c = word-place _ (c .before .before .before .before .before .before .before .before .before .before .before .before .before .before .before .pre .0)
+mul-words : tie.Need-mul-words
+mul-words c = word-fits 0 _ (c .before .pre .0) (lit≤ tt)
 
-slice-write-ob : tie.Need-slice-write-ob
-slice-write-ob c = le-trans (c .before .before .before .before .before .before .before .before .before .before .before .before .before .before .before .pre .0) (c .before .before .before .before .before .before .before .before .before .before .before .before .before .before .before .pre .1 .ob)
+element-write-words : tie.Need-element-write-words
+element-write-words c = place-in 0 _ (c .before .pre .0) (lit≤ tt) 81920 (lit≤ tt)
 
-mul-ta : tie.Need-mul-ta
-mul-ta c = word-place _ (c .before .before .before .before .before .before .before .before .before .before .before .before .before .before .before .pre .0)
+add-words-2 : tie.Need-add-words-2
+add-words-2 c = place-fits 10240 _ (c .before .pre .0) (lit≤ tt)
 
-slice-write-ta : tie.Need-slice-write-ta
-slice-write-ta c = le-trans (c .before .before .before .before .before .before .before .before .before .before .before .before .before .before .before .pre .0) (c .before .before .before .before .before .before .before .before .before .before .before .before .before .before .before .pre .1 .ta)
+mul-words-2 : tie.Need-mul-words-2
+mul-words-2 c = word-fits 10240 _ (c .before .pre .0) (lit≤ tt)
 
-mul-tb : tie.Need-mul-tb
-mul-tb c = word-place _ (c .before .before .before .before .before .before .before .before .before .before .before .before .before .before .before .pre .0)
+element-write-words-2 : tie.Need-element-write-words-2
+element-write-words-2 c = place-in 10240 _ (c .before .pre .0) (lit≤ tt) 81920 (lit≤ tt)
 
-slice-write-tb : tie.Need-slice-write-tb
-slice-write-tb c = le-trans (c .before .before .before .before .before .before .before .before .before .before .before .before .before .before .before .pre .0) (c .before .before .before .before .before .before .before .before .before .before .before .before .before .before .before .pre .1 .tb)
+add-words-3 : tie.Need-add-words-3
+add-words-3 c = place-fits 20480 _ (c .before .pre .0) (lit≤ tt)
 
-slice-write-oc : tie.Need-slice-write-oc
-slice-write-oc c = le-trans (c .before .before .before .before .before .before .before .before .before .before .before .before .before .before .before .pre .0) (c .before .before .before .before .before .before .before .before .before .before .before .before .before .before .before .pre .1 .oc)
+mul-words-3 : tie.Need-mul-words-3
+mul-words-3 c = word-fits 20480 _ (c .before .pre .0) (lit≤ tt)
 
-slice-write-tc : tie.Need-slice-write-tc
-slice-write-tc c = le-trans (c .before .before .before .before .before .before .before .before .before .before .before .before .before .before .before .pre .0) (c .before .before .before .before .before .before .before .before .before .before .before .before .before .before .before .pre .1 .tc)
+element-write-words-3 : tie.Need-element-write-words-3
+element-write-words-3 c = place-in 20480 _ (c .before .pre .0) (lit≤ tt) 81920 (lit≤ tt)
 
-cast-number : tie.Need-cast-number
-cast-number c = search needs
+add-words-4 : tie.Need-add-words-4
+add-words-4 c = place-fits 30720 _ (c .before .pre .0) (lit≤ tt)
 
-mul-number : tie.Need-mul-number
-mul-number c = word-place _ (c .before .before .before .before .before .before .before .before .before .before .before .before .before .before .before .before .pre .0)
+mul-words-4 : tie.Need-mul-words-4
+mul-words-4 c = word-fits 30720 _ (c .before .pre .0) (lit≤ tt)
 
-slice-write-number : tie.Need-slice-write-number
-slice-write-number c = le-trans (c .before .before .before .before .before .before .before .before .before .before .before .before .before .before .before .before .pre .0) (c .before .before .before .before .before .before .before .before .before .before .before .before .before .before .before .before .pre .1 .number)
+element-write-words-4 : tie.Need-element-write-words-4
+element-write-words-4 c = place-in 30720 _ (c .before .pre .0) (lit≤ tt) 81920 (lit≤ tt)
 
-slice-write-marks : tie.Need-slice-write-marks
-slice-write-marks c = le-trans (c .before .before .before .before .before .before .before .before .before .before .before .before .before .before .before .before .pre .0) (c .before .before .before .before .before .before .before .before .before .before .before .before .before .before .before .before .pre .1 .marks)
+add-words-5 : tie.Need-add-words-5
+add-words-5 c = place-fits 40960 _ (c .before .pre .0) (lit≤ tt)
 
-same-length : tie.Need-same-length
-same-length c = let s = c .before .before .before .before .before .before .before .before .before .before .before .before .before .before .before .before in length-set (s .args .own .now) (s .args .at) (s .args .d .verdict)
+mul-words-5 : tie.Need-mul-words-5
+mul-words-5 c = word-fits 40960 _ (c .before .pre .0) (lit≤ tt)
 
-same-length-2 : tie.Need-same-length-2
-same-length-2 c = let s = c .before .before .before .before .before .before .before .before .before .before .before .before .before .before .before .before in length-set (s .args .kind .now) (s .args .at) (s .args .t)
+element-write-words-5 : tie.Need-element-write-words-5
+element-write-words-5 c = place-in 40960 _ (c .before .pre .0) (lit≤ tt) 81920 (lit≤ tt)
 
-same-length-3 : tie.Need-same-length-3
-same-length-3 c = let s = c .before .before .before .before .before .before .before .before .before .before .before .before .before .before .before .before in length-set (s .args .held .now) (s .args .at) (c .before .held-of .result)
+add-words-6 : tie.Need-add-words-6
+add-words-6 c = place-fits 51200 _ (c .before .pre .0) (lit≤ tt)
 
-same-length-4 : tie.Need-same-length-4
-same-length-4 c = let s = c .before .before .before .before .before .before .before .before .before .before .before .before .before .before .before .before in length-set (s .args .ka .now) (s .args .at) (s .args .d .key .a)
+mul-words-6 : tie.Need-mul-words-6
+mul-words-6 c = word-fits 51200 _ (c .before .pre .0) (lit≤ tt)
 
-same-length-5 : tie.Need-same-length-5
-same-length-5 c = let s = c .before .before .before .before .before .before .before .before .before .before .before .before .before .before .before .before in length-set (s .args .kb .now) (s .args .at) (s .args .d .key .b)
+element-write-words-6 : tie.Need-element-write-words-6
+element-write-words-6 c = place-in 51200 _ (c .before .pre .0) (lit≤ tt) 81920 (lit≤ tt)
 
-same-length-6 : tie.Need-same-length-6
-same-length-6 c = let s = c .before .before .before .before .before .before .before .before .before .before .before .before .before .before .before .before in length-set (s .args .kc .now) (s .args .at) (s .args .d .key .c)
+add-words-7 : tie.Need-add-words-7
+add-words-7 c = place-fits 61440 _ (c .before .pre .0) (lit≤ tt)
 
-same-length-7 : tie.Need-same-length-7
-same-length-7 c = let s = c .before .before .before .before .before .before .before .before .before .before .before .before .before .before .before .before in length-set (s .args .oa .now) (s .args .at) (s .args .d .one .a)
+mul-words-7 : tie.Need-mul-words-7
+mul-words-7 c = word-fits 61440 _ (c .before .pre .0) (lit≤ tt)
 
-same-length-8 : tie.Need-same-length-8
-same-length-8 c = let s = c .before .before .before .before .before .before .before .before .before .before .before .before .before .before .before .before in length-set (s .args .ob .now) (s .args .at) (s .args .d .one .b)
+element-write-words-7 : tie.Need-element-write-words-7
+element-write-words-7 c = place-in 61440 _ (c .before .pre .0) (lit≤ tt) 81920 (lit≤ tt)
 
-same-length-9 : tie.Need-same-length-9
-same-length-9 c = let s = c .before .before .before .before .before .before .before .before .before .before .before .before .before .before .before .before in length-set (s .args .ta .now) (s .args .at) (s .args .d .two .a)
+cast-words : tie.Need-cast-words
+cast-words c = search needs
 
-same-length-10 : tie.Need-same-length-10
-same-length-10 c = let s = c .before .before .before .before .before .before .before .before .before .before .before .before .before .before .before .before in length-set (s .args .tb .now) (s .args .at) (s .args .d .two .b)
+add-words-8 : tie.Need-add-words-8
+add-words-8 c = place-fits 71680 _ (c .before .before .pre .0) (lit≤ tt)
 
-same-length-11 : tie.Need-same-length-11
-same-length-11 c = let s = c .before .before .before .before .before .before .before .before .before .before .before .before .before .before .before .before in length-set (s .args .oc .now) (s .args .at) (s .args .d .one .code)
+mul-words-8 : tie.Need-mul-words-8
+mul-words-8 c = word-fits 71680 _ (c .before .before .pre .0) (lit≤ tt)
 
-same-length-12 : tie.Need-same-length-12
-same-length-12 c = let s = c .before .before .before .before .before .before .before .before .before .before .before .before .before .before .before .before in length-set (s .args .tc .now) (s .args .at) (s .args .d .two .code)
-
-same-length-13 : tie.Need-same-length-13
-same-length-13 c = let s = c .before .before .before .before .before .before .before .before .before .before .before .before .before .before .before .before in length-set (s .args .number .now) (s .args .at) (s .args .d .number)
-
-same-length-14 : tie.Need-same-length-14
-same-length-14 c = let s = c .before .before .before .before .before .before .before .before .before .before .before .before .before .before .before .before in length-set (s .args .marks .now) (s .args .at) (s .args .d .marks)
+element-write-words-8 : tie.Need-element-write-words-8
+element-write-words-8 c = place-in 71680 _ (c .before .before .pre .0) (lit≤ tt) 81920 (lit≤ tt)
 
 returns : tie.Need-returns
-unfolding putRow
-returns c = rw (c .before .held-of .ensures)
+returns c = let a = c .before .before .args in
+    let p = c .before .before .pre in
+    let held = c .before .held-of in (
+      put-row (a .own .now) (a .bytes .now) (a .words .now) (a .at) (a .t) (held .result) (a .d) (p .0) (held .ensures),
+      put-sized (a .own .now) (a .bytes .now) (a .words .now) (a .at) (a .t) (held .result) (a .d) (p .1),
+    )
 
 pub keep-row-spec : {M : Type 1} → statement M
 keep-row-spec =
     tie.close
     (tie.spec
     mul-own
-    slice-write-own
-    slice-write-kind
+    element-write-own
+    add-bytes
+    element-write-bytes
     held-of-requires
-    slice-write-held
-    mul-ka
-    slice-write-ka
-    mul-kb
-    slice-write-kb
-    mul-kc
-    slice-write-kc
-    mul-oa
-    slice-write-oa
-    mul-ob
-    slice-write-ob
-    mul-ta
-    slice-write-ta
-    mul-tb
-    slice-write-tb
-    slice-write-oc
-    slice-write-tc
-    cast-number
-    mul-number
-    slice-write-number
-    slice-write-marks
-    same-length
-    same-length-2
-    same-length-3
-    same-length-4
-    same-length-5
-    same-length-6
-    same-length-7
-    same-length-8
-    same-length-9
-    same-length-10
-    same-length-11
-    same-length-12
-    same-length-13
-    same-length-14
+    add-bytes-2
+    element-write-bytes-2
+    add-bytes-3
+    element-write-bytes-3
+    add-bytes-4
+    element-write-bytes-4
+    add-bytes-5
+    element-write-bytes-5
+    add-words
+    mul-words
+    element-write-words
+    add-words-2
+    mul-words-2
+    element-write-words-2
+    add-words-3
+    mul-words-3
+    element-write-words-3
+    add-words-4
+    mul-words-4
+    element-write-words-4
+    add-words-5
+    mul-words-5
+    element-write-words-5
+    add-words-6
+    mul-words-6
+    element-write-words-6
+    add-words-7
+    mul-words-7
+    element-write-words-7
+    cast-words
+    add-words-8
+    mul-words-8
+    element-write-words-8
     returns)

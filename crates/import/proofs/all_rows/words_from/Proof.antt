@@ -1,0 +1,27 @@
+-- The part is cut out.
+use Rattle.import.proofs.PartLaws.{part-is}
+use borrow.Author.Needs.{needs}
+use Rattle.import.proofs.all_rows.words_from.Statement.{statement}
+use Rattle.import.proofs.all_rows.words_from.Tie as tie
+
+add-result : tie.Need-add-result
+add-result c = search needs
+
+mul-result : tie.Need-mul-result
+mul-result c = search needs
+
+sub-result : tie.Need-sub-result
+sub-result c = search needs
+
+part-result-start : tie.Need-part-result-start
+part-result-start c = search needs
+
+part-result-end : tie.Need-part-result-end
+part-result-end c = search needs
+
+returns : tie.Need-returns
+returns c = part-is (c .before .args .from) (c .before .args .words .now)
+
+pub words-from-spec : {M : Type 1} → statement M
+words-from-spec =
+    tie.close (tie.spec add-result mul-result sub-result part-result-start part-result-end returns)
