@@ -33,3 +33,4 @@ pub mod TrailLaws
 pub mod VerdictMeaning
 pub mod WriteLaws
 pub mod ZeroLaws
+pub mod EndLaws

@@ -1,6 +1,6 @@
 // The verdict of a row without its names: reasons 1 to 10, and 12.
 use crate::buckets::first_row;
-use crate::chains::comes_to;
+use crate::chains::comes_back;
 use crate::find::tally;
 use crate::reads::byte_at;
 use crate::reads::half_at;
@@ -13,6 +13,7 @@ ghost use Prim.Native.Nat.{_≤_};
 ghost use lib.ListN.{length, getD};
 ghost use lib.Seq.{sets};
 ghost use Rattle.import.specs.Model.{countAt, circleAt, baseOf, tabulate, Ordered};
+ghost use Rattle.import.specs.Courses.{KnownEnds};
 ghost use Rattle.import.specs.Trails.{TableIndex, noWords};
 
 // 0, or reason 10. `groups` is the index by the words of a group.
@@ -68,6 +69,7 @@ fn first_of(cell: u16, sound: u8, count: u16, circle: bool) -> u16
     0
 }
 
+// `ended` marks rows whose VALID chain is known to end.
 fn base_row(
     cells: &[u16],
     kind: &[u8],
@@ -81,15 +83,18 @@ fn base_row(
     oc: &[u8],
     found: &[u16],
     number: &[u64],
+    ended: &mut [u8; 10240],
     n: usize,
     i: usize,
 ) -> u16
     requires { ⌜ Ordered starts n × (n ≤ length (now sound)) × (n ≤ length (now oa)) × (n ≤ length (now ob)) ⌝ }
     requires { ⌜ TableIndex starts (now oa) (now ob) noWords (now groups) ⌝ }
+    requires { ⌜ KnownEnds (now oc) (now found) (now sound) (now ended) ⌝ }
     ensures { λ r. ⌜ r ≡ baseOf (getD (now (cells .entry)) i 0) (getD (now (sound .entry)) i 0) (countAt (now (kind .entry)) starts (now (sound .entry)) (now (ka .entry)) (now (kb .entry)) (now (oa .entry)) (now (ob .entry)) (now (number .entry)) i) (circleAt (now (oc .entry)) (now (found .entry)) (now (sound .entry)) n i) ⌝ }
+    ensures { λ _. ⌜ KnownEnds (now (oc .entry)) (now (found .entry)) (now (sound .entry)) (now (ended .exit)) ⌝ }
 {
     let count = count_row(kind, starts, sound, ka, kb, oa, ob, groups, number, n, i);
-    let circle = comes_to(oc, found, sound, i, n, i);
+    let circle = comes_back(oc, found, sound, ended, n, i);
     first_of(half_at(cells, i), byte_at(sound, i), count, circle)
 }
 
@@ -114,6 +119,7 @@ pub(crate) fn base_rows(
     requires { ⌜ TableIndex starts (now oa) (now ob) noWords (now groups) ⌝ }
     ensures { λ r. ⌜ now (base .exit) ≡ sets (now (base .entry)) 0 (tabulate (λ i. baseOf (getD (now (cells .entry)) i 0) (getD (now (sound .entry)) i 0) (countAt (now (kind .entry)) starts (now (sound .entry)) (now (ka .entry)) (now (kb .entry)) (now (oa .entry)) (now (ob .entry)) (now (number .entry)) i) (circleAt (now (oc .entry)) (now (found .entry)) (now (sound .entry)) n i)) 0 n) ⌝ }
 {
+    let mut ended = [0u8; 10240];
     let mut i: usize = 0;
     while i < n {
         base[i] = base_row(
@@ -129,6 +135,7 @@ pub(crate) fn base_rows(
             oc,
             found,
             number,
+            &mut ended,
             n,
             i,
         );

@@ -3,11 +3,19 @@ use crate::reads::byte_at;
 use crate::reads::half_at;
 ghost use mathlib.Core.Path.{_≡_};
 ghost use Rattle.import.specs.Model.{noRow, nextAt, comesTo, chainGood};
+ghost use Rattle.import.specs.Courses.{Ends, KnownEnds, Followed};
 
 pub(crate) const NO_ROW: usize = 65535;
 
 // The code of a naming by VALID.
 const VALID: u8 = 3;
+
+// Where a chain leads: to its end, back to its first row, or round without that row.
+pub(crate) enum Course {
+    Ends,
+    Returns,
+    Rounds,
+}
 
 // The next row of the chain, or NO_ROW.
 fn next_row(oc: &[u8], found: &[u16], sound: &[u8], i: usize) -> usize
@@ -28,10 +36,11 @@ fn longer(steps: usize) -> usize {
     if steps < 16384 { steps * 2 } else { steps }
 }
 
-// Whether within n steps the chain from row i comes to row z. A row that was passed is kept, after more steps each time a later
-// one: where it is met again, the chain goes round without coming to z.
-pub(crate) fn comes_to(oc: &[u8], found: &[u16], sound: &[u8], z: usize, n: usize, i: usize) -> bool
-    ensures { λ r. ⌜ r ≡ comesTo (now (oc .entry)) (now (found .entry)) (now (sound .entry)) z n i ⌝ }
+// The chain from row i, at most n steps of it, up to a row whose chain is known to end. A row that was passed is kept, after
+// more steps each time a later one: where it is met again, the chain goes round without coming to row i.
+fn follow(oc: &[u8], found: &[u16], sound: &[u8], ended: &[u8; 10240], n: usize, i: usize) -> Course
+    requires { ⌜ KnownEnds (now oc) (now found) (now sound) (now ended) ⌝ }
+    ensures { λ r. ⌜ Followed (now (oc .entry)) (now (found .entry)) (now (sound .entry)) n i r ⌝ }
 {
     let mut left = n;
     let mut at = i;
@@ -39,15 +48,18 @@ pub(crate) fn comes_to(oc: &[u8], found: &[u16], sound: &[u8], z: usize, n: usiz
     let mut steps: usize = 1;
     let mut wait: usize = 1;
     while 0 < left {
+        if byte_at(ended, at) == 1 {
+            return Course::Ends;
+        }
         let next = next_row(oc, found, sound, at);
         if next == NO_ROW {
-            return false;
+            return Course::Ends;
         }
-        if next == z {
-            return true;
+        if next == i {
+            return Course::Returns;
         }
         if next == passed {
-            return false;
+            return Course::Rounds;
         }
         at = next;
         left -= 1;
@@ -59,7 +71,57 @@ pub(crate) fn comes_to(oc: &[u8], found: &[u16], sound: &[u8], z: usize, n: usiz
             wait -= 1;
         }
     }
-    false
+    Course::Rounds
+}
+
+// Marks the rows of a chain that ends, from row i on.
+fn mark_ended(oc: &[u8], found: &[u16], sound: &[u8], ended: &mut [u8; 10240], n: usize, i: usize)
+    requires { ⌜ KnownEnds (now oc) (now found) (now sound) (now ended) × Ends (now oc) (now found) (now sound) i ⌝ }
+    ensures { λ _. ⌜ KnownEnds (now (oc .entry)) (now (found .entry)) (now (sound .entry)) (now (ended .exit)) ⌝ }
+{
+    let mut left = n;
+    let mut at = i;
+    while 0 < left {
+        if 10240 <= at {
+            return;
+        }
+        if ended[at] == 1 {
+            return;
+        }
+        ended[at] = 1;
+        let next = next_row(oc, found, sound, at);
+        if next == NO_ROW {
+            return;
+        }
+        at = next;
+        left -= 1;
+    }
+}
+
+// Whether within n steps the chain from row i comes back to it. What is learnt of rows whose chains end is marked.
+pub(crate) fn comes_back(
+    oc: &[u8],
+    found: &[u16],
+    sound: &[u8],
+    ended: &mut [u8; 10240],
+    n: usize,
+    i: usize,
+) -> bool
+    requires { ⌜ KnownEnds (now oc) (now found) (now sound) (now ended) ⌝ }
+    ensures { λ r. ⌜ r ≡ comesTo (now (oc .entry)) (now (found .entry)) (now (sound .entry)) i n i ⌝ }
+    ensures { λ _. ⌜ KnownEnds (now (oc .entry)) (now (found .entry)) (now (sound .entry)) (now (ended .exit)) ⌝ }
+{
+    if byte_at(oc, i) != VALID {
+        return false;
+    }
+    match follow(oc, found, sound, ended, n, i) {
+        Course::Ends => {
+            mark_ended(oc, found, sound, ended, n, i);
+            false
+        }
+        Course::Returns => true,
+        Course::Rounds => false,
+    }
 }
 
 // Whether within n rows the chain from row i ends, each row linked and each next one whole.

@@ -7,8 +7,8 @@ use Rattle.import.proofs.base.base_row.Tie as tie
 count-row-requires : tie.Need-count-row-requires
 count-row-requires c κs = search needs
 
-comes-to-requires : tie.Need-comes-to-requires
-comes-to-requires c κs = search needs
+comes-back-requires : tie.Need-comes-back-requires
+comes-back-requires c κs = search needs
 
 half-at-requires : tie.Need-half-at-requires
 half-at-requires c κs = search needs
@@ -21,14 +21,14 @@ first-of-requires c κs = search needs
 
 returns : tie.Need-returns
 returns c = let h = c .before .before in
-    base-read _ _ _ _ _ _ _ _ _ _ _ _ _ (h .half-at .ensures) (c .before .byte-at .ensures) (h .before .before .count-row .ensures) (h .before .comes-to .ensures) (c .first-of .ensures)
+    (base-read _ _ _ _ _ _ _ _ _ _ _ _ _ (h .half-at .ensures) (c .before .byte-at .ensures) (h .before .before .before .count-row .ensures) (h .before .comes-back .ensures .0) (c .first-of .ensures), h .before .comes-back .ensures .1)
 
 pub base-row-spec : {M : Type 1} → statement M
 base-row-spec =
     tie.close
     (tie.spec
     count-row-requires
-    comes-to-requires
+    comes-back-requires
     half-at-requires
     byte-at-requires
     first-of-requires

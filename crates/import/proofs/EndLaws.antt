@@ -1,0 +1,100 @@
+-- A chain that comes to its end never comes back. Assumes nothing.
+use mathlib.Core.Path.{_≡_, refl, ap, sym, subst, _∙_}
+use mathlib.Core.Bool.{true, false, cond}
+use mathlib.Core.List.{List}
+use Prim.Native.Nat.{ℕ, zero, suc, _<_}
+use native.Mathlib.Omega.{arith}
+use lib.Dec.{eqb}
+use lib.ListN.{getD, set, replicate, length, getD-replicate, length-replicate}
+use lib.Seq.{getD-set-other}
+use borrow.Author.Tests.{eq-eqb, ne-eqb, eqb-true, eqb-false}
+use Rattle.laws.proofs.Cases.{bool-cases, false-of, false≢true}
+use Rattle.import.specs.Model.{noRow, nextAt, comesTo}
+use Rattle.import.proofs.ChainLaws.{next-none}
+use Rattle.import.specs.Courses.{Ends, last, on, KnownEnds, isReturn, Followed}
+use Rattle.import.specs.declared.chains.Course.{Course}
+use Rattle.import.specs.declared.chains.Course.the-variants as course
+
+module _ (oc found sound : List ℕ) where
+  -- how many rows come after the first
+  rest : {i : ℕ} → Ends oc found sound i → ℕ
+  rest (last e) = 0
+  rest (on h e) = suc (rest e)
+
+  rest-same : {i : ℕ} (e f : Ends oc found sound i) → rest e ≡ rest f
+  unfolding rest
+  rest-same (last p) (last q) = refl
+  rest-same (last p) (on h f) = absurd (h p)
+  rest-same (on h e) (last q) = absurd (h q)
+  rest-same (on h e) (on k f) = ap suc (rest-same e f)
+
+  -- a row that it comes to has fewer after it
+  record Fewer (z m : ℕ) : Type 0 where
+    end : Ends oc found sound z
+    less : rest end < m
+
+  comes-fewer : (z n : ℕ) {i : ℕ} (e : Ends oc found sound i) → comesTo oc found sound z n i ≡ true → Fewer z (rest e)
+  unfolding comesTo rest
+  comes-fewer z zero e t = absurd (false≢true t)
+  comes-fewer z (suc n) {i} (last p) t = absurd (false≢true (rw (eq-eqb (nextAt oc found sound i) noRow p) at t))
+  comes-fewer z (suc n) {i} (on h e) t =
+      bool-cases (eqb (nextAt oc found sound i) z)
+      (λ q. subst (λ (y : ℕ). Fewer y (suc (rest e))) (eqb-true _ z q) (record { end = e; less = omega arith }))
+      (λ q. let f = comes-fewer z n e (rw (ne-eqb (nextAt oc found sound i) noRow h, q) at t) in record { end = f .end; less = omega (arith, f .less) })
+
+  pub ends-no-circle : (n : ℕ) {i : ℕ} → Ends oc found sound i → comesTo oc found sound i n i ≡ false
+  ends-no-circle n {i} e = false-of (comesTo oc found sound i n i) (λ t. let f = comes-fewer i n e t in omega (arith, f .less, rest-same (f .end) e))
+
+  pub ends-next : {i : ℕ} → Ends oc found sound i → (nextAt oc found sound i ≡ noRow → ⊥) → Ends oc found sound (nextAt oc found sound i)
+  ends-next (last p) h = absurd (h p)
+  ends-next (on k e) h = e
+
+  -- marks
+  none-marked : (n j : ℕ) → getD (replicate {A = ℕ} n 0) j 0 ≡ 0
+  none-marked zero j = refl
+  none-marked (suc n) zero = refl
+  none-marked (suc n) (suc j) = none-marked n j
+
+  pub known-none : (n : ℕ) → KnownEnds oc found sound (replicate {A = ℕ} n 0)
+  known-none n = record { row = λ j h. absurd (omega (arith, h, none-marked n j)) }
+
+  module _ (ended : List ℕ) (at : ℕ) (known : KnownEnds oc found sound ended) (e : Ends oc found sound at) where
+    more : (j : ℕ) → getD (set ended at 1) j 0 ≡ 1 → Ends oc found sound j
+    more j h =
+        bool-cases (eqb j at) (λ q. subst (Ends oc found sound) (sym (eqb-true j at q)) e)
+        (λ q. known .row j (sym (getD-set-other ended at j 1 0 (eqb-false j at q)) ∙ h))
+
+    pub known-more : KnownEnds oc found sound (set ended at 1)
+    known-more = record { row = more }
+
+  -- next is the row that comes after row at
+  module _ (at next : ℕ) (is : next ≡ nextAt oc found sound at) where
+    pub ends-here : next ≡ noRow → Ends oc found sound at
+    ends-here e = last (sym is ∙ e)
+
+    pub ends-from : (next ≡ noRow → ⊥) → Ends oc found sound next → Ends oc found sound at
+    ends-from there e = on (λ q. there (is ∙ q)) (subst (Ends oc found sound) is e)
+
+    pub ends-on : (next ≡ noRow → ⊥) → Ends oc found sound at → Ends oc found sound next
+    ends-on there e = subst (Ends oc found sound) (sym is) (ends-next e (λ q. there (is ∙ q)))
+
+  -- what a course tells
+  module _ (n i : ℕ) where
+    pub course-ends : Ends oc found sound i → Followed oc found sound n i course.Ends
+    unfolding isReturn
+    course-ends e = record { circle = sym (ends-no-circle n e); ends = λ _. e }
+
+    pub course-returns : true ≡ comesTo oc found sound i n i → Followed oc found sound n i course.Returns
+    unfolding isReturn
+    course-returns h = record { circle = h; ends = λ q. absurd (let z : _≡_ {A = ℕ} 0 1 = cc in omega arith) }
+
+    pub course-rounds : false ≡ comesTo oc found sound i n i → Followed oc found sound n i course.Rounds
+    unfolding isReturn
+    course-rounds h = record { circle = h; ends = λ q. absurd (let z : _≡_ {A = ℕ} 0 1 = cc in omega arith) }
+
+    pub told-by : {r s : Course} → Followed oc found sound n i r → r ≡ s → isReturn s ≡ comesTo oc found sound i n i
+    told-by f e = ap isReturn (sym e) ∙ f .circle
+
+    -- a row that names none by VALID
+    pub no-valid : (code : ℕ) → code ≡ getD oc i 0 → (code ≡ 3 → ⊥) → false ≡ comesTo oc found sound i n i
+    no-valid code read h = sym (ends-no-circle n (last (sym (next-none oc found sound i code read h))))
