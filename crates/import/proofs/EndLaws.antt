@@ -50,7 +50,7 @@ module _ (oc found sound : List ℕ) where
   ends-next (on k e) h = e
 
   -- marks
-  none-marked : (n j : ℕ) → getD (replicate {A = ℕ} n 0) j 0 ≡ 0
+  pub none-marked : (n j : ℕ) → getD (replicate {A = ℕ} n 0) j 0 ≡ 0
   none-marked zero j = refl
   none-marked (suc n) zero = refl
   none-marked (suc n) (suc j) = none-marked n j

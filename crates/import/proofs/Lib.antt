@@ -34,3 +34,4 @@ pub mod VerdictMeaning
 pub mod WriteLaws
 pub mod ZeroLaws
 pub mod EndLaws
+pub mod DepthLaws

@@ -3,6 +3,7 @@ use Prim.Native.Nat.{ℕ}
 use mathlib.Core.Path.{_≡_}
 use mathlib.Core.Bool.{Bool, true, false}
 use mathlib.Core.List.{List}
+use lib.Dec.{ltb}
 use lib.ListN.{getD}
 use Rattle.import.specs.Model.{noRow, nextAt, comesTo, chainGood}
 use Rattle.import.specs.declared.chains.Course.{Course}
@@ -30,3 +31,8 @@ pub record Followed (oc found sound : List ℕ) (n i : ℕ) (told : Course) : Ty
 -- a depth that isn't 0 is a number of rows within which the chain is good
 pub record KnownDepths (oc found linked whole depths : List ℕ) : Type 0 where
   pub row : (j : ℕ) → (getD depths j 0 ≡ 0 → ⊥) → chainGood oc found linked whole (getD depths j 0) j ≡ true
+
+-- a depth of the chain from row i, at most n; 0 where it isn't good within n rows
+pub record DepthIs (oc found linked whole : List ℕ) (n i depth : ℕ) : Type 0 where
+  pub good : ltb 0 depth ≡ chainGood oc found linked whole n i
+  pub deep : (depth ≡ 0 → ⊥) → chainGood oc found linked whole depth i ≡ true

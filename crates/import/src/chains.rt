@@ -2,8 +2,9 @@
 use crate::reads::byte_at;
 use crate::reads::half_at;
 ghost use mathlib.Core.Path.{_≡_};
+ghost use mathlib.Core.Bool.{true};
 ghost use Rattle.import.specs.Model.{noRow, nextAt, comesTo, chainGood};
-ghost use Rattle.import.specs.Courses.{Ends, KnownEnds, Followed};
+ghost use Rattle.import.specs.Courses.{Ends, KnownEnds, Followed, KnownDepths, DepthIs};
 
 pub(crate) const NO_ROW: usize = 65535;
 
@@ -124,32 +125,93 @@ pub(crate) fn comes_back(
     }
 }
 
-// Whether within n rows the chain from row i ends, each row linked and each next one whole.
+// Within how many rows, at most n, the chain from row i ends, each row linked and each next one whole; 0 where it doesn't.
+fn chain_depth(
+    oc: &[u8],
+    found: &[u16],
+    linked: &[u8],
+    whole: &[u8],
+    depths: &[u16; 10240],
+    n: usize,
+    i: usize,
+) -> usize
+    requires { ⌜ KnownDepths (now oc) (now found) (now linked) (now whole) (now depths) ⌝ }
+    ensures { λ r. ⌜ DepthIs (now (oc .entry)) (now (found .entry)) (now (linked .entry)) (now (whole .entry)) n i r ⌝ }
+{
+    let mut left = n;
+    let mut at = i;
+    while 0 < left {
+        let depth = half_at(depths, at) as usize;
+        if 0 < depth {
+            if depth <= left {
+                return (n - left) + depth;
+            }
+        }
+        if byte_at(linked, at) != 1 {
+            return 0;
+        }
+        if byte_at(oc, at) != VALID {
+            return (n - left) + 1;
+        }
+        let next = half_at(found, at) as usize;
+        if byte_at(whole, next) != 1 {
+            return 0;
+        }
+        at = next;
+        left -= 1;
+    }
+    0
+}
+
+// Keeps the depths of the rows of a good chain, from row i on, which has this depth.
+fn keep_depths(
+    oc: &[u8],
+    found: &[u16],
+    linked: &[u8],
+    whole: &[u8],
+    depths: &mut [u16; 10240],
+    depth: usize,
+    i: usize,
+)
+    requires { ⌜ KnownDepths (now oc) (now found) (now linked) (now whole) (now depths) × ((depth ≡ 0 → ⊥) → chainGood (now oc) (now found) (now linked) (now whole) depth i ≡ true) ⌝ }
+    ensures { λ _. ⌜ KnownDepths (now (oc .entry)) (now (found .entry)) (now (linked .entry)) (now (whole .entry)) (now (depths .exit)) ⌝ }
+{
+    let mut left = depth;
+    let mut at = i;
+    while 0 < left {
+        if 10240 <= at {
+            return;
+        }
+        if depths[at] != 0 {
+            return;
+        }
+        if 65535 < left {
+            return;
+        }
+        depths[at] = left as u16;
+        if byte_at(oc, at) != VALID {
+            return;
+        }
+        at = half_at(found, at) as usize;
+        left -= 1;
+    }
+}
+
+// Whether within n rows the chain from row i ends, each row linked and each next one whole. What is learnt of its rows is kept.
 pub(crate) fn chain_good(
     oc: &[u8],
     found: &[u16],
     linked: &[u8],
     whole: &[u8],
+    depths: &mut [u16; 10240],
     n: usize,
     i: usize,
 ) -> bool
+    requires { ⌜ KnownDepths (now oc) (now found) (now linked) (now whole) (now depths) ⌝ }
     ensures { λ r. ⌜ r ≡ chainGood (now (oc .entry)) (now (found .entry)) (now (linked .entry)) (now (whole .entry)) n i ⌝ }
+    ensures { λ _. ⌜ KnownDepths (now (oc .entry)) (now (found .entry)) (now (linked .entry)) (now (whole .entry)) (now (depths .exit)) ⌝ }
 {
-    let mut left = n;
-    let mut at = i;
-    while 0 < left {
-        if byte_at(linked, at) != 1 {
-            return false;
-        }
-        if byte_at(oc, at) != VALID {
-            return true;
-        }
-        let next = half_at(found, at) as usize;
-        if byte_at(whole, next) != 1 {
-            return false;
-        }
-        at = next;
-        left -= 1;
-    }
-    false
+    let depth = chain_depth(oc, found, linked, whole, depths, n, i);
+    keep_depths(oc, found, linked, whole, depths, depth, i);
+    0 < depth
 }

@@ -12,6 +12,7 @@ ghost use lib.Dec.{eqb};
 ghost use lib.ListN.{length, getD};
 ghost use lib.Seq.{sets};
 ghost use Rattle.digests.specs.Namings.{metBy};
+ghost use Rattle.import.specs.Courses.{KnownDepths};
 ghost use Rattle.import.specs.Model.{tabulate, metAt, nameAt, finalOf, flag, linkedAt, chainedAt, goodAt};
 
 // Whether a naming is met: there is none, or what it found is of the kind asked and marked good.
@@ -118,6 +119,7 @@ pub(crate) fn mark_linked(
     }
 }
 
+// `depths` has the depths of chains that are known to be good.
 fn chained_row(
     kind: &[u8],
     oc: &[u8],
@@ -125,13 +127,16 @@ fn chained_row(
     linked: &[u8],
     whole: &[u8],
     clean: &[u8],
+    depths: &mut [u16; 10240],
     n: usize,
     i: usize,
 ) -> u8
+    requires { ⌜ KnownDepths (now oc) (now found) (now linked) (now whole) (now depths) ⌝ }
     ensures { λ r. ⌜ r ≡ chainedAt (now (kind .entry)) (now (oc .entry)) (now (found .entry)) (now (linked .entry)) (now (whole .entry)) (now (clean .entry)) n i ⌝ }
+    ensures { λ _. ⌜ KnownDepths (now (oc .entry)) (now (found .entry)) (now (linked .entry)) (now (whole .entry)) (now (depths .exit)) ⌝ }
 {
     if byte_at(kind, i) == 3 {
-        return as_flag(chain_good(oc, found, linked, whole, n, i));
+        return as_flag(chain_good(oc, found, linked, whole, depths, n, i));
     }
     byte_at(clean, i)
 }
@@ -151,9 +156,10 @@ pub(crate) fn mark_chained(
     requires { ⌜ n ≤ length (now good) ⌝ }
     ensures { λ r. ⌜ now (good .exit) ≡ sets (now (good .entry)) 0 (tabulate (chainedAt (now (kind .entry)) (now (oc .entry)) (now (found .entry)) (now (linked .entry)) (now (whole .entry)) (now (clean .entry)) most) 0 n) ⌝ }
 {
+    let mut depths = [0u16; 10240];
     let mut i: usize = 0;
     while i < n {
-        good[i] = chained_row(kind, oc, found, linked, whole, clean, most, i);
+        good[i] = chained_row(kind, oc, found, linked, whole, clean, &mut depths, most, i);
         i += 1;
     }
 }
