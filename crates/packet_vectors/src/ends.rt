@@ -1,10 +1,9 @@
 // Fields at the packet's end, and strings off a byte: refusals 28 and 29.
-use crate::sets::parameter;
+use crate::sets::parameters;
 
-fn numbers_of(name: &[u8]) {
-    parameter(
-        b"",
-        b"3\t25\t10\t\t\t7\t\t\t\t\t\t\t\t\t\t\n",
+// 01: "24 bits at byte 11 fit; from bit 1: 28. 16 bits at byte 13: 28."
+fn numbers() {
+    parameters(
         b"\
             FIT24\t7\t11\t0\t\t\t\t\n\
             OFF24\t7\t11\t1\t\t\t\t\n\
@@ -25,15 +24,22 @@ fn numbers_of(name: &[u8]) {
             ENUM9\t\t\t\t2\t9\t\t\t\tN\tR\t\t\t\t\t\t\t\t\t\t\t\t\n\
             OUTBITS\t\t\t\t6\t32\t\t\t\tN\tR\t\t\t\t\t\t\t\t\t\t\t\t\n\
         ",
-        name,
-        0,
+        b"\
+            FIT24\n\
+            OFF24\n\
+            FITBIT\n\
+            OFF16\n\
+            PAST8\n\
+            SIGNED8\n\
+            ENUM9\n\
+            OUTBITS\n\
+        ",
     );
 }
 
-fn strings_of(name: &[u8], occurrence: usize) {
-    parameter(
-        b"",
-        b"3\t25\t10\t\t\t7\t\t\t\t\t\t\t\t\t\t\n",
+// Three at the end; then off a byte, which is 29, and 28 where it is outside too.
+fn strings() {
+    parameters(
         b"\
             FIT4\t7\t10\t0\t\t\t\t\n\
             OUT5\t7\t10\t0\t\t\t\t\n\
@@ -54,41 +60,21 @@ fn strings_of(name: &[u8], occurrence: usize) {
             OFFOUT3\t\t\t\t7\t3\t\t\t\tN\tR\t\t\t\t\t\t\t\t\t\t\t\t\n\
             NIBBLES\t\t\t\t7\t1\t\t\t\tN\tR\t\t\t\t\t\t\t\t\t\t\t\t\n\
         ",
-        name,
-        occurrence,
+        b"\
+            FIT4\n\
+            OUT5\n\
+            OUTTEXT\n\
+            OFF1\n\
+            TEXTOFF3\n\
+            OFFOUT2\n\
+            OFFOUT3\n\
+            NIBBLES\n\
+            NIBBLES\t1\n\
+        ",
     );
 }
 
-// 01: "24 bits at byte 11 fit; from bit 1: 28. 16 bits at byte 13: 28."
-fn numbers_at_the_end() {
-    numbers_of(b"FIT24");
-    numbers_of(b"OFF24");
-    numbers_of(b"FITBIT");
-    numbers_of(b"OFF16");
-    numbers_of(b"PAST8");
-    numbers_of(b"SIGNED8");
-    numbers_of(b"ENUM9");
-    numbers_of(b"OUTBITS");
-}
-
-fn strings_at_the_end() {
-    strings_of(b"FIT4", 0);
-    strings_of(b"OUT5", 0);
-    strings_of(b"OUTTEXT", 0);
-}
-
-// Off a byte is 29, and 28 where it is outside too.
-fn off_a_byte() {
-    strings_of(b"OFF1", 0);
-    strings_of(b"TEXTOFF3", 0);
-    strings_of(b"OFFOUT2", 0);
-    strings_of(b"OFFOUT3", 0);
-    strings_of(b"NIBBLES", 0);
-    strings_of(b"NIBBLES", 1);
-}
-
 pub(crate) fn all() {
-    numbers_at_the_end();
-    strings_at_the_end();
-    off_a_byte();
+    numbers();
+    strings();
 }

@@ -1,65 +1,41 @@
 // The longest packets, and the largest tables.
 use crate::packet::PACKET;
-use crate::show::extracted;
+use crate::sets::packet;
+use crate::sets::parameters_in;
 use crate::show::identified;
 use crate::show::labelled;
 
 fn of(label: &[u8], p: &[u8]) {
-    identified(
-        label,
-        [
-            b"0\t0\t0\t\t\t1\t\t\t\t\t\t\t\t\t\t\n",
-            b"",
-            b"",
-            b"",
-            b"",
-            b"",
-            b"",
-            b"",
-            b"",
-            b"",
-        ],
-        p,
-    );
+    packet(label, b"", b"0\t0\t0\t\t\t1\t\t\t\t\t\t\t\t\t\t\n", b"", p);
 }
 
 // A byte at the end of the longest packet, and two.
-fn last(p: &[u8], name: &[u8]) {
-    extracted(
-        [
-            b"0\t0\t0\t\t\t1\t\t\t\t\t\t\t\t\t\t\n",
-            b"",
-            b"\
-                LAST8\t1\t8191\t0\t\t\t\t\n\
-                LAST16\t1\t8191\t0\t\t\t\t\n\
-            ",
-            b"\
-                LAST8\t\t\t\t3\t4\t\t\t\tN\tR\t\t\t\t\t\t\t\t\t\t\t\t\n\
-                LAST16\t\t\t\t3\t12\t\t\t\tN\tR\t\t\t\t\t\t\t\t\t\t\t\t\n\
-            ",
-            b"",
-            b"",
-            b"",
-            b"",
-            b"",
-            b"",
-        ],
+fn last(p: &[u8]) {
+    parameters_in(
         p,
-        name,
-        0,
+        b"",
+        b"0\t0\t0\t\t\t1\t\t\t\t\t\t\t\t\t\t\n",
+        b"\
+            LAST8\t1\t8191\t0\t\t\t\t\n\
+            LAST16\t1\t8191\t0\t\t\t\t\n\
+        ",
+        b"\
+            LAST8\t\t\t\t3\t4\t\t\t\tN\tR\t\t\t\t\t\t\t\t\t\t\t\t\n\
+            LAST16\t\t\t\t3\t12\t\t\t\tN\tR\t\t\t\t\t\t\t\t\t\t\t\t\n\
+        ",
+        b"LAST8\nLAST16\n",
     );
 }
 
 // A length field of 8,185 makes 8,192 bytes.
-fn packets_of() {
+fn packets() {
     let mut p = [0u8; 8192];
     of(b"8192 zeros", &p);
     p[4] = 0x1F;
     p[5] = 0xF9;
     p[8191] = 0x34;
     of(b"8192 bytes", &p);
-    last(&p, b"LAST8");
-    last(&p, b"LAST16");
+    last(&p);
     let longer = [0u8; 8193];
     of(b"8193 bytes", &longer);
 }
@@ -116,7 +92,7 @@ fn extracted_from(none: &[u8]) {
 }
 
 pub(crate) fn all() {
-    packets_of();
+    packets();
     tables_of(b"", b"3\t25\t10\t\t\t7\t\t\t\t\t\t\t\t\t\t\n");
     extracted_from(b"");
 }

@@ -2,6 +2,7 @@
 // specification by hand. "identify" says which packet it is: the number of the pid row, its SPID and the five numbers.
 // "extract" says what a packet says of an occurrence of a parameter: an integer, or the first byte and the length of the part
 // that a string is, and then whether it is valid. A refusal has its number and its place.
+mod cases;
 mod ends;
 mod headers_of;
 mod large;
@@ -12,6 +13,7 @@ mod packets_of;
 mod pic_rows;
 mod pid_rows;
 mod plf_rows;
+mod questions;
 mod sets;
 mod show;
 mod types;

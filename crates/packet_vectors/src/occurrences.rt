@@ -1,10 +1,9 @@
 // 01: "Occurrence k, from 0, starts at bit 8 × OFFBY + OFFBI + k × LGOCC from the packet's first bit."
-use crate::sets::parameter;
+use crate::sets::parameters;
 
-fn of(name: &[u8], occurrence: usize) {
-    parameter(
-        b"",
-        b"3\t25\t10\t\t\t7\t\t\t\t\t\t\t\t\t\t\n",
+// Of parameters that are there once, in steps of bytes, in steps of bits, and far away.
+pub(crate) fn all() {
+    parameters(
         b"\
             ONCE\t7\t10\t0\t\t\t\t\n\
             EACH8\t7\t10\t0\t5\t8\t\t\n\
@@ -25,51 +24,32 @@ fn of(name: &[u8], occurrence: usize) {
             FAR\t\t\t\t3\t4\t\t\t\tN\tR\t\t\t\t\t\t\t\t\t\t\t\t\n\
             NOLGOCC\t\t\t\t3\t4\t\t\t\tN\tR\t\t\t\t\t\t\t\t\t\t\t\t\n\
         ",
-        name,
-        occurrence,
+        b"\
+            ONCE\n\
+            ONCE\t1\n\
+            ONCE\t18446744073709551615\n\
+            NOLGOCC\n\
+            EACH8\n\
+            EACH8\t1\n\
+            EACH8\t3\n\
+            EACH8\t4\n\
+            EACH8\t5\n\
+            PAIRS\n\
+            PAIRS\t1\n\
+            PAIRS\t2\n\
+            EACH4\n\
+            EACH4\t1\n\
+            EACH4\t2\n\
+            EACH4\t3\n\
+            EACH4\t8\n\
+            EACH4\t9\n\
+            EACH12\t1\n\
+            EACH12\t2\n\
+            OVERLAP\n\
+            OVERLAP\t1\n\
+            FAR\n\
+            FAR\t9998\n\
+            FAR\t9999\n\
+        ",
     );
-}
-
-fn once() {
-    of(b"ONCE", 0);
-    of(b"ONCE", 1);
-    of(b"ONCE", 18446744073709551615);
-    of(b"NOLGOCC", 0);
-}
-
-fn in_bytes() {
-    of(b"EACH8", 0);
-    of(b"EACH8", 1);
-    of(b"EACH8", 3);
-    of(b"EACH8", 4);
-    of(b"EACH8", 5);
-    of(b"PAIRS", 0);
-    of(b"PAIRS", 1);
-    of(b"PAIRS", 2);
-}
-
-fn in_bits() {
-    of(b"EACH4", 0);
-    of(b"EACH4", 1);
-    of(b"EACH4", 2);
-    of(b"EACH4", 3);
-    of(b"EACH4", 8);
-    of(b"EACH4", 9);
-    of(b"EACH12", 1);
-    of(b"EACH12", 2);
-    of(b"OVERLAP", 0);
-    of(b"OVERLAP", 1);
-}
-
-fn far() {
-    of(b"FAR", 0);
-    of(b"FAR", 9998);
-    of(b"FAR", 9999);
-}
-
-pub(crate) fn all() {
-    once();
-    in_bytes();
-    in_bits();
-    far();
 }

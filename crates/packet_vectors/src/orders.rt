@@ -1,7 +1,9 @@
 // Two refusals at once. 01: "The least number decides"
 use crate::packet::PACKET;
+use crate::sets::packet;
+use crate::sets::parameters;
+use crate::sets::parameters_in;
 use crate::show::identified;
-use crate::show::labelled;
 
 // The tables pid, pic and ocp.
 fn of<'a>(label: &[u8], none: &'a [u8], pid: &'a [u8], pic: &'a [u8], ocp: &'a [u8], p: &[u8]) {
@@ -13,89 +15,74 @@ fn of<'a>(label: &[u8], none: &'a [u8], pid: &'a [u8], pic: &'a [u8], ocp: &'a [
 }
 
 // 01: "for 1 and 2 the first such table"
-fn tables_first(none: &[u8]) {
-    let long = [b'A'; 65537];
-    let many = [b'\n'; 1025];
-    of(b"1 in pic and ocp", none, none, &long, &long, &PACKET);
-    of(b"2 in pic and ocp", none, none, &many, &many, &PACKET);
-    of(b"2 in pid, 1 in ocp", none, &many, none, &long, &PACKET);
-    of(b"1 before 20", none, none, none, &long, b"");
-    of(b"2 before 20", none, none, none, &many, b"");
+fn tables_first<'a>(none: &'a [u8], long: &'a [u8], many: &'a [u8]) {
+    of(b"1 in pic and ocp", none, none, long, long, &PACKET);
+    of(b"2 in pic and ocp", none, none, many, many, &PACKET);
+    of(b"2 in pid, 1 in ocp", none, many, none, long, &PACKET);
+    of(b"1 before 20", none, none, none, long, b"");
+    of(b"2 before 20", none, none, none, many, b"");
 }
 
 // Without tables, for which 25 would be the answer.
-fn bare(label: &[u8], none: &[u8], p: &[u8]) {
-    of(label, none, none, none, none, p);
-}
-
 fn headers_first(none: &[u8]) {
-    bare(b"20 before 25", none, b"");
-    bare(b"20 before 21", none, b"\x28\x0A\xC0\x00\x00\x07");
-    bare(
+    packet(b"20 before 25", none, none, none, b"");
+    packet(
+        b"20 before 21",
+        none,
+        none,
+        none,
+        b"\x28\x0A\xC0\x00\x00\x07",
+    );
+    packet(
         b"21 before 22",
+        none,
+        none,
         none,
         b"\x28\x0A\xC0\x00\x00\x06\x10\x03\x19\x00\xFF\x85\x12\x34",
     );
-    bare(b"22 before 23", none, b"\x08\x0A\xC0\x00\x00\x07\x10\x03");
-    bare(b"23 before 25", none, b"\x08\x0A\xC0\x00\x00\x01\x10\x03");
-    of(
+    packet(
+        b"22 before 23",
+        none,
+        none,
+        none,
+        b"\x08\x0A\xC0\x00\x00\x07\x10\x03",
+    );
+    packet(
+        b"23 before 25",
+        none,
+        none,
+        none,
+        b"\x08\x0A\xC0\x00\x00\x01\x10\x03",
+    );
+    packet(
         b"24 before 25",
         none,
         none,
         b"3\t25\t14\t8\t-1\t0\t10\n",
-        none,
         &PACKET,
-    );
-}
-
-fn extraction<'a>(
-    label: &[u8],
-    none: &'a [u8],
-    pid: &'a [u8],
-    plf: &'a [u8],
-    pcf: &'a [u8],
-    name: &[u8],
-) {
-    labelled(
-        label,
-        [pid, none, plf, pcf, none, none, none, none, none, none],
-        &PACKET,
-        name,
-        1,
     );
 }
 
 // Of U8 and S1, which lie outside and off a byte, there is no occurrence 1.
-fn locations_first(none: &[u8]) {
-    extraction(b"25 before 26", none, none, none, none, b"U8");
-    extraction(
-        b"26 before 27",
-        none,
-        b"3\t25\t10\t\t\t7\t\t\t\t\t\t\t\t\t\t\n",
-        none,
-        none,
-        b"U8",
-    );
-    extraction(
-        b"27 before 28",
-        none,
-        b"3\t25\t10\t\t\t7\t\t\t\t\t\t\t\t\t\t\n",
+fn locations_first() {
+    parameters_in(&PACKET, b"", b"", b"", b"", b"U8\t1\t25 before 26\n");
+    parameters(b"", b"", b"U8\t1\t26 before 27\n");
+    parameters(
         b"U8\t7\t14\t0\t\t\t\t\n",
         b"U8\t\t\t\t3\t4\t\t\t\tN\tR\t\t\t\t\t\t\t\t\t\t\t\t\n",
-        b"U8",
+        b"U8\t1\t27 before 28\n",
     );
-    extraction(
-        b"27 before 29",
-        none,
-        b"3\t25\t10\t\t\t7\t\t\t\t\t\t\t\t\t\t\n",
+    parameters(
         b"S1\t7\t10\t4\t\t\t\t\n",
         b"S1\t\t\t\t7\t1\t\t\t\tN\tR\t\t\t\t\t\t\t\t\t\t\t\t\n",
-        b"S1",
+        b"S1\t1\t27 before 29\n",
     );
 }
 
 pub(crate) fn all() {
-    tables_first(b"");
+    let long = [b'A'; 65537];
+    let many = [b'\n'; 1025];
+    tables_first(b"", &long, &many);
     headers_first(b"");
-    locations_first(b"");
+    locations_first();
 }

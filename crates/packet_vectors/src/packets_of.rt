@@ -34,7 +34,8 @@ fn of(label: &[u8], p: &[u8]) {
     );
 }
 
-fn answered() {
+// Four answers, and then refusals 20 to 25.
+pub(crate) fn all() {
     of(
         b"from SPID 7",
         b"\x08\x0A\xC0\x00\x00\x07\x10\x03\x19\x00\xFF\x85\x12\x34",
@@ -48,9 +49,6 @@ fn answered() {
         b"\x08\x0B\xC0\x00\x00\x07\x10\x03\x19\x00\xFF\x85\x12\x34",
     );
     of(b"from nine bytes", b"\x08\x0A\xC0\x00\x00\x02\x10\x03\x19");
-}
-
-fn refused() {
     of(b"from six bytes", b"\x08\x0A\xC0\x00\x00\x07");
     of(
         b"from version 1",
@@ -69,9 +67,4 @@ fn refused() {
         b"from APID 13",
         b"\x08\x0D\xC0\x00\x00\x07\x10\x03\x19\x00\xFF\x85\x12\x34",
     );
-}
-
-pub(crate) fn all() {
-    answered();
-    refused();
 }

@@ -1,10 +1,11 @@
 // 01: "no good plf row for name and SPID"
 use crate::packet::PACKET;
-use crate::sets::parameter;
-use crate::show::labelled;
+use crate::sets::parameters;
+use crate::sets::parameters_in;
 
-fn of(name: &[u8]) {
-    parameter(
+fn rows() {
+    parameters_in(
+        &PACKET,
         b"",
         b"\
             3\t25\t11\t\t\t6\t\t\t\t\t\t\t\t\t\t\n\
@@ -31,61 +32,43 @@ fn of(name: &[u8]) {
             PAST8191\t\t\t\t3\t12\t\t\t\tN\tR\t\t\t\t\t\t\t\t\t\t\t\t\n\
             NOPLF\t\t\t\t3\t12\t\t\t\tN\tR\t\t\t\t\t\t\t\t\t\t\t\t\n\
         ",
-        name,
-        0,
+        b"\
+            THERE\n\
+            NOPLF\n\
+            ELSE\n\
+            DYNAMIC\n\
+            NOPCF\n\
+            TWICE\n\
+            NOCURVE\n\
+            PAST8191\n\
+        ",
     );
-}
-
-fn rows_of() {
-    of(b"THERE");
-    of(b"NOPLF");
-    of(b"ELSE");
-    of(b"DYNAMIC");
-    of(b"NOPCF");
-    of(b"TWICE");
-    of(b"NOCURVE");
-    of(b"PAST8191");
 }
 
 // Two names alone, asked for by a label.
-fn named(label: &[u8], name: &[u8]) {
-    labelled(
-        label,
-        [
-            b"3\t25\t10\t\t\t7\t\t\t\t\t\t\t\t\t\t\n",
-            b"",
-            b"\
-                U16\t7\t12\t0\t\t\t\t\n\
-                ABCDEFGH\t7\t10\t0\t\t\t\t\n\
-            ",
-            b"\
-                U16\t\t\t\t3\t12\t\t\t\tN\tR\t\t\t\t\t\t\t\t\t\t\t\t\n\
-                ABCDEFGH\t\t\t\t3\t4\t\t\t\tN\tR\t\t\t\t\t\t\t\t\t\t\t\t\n\
-            ",
-            b"",
-            b"",
-            b"",
-            b"",
-            b"",
-            b"",
-        ],
-        &PACKET,
-        name,
-        0,
+fn names() {
+    parameters(
+        b"\
+            U16\t7\t12\t0\t\t\t\t\n\
+            ABCDEFGH\t7\t10\t0\t\t\t\t\n\
+        ",
+        b"\
+            U16\t\t\t\t3\t12\t\t\t\tN\tR\t\t\t\t\t\t\t\t\t\t\t\t\n\
+            ABCDEFGH\t\t\t\t3\t4\t\t\t\tN\tR\t\t\t\t\t\t\t\t\t\t\t\t\n\
+        ",
+        b"\
+            ABCDEFGH\t0\teight bytes\n\
+            ABCDEFGHI\t0\tnine bytes\n\
+            ABCDEFG\t0\tseven bytes\n\
+            \t0\tno name\n\
+            u16\t0\tlower case\n\
+            U16 \t0\ta space more\n\
+            U16\x00\t0\ta zero byte more\n\
+        ",
     );
 }
 
-fn names_of() {
-    named(b"eight bytes", b"ABCDEFGH");
-    named(b"nine bytes", b"ABCDEFGHI");
-    named(b"seven bytes", b"ABCDEFG");
-    named(b"no name", b"");
-    named(b"lower case", b"u16");
-    named(b"a space more", b"U16 ");
-    named(b"a zero byte more", b"U16\x00");
-}
-
 pub(crate) fn all() {
-    rows_of();
-    names_of();
+    rows();
+    names();
 }

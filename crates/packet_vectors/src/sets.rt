@@ -1,30 +1,41 @@
 // Sets of tables of which only a few have rows. A table without rows comes from the caller, so that all live alike.
 use crate::packet::PACKET;
-use crate::show::extracted;
+use crate::questions::questions;
 use crate::show::identified;
 
-// Which packet 01's packet is by the tables pid and pic.
-pub(crate) fn packet<'a>(label: &[u8], none: &'a [u8], pid: &'a [u8], pic: &'a [u8]) {
+// Which packet p is by the tables pid and pic.
+pub(crate) fn packet<'a>(label: &[u8], none: &'a [u8], pid: &'a [u8], pic: &'a [u8], p: &[u8]) {
     identified(
         label,
         [pid, pic, none, none, none, none, none, none, none, none],
-        &PACKET,
+        p,
     );
 }
 
-// What 01's packet says of an occurrence by the tables pid, plf and pcf.
-pub(crate) fn parameter<'a>(
+// What p says by the tables pid, plf and pcf, for each line of a text.
+pub(crate) fn parameters_in<'a>(
+    p: &[u8],
     none: &'a [u8],
     pid: &'a [u8],
     plf: &'a [u8],
     pcf: &'a [u8],
-    name: &[u8],
-    occurrence: usize,
+    text: &[u8],
 ) {
-    extracted(
+    questions(
         [pid, none, plf, pcf, none, none, none, none, none, none],
+        p,
+        text,
+    );
+}
+
+// The same of 01's packet, with SPID 7.
+pub(crate) fn parameters<'a>(plf: &'a [u8], pcf: &'a [u8], text: &[u8]) {
+    parameters_in(
         &PACKET,
-        name,
-        occurrence,
+        b"",
+        b"3\t25\t10\t\t\t7\t\t\t\t\t\t\t\t\t\t\n",
+        plf,
+        pcf,
+        text,
     );
 }

@@ -45,35 +45,38 @@ fn part(from: ByteOffset, bytes: usize, valid: bool) {
     validity(valid);
 }
 
+fn which(identified: Identified) {
+    match identified {
+        Identified::Is(row, spid, numbers) => packet(row, spid, numbers),
+        Identified::Refused(refusal) => refused(refusal),
+    }
+}
+
+fn answer(extracted: Extracted) {
+    match extracted {
+        Extracted::Number(v, valid) => integer(v, valid),
+        Extracted::Part(from, bytes, valid) => part(from, bytes, valid),
+        Extracted::Refused(refusal) => refused(refusal),
+    }
+}
+
 // Which packet p is.
 pub(crate) fn identified(label: &[u8], tables: [&[u8]; TABLES], p: &[u8]) {
     io::write_all(1, b"identify ");
     io::write_all(1, label);
     io::write_all(1, b": ");
-    match identify(tables, p) {
-        Identified::Is(row, spid, numbers) => packet(row, spid, numbers),
-        Identified::Refused(refusal) => refused(refusal),
-    }
+    which(identify(tables, p));
     io::write_all(1, b"\n");
 }
 
-// What p says of an occurrence of a parameter.
-fn answer(tables: [&[u8]; TABLES], p: &[u8], name: &[u8], occurrence: usize) {
-    match extract(tables, p, name, occurrence) {
-        Extracted::Number(v, valid) => integer(v, valid),
-        Extracted::Part(from, bytes, valid) => part(from, bytes, valid),
-        Extracted::Refused(refusal) => refused(refusal),
-    }
-    io::write_all(1, b"\n");
-}
-
-// By the name and the occurrence.
+// What p says of an occurrence of a parameter, by the name and the occurrence.
 pub(crate) fn extracted(tables: [&[u8]; TABLES], p: &[u8], name: &[u8], occurrence: usize) {
     io::write_all(1, b"extract ");
     io::write_all(1, name);
     number(b" ", occurrence as u64);
     io::write_all(1, b": ");
-    answer(tables, p, name, occurrence);
+    answer(extract(tables, p, name, occurrence));
+    io::write_all(1, b"\n");
 }
 
 // By a label, where the name doesn't say what is asked.
@@ -87,5 +90,6 @@ pub(crate) fn labelled(
     io::write_all(1, b"extract ");
     io::write_all(1, label);
     io::write_all(1, b": ");
-    answer(tables, p, name, occurrence);
+    answer(extract(tables, p, name, occurrence));
+    io::write_all(1, b"\n");
 }

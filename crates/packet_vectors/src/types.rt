@@ -1,10 +1,8 @@
 // Fields of each type, by their names' widths in bits.
-use crate::sets::parameter;
+use crate::sets::parameters;
 
-fn unsigned(name: &[u8]) {
-    parameter(
-        b"",
-        b"3\t25\t10\t\t\t7\t\t\t\t\t\t\t\t\t\t\n",
+fn unsigned() {
+    parameters(
         b"\
             BIT\t7\t11\t0\t\t\t\t\n\
             BIT1\t7\t11\t1\t\t\t\t\n\
@@ -29,16 +27,24 @@ fn unsigned(name: &[u8]) {
             U24\t\t\t\t3\t13\t\t\t\tN\tR\t\t\t\t\t\t\t\t\t\t\t\t\n\
             U32\t\t\t\t3\t14\t\t\t\tN\tR\t\t\t\t\t\t\t\t\t\t\t\t\n\
         ",
-        name,
-        0,
+        b"\
+            BIT\n\
+            BIT1\n\
+            ENUM1\n\
+            ENUM12\n\
+            ENUM32\n\
+            U4\n\
+            U11\n\
+            U16\n\
+            U24\n\
+            U32\n\
+        ",
     );
 }
 
 // 01: "PTC 4 is two's complement."
-fn signed(name: &[u8]) {
-    parameter(
-        b"",
-        b"3\t25\t10\t\t\t7\t\t\t\t\t\t\t\t\t\t\n",
+fn signed() {
+    parameters(
         b"\
             I4\t7\t11\t0\t\t\t\t\n\
             I8\t7\t10\t0\t\t\t\t\n\
@@ -53,16 +59,19 @@ fn signed(name: &[u8]) {
             I24\t\t\t\t4\t13\t\t\t\tN\tR\t\t\t\t\t\t\t\t\t\t\t\t\n\
             I32\t\t\t\t4\t14\t\t\t\tN\tR\t\t\t\t\t\t\t\t\t\t\t\t\n\
         ",
-        name,
-        0,
+        b"\
+            I4\n\
+            I8\n\
+            I16\n\
+            I24\n\
+            I32\n\
+        ",
     );
 }
 
 // PTC 6, and strings of PTC 7 and 8 by their lengths in bytes.
-fn strings(name: &[u8]) {
-    parameter(
-        b"",
-        b"3\t25\t10\t\t\t7\t\t\t\t\t\t\t\t\t\t\n",
+fn strings() {
+    parameters(
         b"\
             BITS3\t7\t11\t5\t\t\t\t\n\
             BITS8\t7\t10\t0\t\t\t\t\n\
@@ -81,44 +90,20 @@ fn strings(name: &[u8]) {
             TEXT2\t\t\t\t8\t2\t\t\t\tT\tR\t\t\t\t\t\t\t\t\t\t\t\t\n\
             TEXT1\t\t\t\t8\t1\t\t\t\tT\tR\t\t\t\t\t\t\t\t\t\t\t\t\n\
         ",
-        name,
-        0,
+        b"\
+            BITS3\n\
+            BITS8\n\
+            BITS32\n\
+            OCTETS2\n\
+            OCTETS14\n\
+            TEXT2\n\
+            TEXT1\n\
+        ",
     );
 }
 
-fn unsigned_fields() {
-    unsigned(b"BIT");
-    unsigned(b"BIT1");
-    unsigned(b"ENUM1");
-    unsigned(b"ENUM12");
-    unsigned(b"ENUM32");
-    unsigned(b"U4");
-    unsigned(b"U11");
-    unsigned(b"U16");
-    unsigned(b"U24");
-    unsigned(b"U32");
-}
-
-fn signed_fields() {
-    signed(b"I4");
-    signed(b"I8");
-    signed(b"I16");
-    signed(b"I24");
-    signed(b"I32");
-}
-
-fn string_fields() {
-    strings(b"BITS3");
-    strings(b"BITS8");
-    strings(b"BITS32");
-    strings(b"OCTETS2");
-    strings(b"OCTETS14");
-    strings(b"TEXT2");
-    strings(b"TEXT1");
-}
-
 pub(crate) fn all() {
-    unsigned_fields();
-    signed_fields();
-    string_fields();
+    unsigned();
+    signed();
+    strings();
 }

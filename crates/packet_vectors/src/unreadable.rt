@@ -1,9 +1,12 @@
 // 01: "A validity parameter that can't be read makes it invalid."
-use crate::sets::parameter;
+use crate::packet::PACKET;
+use crate::sets::parameters;
+use crate::sets::parameters_in;
 
 // OTHER is in another packet, NONE and DERIVED in none; the plf row of BAD is bad, and OUT leaves the packet.
-fn of(name: &[u8]) {
-    parameter(
+fn not_there() {
+    parameters_in(
+        &PACKET,
         b"",
         b"\
             3\t25\t11\t\t\t6\t\t\t\t\t\t\t\t\t\t\n\
@@ -35,16 +38,26 @@ fn of(name: &[u8]) {
             IFIFOUT\t\t\t\t3\t4\t\tIFOUT\t\tN\tR\t\t\t\t\t\t\t18\t\t\t\t\t\n\
             OUTTOO\t\t\t\t3\t12\t\tOUT\t\tN\tR\t\t\t\t\t\t\t\t\t\t\t\t\n\
         ",
-        name,
-        0,
+        b"\
+            OTHER\n\
+            IFOTHER\n\
+            NONE\n\
+            IFNONE\n\
+            DERIVED\n\
+            IFDERIVE\n\
+            BAD\n\
+            IFBAD\n\
+            OUT\n\
+            IFOUT\n\
+            IFIFOUT\n\
+            OUTTOO\n\
+        ",
     );
 }
 
 // SELF is on a circle and TOSELF leads to it; PTC 6 is no validity parameter's.
-fn bad_chains(name: &[u8]) {
-    parameter(
-        b"",
-        b"3\t25\t10\t\t\t7\t\t\t\t\t\t\t\t\t\t\n",
+fn bad_chains() {
+    parameters(
         b"\
             SELF\t7\t10\t0\t\t\t\t\n\
             TOSELF\t7\t10\t0\t\t\t\t\n\
@@ -57,38 +70,16 @@ fn bad_chains(name: &[u8]) {
             BITS\t\t\t\t6\t8\t\t\t\tN\tR\t\t\t\t\t\t\t\t\t\t\t\t\n\
             IFBITS\t\t\t\t3\t4\t\tBITS\t\tN\tR\t\t\t\t\t\t\t255\t\t\t\t\t\n\
         ",
-        name,
-        0,
+        b"\
+            SELF\n\
+            TOSELF\n\
+            BITS\n\
+            IFBITS\n\
+        ",
     );
-}
-
-fn not_there() {
-    of(b"OTHER");
-    of(b"IFOTHER");
-    of(b"NONE");
-    of(b"IFNONE");
-    of(b"DERIVED");
-    of(b"IFDERIVE");
-    of(b"BAD");
-    of(b"IFBAD");
-}
-
-fn outside() {
-    of(b"OUT");
-    of(b"IFOUT");
-    of(b"IFIFOUT");
-    of(b"OUTTOO");
-}
-
-fn bad_rows() {
-    bad_chains(b"SELF");
-    bad_chains(b"TOSELF");
-    bad_chains(b"BITS");
-    bad_chains(b"IFBITS");
 }
 
 pub(crate) fn all() {
     not_there();
-    outside();
-    bad_rows();
+    bad_chains();
 }

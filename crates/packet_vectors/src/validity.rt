@@ -1,11 +1,9 @@
 // Chains of validity parameters.
-use crate::sets::parameter;
+use crate::sets::parameters;
 
 // A names B, B names C; C is 133 and B is 255.
-fn three(name: &[u8]) {
-    parameter(
-        b"",
-        b"3\t25\t10\t\t\t7\t\t\t\t\t\t\t\t\t\t\n",
+fn three() {
+    parameters(
         b"\
             A\t7\t12\t0\t\t\t\t\n\
             B\t7\t10\t0\t\t\t\t\n\
@@ -16,16 +14,17 @@ fn three(name: &[u8]) {
             B\t\t\t\t3\t4\t\tC\t\tN\tR\t\t\t\t\t\t\t133\t\t\t\t\t\n\
             C\t\t\t\t3\t4\t\t\t\tN\tR\t\t\t\t\t\t\t\t\t\t\t\t\n\
         ",
-        name,
-        0,
+        b"\
+            C\n\
+            B\n\
+            A\n\
+        ",
     );
 }
 
 // LOW is 133 and MIDDLE asks for 134; MIDDLE and UPPER have the values that are asked for.
-fn broken(name: &[u8]) {
-    parameter(
-        b"",
-        b"3\t25\t10\t\t\t7\t\t\t\t\t\t\t\t\t\t\n",
+fn broken() {
+    parameters(
         b"\
             TOP\t7\t11\t4\t\t\t\t\n\
             UPPER\t7\t12\t0\t\t\t\t\n\
@@ -40,16 +39,19 @@ fn broken(name: &[u8]) {
             LOW\t\t\t\t3\t4\t\t\t\tN\tR\t\t\t\t\t\t\t\t\t\t\t\t\n\
             SIDE\t\t\t\t3\t4\t\tLOW\t\tN\tR\t\t\t\t\t\t\t133\t\t\t\t\t\n\
         ",
-        name,
-        0,
+        b"\
+            LOW\n\
+            MIDDLE\n\
+            UPPER\n\
+            TOP\n\
+            SIDE\n\
+        ",
     );
 }
 
 // Each asks for 1, and is 1.
-fn six(name: &[u8]) {
-    parameter(
-        b"",
-        b"3\t25\t10\t\t\t7\t\t\t\t\t\t\t\t\t\t\n",
+fn six() {
+    parameters(
         b"\
             LINK1\t7\t11\t0\t\t\t\t\n\
             LINK2\t7\t11\t0\t\t\t\t\n\
@@ -66,19 +68,14 @@ fn six(name: &[u8]) {
             LINK5\t\t\t\t1\t0\t\tLINK6\t\tN\tR\t\t\t\t\t\t\t\t\t\t\t\t\n\
             LINK6\t\t\t\t1\t0\t\t\t\tN\tR\t\t\t\t\t\t\t\t\t\t\t\t\n\
         ",
-        name,
-        0,
+        b"\
+            LINK1\n\
+        ",
     );
 }
 
 pub(crate) fn all() {
-    three(b"C");
-    three(b"B");
-    three(b"A");
-    broken(b"LOW");
-    broken(b"MIDDLE");
-    broken(b"UPPER");
-    broken(b"TOP");
-    broken(b"SIDE");
-    six(b"LINK1");
+    three();
+    broken();
+    six();
 }

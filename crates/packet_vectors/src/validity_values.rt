@@ -1,13 +1,11 @@
 // What a validity parameter is compared with. 01: "equals the VALPAR of the reading's own pcf row"
 use crate::packet::PACKET;
-use crate::sets::parameter;
-use crate::show::extracted;
+use crate::questions::questions;
+use crate::sets::parameters;
 
 // MINUS is -1 and PLUS is 255.
-fn signs(name: &[u8]) {
-    parameter(
-        b"",
-        b"3\t25\t10\t\t\t7\t\t\t\t\t\t\t\t\t\t\n",
+fn signs() {
+    parameters(
         b"\
             MINUS\t7\t10\t0\t\t\t\t\n\
             PLUS\t7\t10\t0\t\t\t\t\n\
@@ -24,16 +22,18 @@ fn signs(name: &[u8]) {
             NOMINUS\t\t\t\t3\t4\t\tPLUS\t\tN\tR\t\t\t\t\t\t\t-1\t\t\t\t\t\n\
             IFPLUS\t\t\t\t3\t4\t\tPLUS\t\tN\tR\t\t\t\t\t\t\t0xFF\t\t\t\t\t\n\
         ",
-        name,
-        0,
+        b"\
+            IFMINUS\n\
+            IF255\n\
+            NOMINUS\n\
+            IFPLUS\n\
+        ",
     );
 }
 
 // OWN is 133 and has VALPAR 133, which nothing asks for.
-fn defaults(name: &[u8]) {
-    parameter(
-        b"",
-        b"3\t25\t10\t\t\t7\t\t\t\t\t\t\t\t\t\t\n",
+fn defaults() {
+    parameters(
         b"\
             ONE\t7\t11\t0\t\t\t\t\n\
             ZERO\t7\t11\t1\t\t\t\t\n\
@@ -52,16 +52,19 @@ fn defaults(name: &[u8]) {
             IFZERO0\t\t\t\t3\t4\t\tZERO\t\tN\tR\t\t\t\t\t\t\t0\t\t\t\t\t\n\
             IFOWN\t\t\t\t3\t4\t\tOWN\t\tN\tR\t\t\t\t\t\t\t\t\t\t\t\t\n\
         ",
-        name,
-        0,
+        b"\
+            IFONE\n\
+            IFZERO\n\
+            IFZERO0\n\
+            OWN\n\
+            IFOWN\n\
+        ",
     );
 }
 
-// ENUM is 3,973, and WIDE ends in the two bytes of 4,660. EACH is 255 and then 133.
-fn kinds(name: &[u8], occurrence: usize) {
-    parameter(
-        b"",
-        b"3\t25\t10\t\t\t7\t\t\t\t\t\t\t\t\t\t\n",
+// 01: "occurrence 0 of the same packet". ENUM is 3,973, and WIDE ends in the two bytes of 4,660. EACH is 255 and then 133.
+fn kinds() {
+    parameters(
         b"\
             ENUM\t7\t10\t4\t\t\t\t\n\
             WIDE\t7\t10\t0\t\t\t\t\n\
@@ -84,14 +87,22 @@ fn kinds(name: &[u8], occurrence: usize) {
             NOOCTETS\t\t\t\t7\t2\t\tENUM\t\tN\tR\t\t\t\t\t\t\t\t\t\t\t\t\n\
             TEXT\t\t\t\t8\t1\t\tENUM\t\tT\tR\t\t\t\t\t\t\t3973\t\t\t\t\t\n\
         ",
-        name,
-        occurrence,
+        b"\
+            IFWIDE\n\
+            IFEACH\n\
+            IFEACH\t1\n\
+            IFLATER\n\
+            IFLATER\t1\n\
+            OCTETS\n\
+            NOOCTETS\n\
+            TEXT\n\
+        ",
     );
 }
 
-// CURVED is 133, which its curve makes 266; TEXTED is 255 and has a text.
-fn curves_of(name: &[u8]) {
-    extracted(
+// 01: "Validity compares raw values." CURVED is 133, which its curve makes 266; TEXTED is 255 and has a text.
+fn raw_values() {
+    questions(
         [
             b"3\t25\t10\t\t\t7\t\t\t\t\t\t\t\t\t\t\n",
             b"",
@@ -117,46 +128,19 @@ fn curves_of(name: &[u8]) {
             b"",
         ],
         &PACKET,
-        name,
-        0,
+        b"\
+            CURVED\n\
+            TEXTED\n\
+            IFRAW\n\
+            IFCURVED\n\
+            IFTEXTED\n\
+        ",
     );
 }
 
-fn integers() {
-    signs(b"IFMINUS");
-    signs(b"IF255");
-    signs(b"NOMINUS");
-    signs(b"IFPLUS");
-    defaults(b"IFONE");
-    defaults(b"IFZERO");
-    defaults(b"IFZERO0");
-    defaults(b"OWN");
-    defaults(b"IFOWN");
-}
-
-// 01: "occurrence 0 of the same packet"
-fn widths_and_occurrences() {
-    kinds(b"IFWIDE", 0);
-    kinds(b"IFEACH", 0);
-    kinds(b"IFEACH", 1);
-    kinds(b"IFLATER", 0);
-    kinds(b"IFLATER", 1);
-    kinds(b"OCTETS", 0);
-    kinds(b"NOOCTETS", 0);
-    kinds(b"TEXT", 0);
-}
-
-// 01: "Validity compares raw values."
-fn raw_values() {
-    curves_of(b"CURVED");
-    curves_of(b"TEXTED");
-    curves_of(b"IFRAW");
-    curves_of(b"IFCURVED");
-    curves_of(b"IFTEXTED");
-}
-
 pub(crate) fn all() {
-    integers();
-    widths_and_occurrences();
+    signs();
+    defaults();
+    kinds();
     raw_values();
 }
