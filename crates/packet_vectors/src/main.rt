@@ -9,6 +9,7 @@ mod large;
 mod occurrences;
 mod orders;
 mod packet;
+mod packet_lines;
 mod packets_of;
 mod pic_rows;
 mod pid_rows;

@@ -1,5 +1,6 @@
 // Sets of tables of which only a few have rows. A table without rows comes from the caller, so that all live alike.
 use crate::packet::PACKET;
+use crate::packet_lines::packets;
 use crate::questions::questions;
 use crate::show::identified;
 
@@ -9,6 +10,21 @@ pub(crate) fn packet<'a>(label: &[u8], none: &'a [u8], pid: &'a [u8], pic: &'a [
         label,
         [pid, pic, none, none, none, none, none, none, none, none],
         p,
+    );
+}
+
+// The packets of a text by the tables pid, pic, plf and pcf.
+pub(crate) fn packets_by<'a>(
+    none: &'a [u8],
+    pid: &'a [u8],
+    pic: &'a [u8],
+    plf: &'a [u8],
+    pcf: &'a [u8],
+    text: &[u8],
+) {
+    packets(
+        [pid, pic, plf, pcf, none, none, none, none, none, none],
+        text,
     );
 }
 

@@ -45,14 +45,7 @@ fn part(from: ByteOffset, bytes: usize, valid: bool) {
     validity(valid);
 }
 
-fn which(identified: Identified) {
-    match identified {
-        Identified::Is(row, spid, numbers) => packet(row, spid, numbers),
-        Identified::Refused(refusal) => refused(refusal),
-    }
-}
-
-fn answer(extracted: Extracted) {
+fn what(extracted: Extracted) {
     match extracted {
         Extracted::Number(v, valid) => integer(v, valid),
         Extracted::Part(from, bytes, valid) => part(from, bytes, valid),
@@ -60,12 +53,20 @@ fn answer(extracted: Extracted) {
     }
 }
 
+fn answer(tables: [&[u8]; TABLES], p: &[u8], name: &[u8], occurrence: usize) {
+    what(extract(tables, p, name, occurrence));
+    io::write_all(1, b"\n");
+}
+
 // Which packet p is.
 pub(crate) fn identified(label: &[u8], tables: [&[u8]; TABLES], p: &[u8]) {
     io::write_all(1, b"identify ");
     io::write_all(1, label);
     io::write_all(1, b": ");
-    which(identify(tables, p));
+    match identify(tables, p) {
+        Identified::Is(row, spid, numbers) => packet(row, spid, numbers),
+        Identified::Refused(refusal) => refused(refusal),
+    }
     io::write_all(1, b"\n");
 }
 
@@ -75,8 +76,7 @@ pub(crate) fn extracted(tables: [&[u8]; TABLES], p: &[u8], name: &[u8], occurren
     io::write_all(1, name);
     number(b" ", occurrence as u64);
     io::write_all(1, b": ");
-    answer(extract(tables, p, name, occurrence));
-    io::write_all(1, b"\n");
+    answer(tables, p, name, occurrence);
 }
 
 // By a label, where the name doesn't say what is asked.
@@ -90,6 +90,5 @@ pub(crate) fn labelled(
     io::write_all(1, b"extract ");
     io::write_all(1, label);
     io::write_all(1, b": ");
-    answer(extract(tables, p, name, occurrence));
-    io::write_all(1, b"\n");
+    answer(tables, p, name, occurrence);
 }
