@@ -4,8 +4,10 @@
 mod curve_names;
 mod packet;
 mod points;
+mod questions;
 mod ranges;
 mod refusals;
+mod sets;
 mod show;
 mod texts;
 mod uncalibrated;

@@ -33,16 +33,21 @@ fn text(txp: &[u8], row: RowNumber, from: ByteOffset, bytes: usize) {
     io::write_all(1, string_part(txp, from, bytes));
 }
 
-fn answer(tables: [&[u8]; TABLES], p: &[u8], name: &[u8], occurrence: usize) {
-    match engineer(tables, p, name, occurrence) {
+// A text is a part of txp.
+fn what(engineered: Engineered, txp: &[u8]) {
+    match engineered {
         Engineered::Number(v) => integer(v),
         Engineered::Part(from, bytes) => part(from, bytes),
-        Engineered::Text(row, from, bytes) => text(table_at(tables, 7), row, from, bytes),
+        Engineered::Text(row, from, bytes) => text(txp, row, from, bytes),
         Engineered::OffCurve => refused_at(30, 0),
         Engineered::OutOfRange => refused_at(31, 0),
         Engineered::NoText => refused_at(32, 0),
         Engineered::Refused(refusal) => refused(refusal),
     }
+}
+
+fn answer(tables: [&[u8]; TABLES], p: &[u8], name: &[u8], occurrence: usize) {
+    what(engineer(tables, p, name, occurrence), table_at(tables, 7));
     io::write_all(1, b"\n");
 }
 
