@@ -1,4 +1,4 @@
-// Rows that are bad in the same way in every table.
+// Rows of one table, and those that are bad in the same way in every table.
 use crate::each::Asked;
 use crate::each::each;
 use crate::show::number;
@@ -17,12 +17,14 @@ fn of_513(name: &[u8], label: &[u8], table: Table, byte: u8) {
     number(label, formed(table, &line, true) as u64);
 }
 
-fn of_70000(label: &[u8], table: Table, byte: u8) {
-    let line = [byte; 70000];
-    number(label, formed(table, &line, true) as u64);
+// Rows of a table, of which the last is unterminated, and further rows.
+pub(crate) fn verdicts(name: &[u8], table: Table, rows: &[u8], further: &[u8]) {
+    each(name, Asked::Verdict(table), rows);
+    each(name, Asked::Verdict(table), further);
 }
 
-pub(crate) fn all(name: &[u8], table: Table) {
+// Rows that are bad in the same way in every table.
+pub(crate) fn bad_in_all(name: &[u8], table: Table) {
     each(name, Asked::Verdict(table), b"of LF alone: \n");
     of_512(name, b"of 512 letters", table, b'A');
     of_513(name, b"of 513 letters", table, b'A');
@@ -33,6 +35,11 @@ pub(crate) fn all(name: &[u8], table: Table) {
 
 // Longer than a whole table may be.
 pub(crate) fn longest() {
-    of_70000(b"pid of 70000 letters", Table::Pid, b'A');
-    of_70000(b"pcf of 70000 TABs", Table::Pcf, b'\t');
+    let letters = [b'A'; 70000];
+    number(
+        b"pid of 70000 letters",
+        formed(Table::Pid, &letters, true) as u64,
+    );
+    let tabs = [b'\t'; 70000];
+    number(b"pcf of 70000 TABs", formed(Table::Pcf, &tabs, true) as u64);
 }

@@ -1,15 +1,13 @@
 // Rows of caf.
-use crate::any_table;
-use crate::each::Asked;
-use crate::each::each;
+use crate::any_table::bad_in_all;
+use crate::any_table::verdicts;
 use schemas::Table;
 
-fn verdicts(vectors: &[u8]) {
-    each(b"caf ", Asked::Verdict(Table::Caf), vectors);
-}
-
-fn rows() {
+// Whole rows, of which the last is unterminated; then widths, values and contradictions.
+pub(crate) fn all() {
     verdicts(
+        b"caf ",
+        Table::Caf,
         b"\
         full: C1\tBus volts\tI\tU\tD\tV\t3\tP\n\
         with what is mandatory alone: C1\t\tI\tU\t\t\t3\t\n\
@@ -22,11 +20,6 @@ fn rows() {
         RAWFMT empty: C1\t\tI\t\t\t\t3\t\n\
         NCURVE empty: C1\t\tI\tU\t\t\t\t\n\
         unterminated: C1\t\tI\tU\t\t\t3\t",
-    );
-}
-
-fn widths() {
-    verdicts(
         b"\
         as wide as allowed: ABCDEFGHIJ\tABCDEFGHIJKLMNOPQRSTUVWXYZABCDEF\tI\tU\tH\tABCD\t100\tF\n\
         NUMBR of 11 bytes: ABCDEFGHIJK\t\tI\tU\t\t\t3\t\n\
@@ -37,13 +30,6 @@ fn widths() {
         UNIT of 5 bytes: C1\t\tI\tU\t\tABCDE\t3\t\n\
         NCURVE of 4 bytes: C1\t\tI\tU\t\t\t0003\t\n\
         INTER of 2 bytes: C1\t\tI\tU\t\t\t3\tPF\n\
-    ",
-    );
-}
-
-fn values() {
-    verdicts(
-        b"\
         ENGFMT X: C1\t\tX\tU\t\t\t3\t\n\
         RAWFMT i: C1\t\tI\ti\t\t\t3\t\n\
         RADIX B: C1\t\tI\tU\tB\t\t3\t\n\
@@ -57,24 +43,10 @@ fn values() {
         NCURVE 100: C1\t\tI\tU\t\t\t100\t\n\
         NCURVE 101: C1\t\tI\tU\t\t\t101\t\n\
         NCURVE -2: C1\t\tI\tU\t\t\t-2\t\n\
-    ",
-    );
-}
-
-fn contradictions() {
-    verdicts(
-        b"\
         ENGFMT R: C1\t\tR\tU\t\t\t3\t\n\
         RAWFMT R: C1\t\tI\tR\t\t\t3\t\n\
         ENGFMT and RAWFMT R: C1\t\tR\tR\t\t\t3\t\n\
     ",
     );
-}
-
-pub(crate) fn all() {
-    rows();
-    widths();
-    values();
-    contradictions();
-    any_table::all(b"caf ", Table::Caf);
+    bad_in_all(b"caf ", Table::Caf);
 }

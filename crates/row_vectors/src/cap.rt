@@ -1,17 +1,26 @@
 // Rows of cap. No column contradicts another, so there is no reason 8.
-use crate::any_table;
-use crate::each::Asked;
-use crate::each::each;
+use crate::any_table::bad_in_all;
+use crate::any_table::verdicts;
 use crate::show::number;
 use rows::read::formed;
 use schemas::Table;
 
-fn verdicts(vectors: &[u8]) {
-    each(b"cap ", Asked::Verdict(Table::Cap), vectors);
+// Exactly 512 bytes in three columns.
+fn longest() {
+    let mut line = [b'7'; 512];
+    line[1] = b'\t';
+    line[3] = b'\t';
+    number(
+        b"cap of 512 bytes in 3 columns",
+        formed(Table::Cap, &line, true) as u64,
+    );
 }
 
-fn rows() {
+// Whole rows, of which the last is unterminated; then widths and values.
+pub(crate) fn all() {
     verdicts(
+        b"cap ",
+        Table::Cap,
         b"\
         full: C1\t0\t5\n\
         with 0x7F in YVALS: C1\t0\t5\x7f\n\
@@ -22,23 +31,11 @@ fn rows() {
         XVALS empty: C1\t\t5\n\
         YVALS empty: C1\t0\t\n\
         unterminated: C1\t0\t5",
-    );
-}
-
-fn widths() {
-    verdicts(
         b"\
         as wide as allowed: ABCDEFGHIJ\t00000000000001\t0x00000000000F\n\
         NUMBR of 11 bytes: ABCDEFGHIJK\t0\t5\n\
         XVALS of 15 bytes: C1\t000000000000001\t5\n\
         YVALS of 15 bytes: C1\t0\t0x000000000000F\n\
-    ",
-    );
-}
-
-fn values() {
-    verdicts(
-        b"\
         XVALS 1e3: C1\t1e3\t5\n\
         YVALS 08: C1\t0\t08\n\
         YVALS 0x12F4: C1\t0\t0x12F4\n\
@@ -53,23 +50,6 @@ fn values() {
         YVALS 0xFFFFFFFFFFFF: C1\t0\t0xFFFFFFFFFFFF\n\
     ",
     );
-}
-
-// Exactly 512 bytes in three columns.
-fn longest() {
-    let mut line = [b'7'; 512];
-    line[1] = b'\t';
-    line[3] = b'\t';
-    number(
-        b"cap of 512 bytes in 3 columns",
-        formed(Table::Cap, &line, true) as u64,
-    );
-}
-
-pub(crate) fn all() {
-    rows();
-    widths();
-    values();
     longest();
-    any_table::all(b"cap ", Table::Cap);
+    bad_in_all(b"cap ", Table::Cap);
 }

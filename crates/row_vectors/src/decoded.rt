@@ -11,6 +11,7 @@ use crate::show::number;
 use crate::show::truth;
 use crate::show::word;
 use crate::signs::signed;
+use crate::signs::six_numbers;
 use lines::names::curve_name_of;
 use lines::names::name_of;
 use lines::names::same_curve_name;
@@ -29,12 +30,19 @@ use rows::records::OptionalApid;
 
 fn pid(line: &[u8]) {
     let row = read_pid(line, true).row;
-    number(b"decoded pid TYPE", row.ptype as u64);
-    number(b"decoded pid STYPE", row.stype as u64);
-    number(b"decoded pid APID", row.apid as u64);
-    number(b"decoded pid PI1_VAL", row.pi1 as u64);
-    number(b"decoded pid PI2_VAL", row.pi2 as u64);
-    number(b"decoded pid SPID", row.spid.0 as u64);
+    let values = [
+        row.ptype as i64,
+        row.stype as i64,
+        row.apid as i64,
+        row.pi1 as i64,
+        row.pi2 as i64,
+        row.spid.0 as i64,
+    ];
+    six_numbers(
+        b"decoded pid ",
+        b"TYPE\nSTYPE\nAPID\nPI1_VAL\nPI2_VAL\nSPID\n",
+        &values,
+    );
     let letter = row.valid;
     valid(b"decoded pid VALID", letter);
 }
@@ -48,12 +56,19 @@ fn apid(given: OptionalApid) {
 
 fn pic(line: &[u8]) {
     let row = read_pic(line, true).row;
-    number(b"decoded pic TYPE", row.ptype as u64);
-    number(b"decoded pic STYPE", row.stype as u64);
-    signed(b"decoded pic PI1_OFF", row.pi1off);
-    number(b"decoded pic PI1_WID", row.pi1wid as u64);
-    signed(b"decoded pic PI2_OFF", row.pi2off);
-    number(b"decoded pic PI2_WID", row.pi2wid as u64);
+    let values = [
+        row.ptype as i64,
+        row.stype as i64,
+        row.pi1off,
+        row.pi1wid as i64,
+        row.pi2off,
+        row.pi2wid as i64,
+    ];
+    six_numbers(
+        b"decoded pic ",
+        b"TYPE\nSTYPE\nPI1_OFF\nPI1_WID\nPI2_OFF\nPI2_WID\n",
+        &values,
+    );
     let given = row.apid;
     apid(given);
 }
@@ -146,21 +161,37 @@ fn ocp(line: &[u8]) {
 }
 
 // Rows with defaults, and then with all columns given.
-pub(crate) fn all() {
+fn packets() {
     pid(b"3\t25\t10\t\t\t1\t\t\t\t\t\t\t\t\t\t");
     pid(b"255\t0xF\t0767\t7\t8\t0x12F4\t\t\t\t\t\t\tN\t\t\t");
     pic(b"3\t25\t-1\t0\t-1\t0\t");
     pic(b"3\t25\t9\t8\t10\t16\t0");
+}
+
+fn parameters() {
     plf(b"P1\t1\t12\t4\t\t\t\t");
     plf(b"P1\t0x12F4\t0767\t7\t9999\t32767\tt\tt");
     pcf(b"P1\t\t\t\t3\t4\t\t\t\tN\tR\t\t\t\t\t\t\t\t\t\t\t\t");
     pcf(b"P1\t\t\t\t4\t13\t\tV1\t\tS\tC\tT1\t\t\t\t\t\t-9999\t\t\t\t\t");
+}
+
+fn curves_and_texts() {
     caf(b"C1\t\tI\tU\t\t\t3\t");
     caf(b"C1\t\tU\tI\tD\tV\t100\tP");
     cap(b"C1\t-1073741824\t0x12F4");
     txf(b"T1\t\tI\t999");
     txp(b"T1\t-2147483648\t4294967295\ton");
+}
+
+fn limits() {
     ocf(b"P1\t99\t16\tC\tI");
     ocp(b"P1\t0\tH\t-5\t10\t\t");
     ocp(b"P1\t99\tS\t0\t0xF\tV1\t65535");
+}
+
+pub(crate) fn all() {
+    packets();
+    parameters();
+    curves_and_texts();
+    limits();
 }

@@ -9,10 +9,13 @@ fn table(name: &[u8], bytes: &[u8]) {
     number(b"rows", lines as u64);
 }
 
-pub(crate) fn all() {
+fn line_feeds() {
     table(b"no bytes, ", b"");
     table(b"LF alone, ", b"\n");
     table(b"three LFs, ", b"\n\n\n");
+}
+
+fn rows() {
     table(b"one row without LF, ", b"C1\t0\t5");
     table(b"two rows, LF last, ", b"C1\t0\t0\nC1\t1\t5\n");
     table(b"two rows, no last LF, ", b"C1\t0\t0\nC1\t1\t5");
@@ -22,4 +25,9 @@ pub(crate) fn all() {
         b"two bad rows and a good one, ",
         b"C1\t0\nC1\t0\t08\nC1\t0\t5\n",
     );
+}
+
+pub(crate) fn all() {
+    line_feeds();
+    rows();
 }

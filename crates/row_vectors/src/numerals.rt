@@ -3,7 +3,18 @@ use crate::each::Asked;
 use crate::each::each;
 use crate::each::show_value;
 
-fn short() {
+fn of_seventy() {
+    let nines = [b'9'; 70];
+    show_value(b"number of 70 nines", &nines);
+    let zeros = [b'0'; 70];
+    show_value(b"number of 70 zeros", &zeros);
+    let mut letter = [b'9'; 70];
+    letter[69] = b'a';
+    show_value(b"number of 69 nines and a letter", &letter);
+}
+
+// Short texts, and then long ones: numbers are told below 2 ^ 60 in magnitude.
+pub(crate) fn all() {
     each(
         b"number ",
         Asked::Value,
@@ -31,16 +42,6 @@ fn short() {
         1.0\n\
         1a\n\
         \n\
-    ",
-    );
-}
-
-// Numbers are told below 2 ^ 60 in magnitude.
-fn long() {
-    each(
-        b"number ",
-        Asked::Value,
-        b"\
         12345678901234\n\
         0xFFFFFFFFFFFF\n\
         -2147483648\n\
@@ -51,20 +52,5 @@ fn long() {
         18446744073709551617\n\
     ",
     );
-}
-
-fn of_seventy() {
-    let nines = [b'9'; 70];
-    show_value(b"number of 70 nines", &nines);
-    let zeros = [b'0'; 70];
-    show_value(b"number of 70 zeros", &zeros);
-    let mut letter = [b'9'; 70];
-    letter[69] = b'a';
-    show_value(b"number of 69 nines and a letter", &letter);
-}
-
-pub(crate) fn all() {
-    short();
-    long();
     of_seventy();
 }

@@ -1,15 +1,13 @@
 // Rows of ocf. NBCHCK above 99 is too wide before it is out of range.
-use crate::any_table;
-use crate::each::Asked;
-use crate::each::each;
+use crate::any_table::bad_in_all;
+use crate::any_table::verdicts;
 use schemas::Table;
 
-fn verdicts(vectors: &[u8]) {
-    each(b"ocf ", Asked::Verdict(Table::Ocf), vectors);
-}
-
-fn rows() {
+// Whole rows, of which the last is unterminated; then widths, values and contradictions.
+pub(crate) fn all() {
     verdicts(
+        b"ocf ",
+        Table::Ocf,
         b"\
         full: P1\t2\t1\tU\tI\n\
         with INTER C: P1\t2\t1\tC\tI\n\
@@ -23,11 +21,6 @@ fn rows() {
         INTER empty: P1\t2\t1\t\tI\n\
         CODIN empty: P1\t2\t1\tU\t\n\
         unterminated: P1\t2\t1\tU\tI",
-    );
-}
-
-fn widths() {
-    verdicts(
         b"\
         as wide as allowed, at the highest: ABCDEFGH\t99\t16\tU\tI\n\
         NAME of 9 bytes: ABCDEFGHI\t2\t1\tU\tI\n\
@@ -35,13 +28,6 @@ fn widths() {
         NBOOL of 3 bytes: P1\t2\t001\tU\tI\n\
         INTER of 2 bytes: P1\t2\t1\tUU\tI\n\
         CODIN of 2 bytes: P1\t2\t1\tU\tII\n\
-    ",
-    );
-}
-
-fn values() {
-    verdicts(
-        b"\
         NBCHCK a: P1\ta\t1\tU\tI\n\
         NBOOL 1h: P1\t2\t1h\tU\tI\n\
         INTER N: P1\t2\t1\tN\tI\n\
@@ -54,23 +40,9 @@ fn values() {
         NBOOL 0: P1\t2\t0\tU\tI\n\
         NBOOL 17: P1\t2\t17\tU\tI\n\
         NBOOL -1: P1\t2\t-1\tU\tI\n\
-    ",
-    );
-}
-
-fn contradictions() {
-    verdicts(
-        b"\
         CODIN R: P1\t2\t1\tU\tR\n\
         CODIN A: P1\t2\t1\tU\tA\n\
     ",
     );
-}
-
-pub(crate) fn all() {
-    rows();
-    widths();
-    values();
-    contradictions();
-    any_table::all(b"ocf ", Table::Ocf);
+    bad_in_all(b"ocf ", Table::Ocf);
 }

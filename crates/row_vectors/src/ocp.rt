@@ -1,15 +1,13 @@
 // Rows of ocp. POS above 99 and VALPAR below -9999 are too wide before they are out of range.
-use crate::any_table;
-use crate::each::Asked;
-use crate::each::each;
+use crate::any_table::bad_in_all;
+use crate::any_table::verdicts;
 use schemas::Table;
 
-fn verdicts(vectors: &[u8]) {
-    each(b"ocp ", Asked::Verdict(Table::Ocp), vectors);
-}
-
-fn rows() {
+// Whole rows, of which the last is unterminated; then widths, values and contradictions.
+pub(crate) fn all() {
     verdicts(
+        b"ocp ",
+        Table::Ocp,
         b"\
         full: P1\t0\tS\t0\t10\tV1\t1\n\
         with what is mandatory alone: P1\t0\tH\t0\t10\t\t\n\
@@ -23,11 +21,6 @@ fn rows() {
         LVALU empty: P1\t0\tS\t\t10\t\t\n\
         HVALU empty: P1\t0\tS\t0\t\t\t\n\
         unterminated: P1\t0\tS\t0\t10\t\t",
-    );
-}
-
-fn widths() {
-    verdicts(
         b"\
         as wide as allowed: ABCDEFGH\t99\tS\t00000000000001\t0x0000FFFFFFFF\tABCDEFGH\t65535\n\
         NAME of 9 bytes: ABCDEFGHI\t0\tS\t0\t10\t\t\n\
@@ -37,13 +30,6 @@ fn widths() {
         HVALU of 15 bytes: P1\t0\tS\t0\t000000000000012\t\t\n\
         RLCHK of 9 bytes: P1\t0\tS\t0\t10\tABCDEFGHI\t\n\
         VALPAR of 6 bytes: P1\t0\tS\t0\t10\t\t000001\n\
-    ",
-    );
-}
-
-fn values() {
-    verdicts(
-        b"\
         POS p: P1\tp\tS\t0\t10\t\t\n\
         TYPE X: P1\t0\tX\t0\t10\t\t\n\
         TYPE s: P1\t0\ts\t0\t10\t\t\n\
@@ -60,13 +46,6 @@ fn values() {
         HVALU 4294967296: P1\t0\tS\t0\t4294967296\t\t\n\
         VALPAR 65536: P1\t0\tS\t0\t10\t\t65536\n\
         VALPAR -10000: P1\t0\tS\t0\t10\t\t-10000\n\
-    ",
-    );
-}
-
-fn contradictions() {
-    verdicts(
-        b"\
         TYPE D: P1\t0\tD\t0\t10\t\t\n\
         TYPE C: P1\t0\tC\t0\t10\t\t\n\
         TYPE E: P1\t0\tE\t0\t10\t\t\n\
@@ -76,12 +55,5 @@ fn contradictions() {
         TYPE D with low over high: P1\t0\tD\t10\t9\t\t\n\
     ",
     );
-}
-
-pub(crate) fn all() {
-    rows();
-    widths();
-    values();
-    contradictions();
-    any_table::all(b"ocp ", Table::Ocp);
+    bad_in_all(b"ocp ", Table::Ocp);
 }

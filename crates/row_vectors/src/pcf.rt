@@ -1,15 +1,13 @@
 // Rows of pcf. PTC above 99 and VALPAR below -9999 are too wide before they are out of range.
-use crate::any_table;
-use crate::each::Asked;
-use crate::each::each;
+use crate::any_table::bad_in_all;
+use crate::any_table::verdicts;
 use schemas::Table;
 
-fn verdicts(vectors: &[u8]) {
-    each(b"pcf ", Asked::Verdict(Table::Pcf), vectors);
-}
-
-fn rows() {
+// Whole rows, of which the last is unterminated; then widths, values, types and curves.
+pub(crate) fn all() {
     verdicts(
+        b"pcf ",
+        Table::Pcf,
         b"\
         full: P1\tBus voltage\t1\tV\t3\t4\t8\tV1\tR1\tN\tR\tC1\tP\tY\t2\t0\tPWR\t1\tE\tY\t7\t1\tB\n\
         with what is mandatory alone: P1\t\t\t\t3\t4\t\t\t\tN\tR\t\t\t\t\t\t\t\t\t\t\t\t\n\
@@ -24,11 +22,6 @@ fn rows() {
         CATEG empty: P1\t\t\t\t3\t4\t\t\t\t\tR\t\t\t\t\t\t\t\t\t\t\t\t\n\
         NATUR empty: P1\t\t\t\t3\t4\t\t\t\tN\t\t\t\t\t\t\t\t\t\t\t\t\t\n\
         unterminated: P1\t\t\t\t3\t4\t\t\t\tN\tR\t\t\t\t\t\t\t\t\t\t\t\t",
-    );
-}
-
-fn widths() {
-    verdicts(
         b"\
         as wide as allowed: ABCDEFGH\tABCDEFGHIJKLMNOPQRSTUVWX\tABCDEFGHIJ\tABCD\t03\t00014\tABCDEF\tABCDEFGH\t\
             ABCDEFGH\tS\tR\tABCDEFGHIJ\tF\tA\tABC\tABCDEFGHIJKLMN\tABCDEFGH\t65535\tA\tA\tABCDE\tA\tA\n\
@@ -55,13 +48,6 @@ fn widths() {
         OBTID of 6 bytes: P1\t\t\t\t3\t4\t\t\t\tN\tR\t\t\t\t\t\t\t\t\t\tABCDEF\t\t\n\
         DARC of 2 bytes: P1\t\t\t\t3\t4\t\t\t\tN\tR\t\t\t\t\t\t\t\t\t\t\tAB\t\n\
         ENDIAN of 2 bytes: P1\t\t\t\t3\t4\t\t\t\tN\tR\t\t\t\t\t\t\t\t\t\t\t\tAB\n\
-    ",
-    );
-}
-
-fn values() {
-    verdicts(
-        b"\
         PTC x: P1\t\t\t\tx\t4\t\t\t\tN\tR\t\t\t\t\t\t\t\t\t\t\t\t\n\
         PFC 4b: P1\t\t\t\t3\t4b\t\t\t\tN\tR\t\t\t\t\t\t\t\t\t\t\t\t\n\
         CATEG X: P1\t\t\t\t3\t4\t\t\t\tX\tR\t\t\t\t\t\t\t\t\t\t\t\t\n\
@@ -85,13 +71,6 @@ fn values() {
         PTC 100: P1\t\t\t\t100\t4\t\t\t\tN\tR\t\t\t\t\t\t\t\t\t\t\t\t\n\
         PFC -1: P1\t\t\t\t3\t-1\t\t\t\tN\tR\t\t\t\t\t\t\t\t\t\t\t\t\n\
         PFC 65536: P1\t\t\t\t3\t65536\t\t\t\tN\tR\t\t\t\t\t\t\t\t\t\t\t\t\n\
-    ",
-    );
-}
-
-fn types() {
-    verdicts(
-        b"\
         PTC 0: P1\t\t\t\t0\t4\t\t\t\tN\tR\t\t\t\t\t\t\t\t\t\t\t\t\n\
         PTC 99: P1\t\t\t\t99\t4\t\t\t\tN\tR\t\t\t\t\t\t\t\t\t\t\t\t\n\
         PTC 5: P1\t\t\t\t5\t4\t\t\t\tN\tR\t\t\t\t\t\t\t\t\t\t\t\t\n\
@@ -114,13 +93,6 @@ fn types() {
         S with PTC 2: P1\t\t\t\t2\t4\t\t\t\tS\tR\tT1\t\t\t\t\t\t\t\t\t\t\t\n\
         S with PTC 3: P1\t\t\t\t3\t4\t\t\t\tS\tR\tT1\t\t\t\t\t\t\t\t\t\t\t\n\
         S with PTC 4: P1\t\t\t\t4\t4\t\t\t\tS\tR\tT1\t\t\t\t\t\t\t\t\t\t\t\n\
-    ",
-    );
-}
-
-fn curves() {
-    verdicts(
-        b"\
         S without CURTX: P1\t\t\t\t3\t4\t\t\t\tS\tR\t\t\t\t\t\t\t\t\t\t\t\t\n\
         T with CURTX: P1\t\t\t\t8\t4\t\t\t\tT\tR\tT1\t\t\t\t\t\t\t\t\t\t\t\n\
         N with CURTX and PTC 6: P1\t\t\t\t6\t4\t\t\t\tN\tR\tC1\t\t\t\t\t\t\t\t\t\t\t\n\
@@ -135,13 +107,5 @@ fn curves() {
         PTC 5 and S without CURTX: P1\t\t\t\t5\t4\t\t\t\tS\tR\t\t\t\t\t\t\t\t\t\t\t\t\n\
     ",
     );
-}
-
-pub(crate) fn all() {
-    rows();
-    widths();
-    values();
-    types();
-    curves();
-    any_table::all(b"pcf ", Table::Pcf);
+    bad_in_all(b"pcf ", Table::Pcf);
 }

@@ -1,15 +1,13 @@
 // Rows of pic.
-use crate::any_table;
-use crate::each::Asked;
-use crate::each::each;
+use crate::any_table::bad_in_all;
+use crate::any_table::verdicts;
 use schemas::Table;
 
-fn verdicts(vectors: &[u8]) {
-    each(b"pic ", Asked::Verdict(Table::Pic), vectors);
-}
-
-fn rows() {
+// Whole rows, of which the last is unterminated; then widths, values and contradictions.
+pub(crate) fn all() {
     verdicts(
+        b"pic ",
+        Table::Pic,
         b"\
         full: 3\t25\t9\t8\t10\t16\t10\n\
         without APID: 3\t25\t9\t8\t10\t16\t\n\
@@ -24,11 +22,6 @@ fn rows() {
         PI2_OFF empty: 3\t25\t9\t8\t\t16\t\n\
         PI2_WID empty: 3\t25\t9\t8\t10\t\t\n\
         unterminated: 3\t25\t9\t8\t10\t16\t",
-    );
-}
-
-fn widths() {
-    verdicts(
         b"\
         as wide as allowed: 255\t255\t0x1FF\t040\t07777\t0x8\t65535\n\
         TYPE of 4 bytes: 0003\t25\t9\t8\t10\t16\t\n\
@@ -38,13 +31,6 @@ fn widths() {
         PI2_OFF of 6 bytes: 3\t25\t9\t8\t0x000A\t16\t\n\
         PI2_WID of 4 bytes: 3\t25\t9\t8\t10\t0x10\t\n\
         APID of 6 bytes: 3\t25\t9\t8\t10\t16\t0x000A\n\
-    ",
-    );
-}
-
-fn values() {
-    verdicts(
-        b"\
         TYPE 3.: 3.\t25\t9\t8\t10\t16\t\n\
         STYPE a: 3\ta\t9\t8\t10\t16\t\n\
         PI1_OFF --1: 3\t25\t--1\t8\t10\t16\t\n\
@@ -68,13 +54,6 @@ fn values() {
         PI2_WID -1: 3\t25\t9\t8\t10\t-1\t\n\
         APID 65536: 3\t25\t9\t8\t10\t16\t65536\n\
         APID -1: 3\t25\t9\t8\t10\t16\t-1\n\
-    ",
-    );
-}
-
-fn contradictions() {
-    verdicts(
-        b"\
         unused, with widths: 3\t25\t-1\t8\t-1\t16\t\n\
         PI1 at 0 of width 0: 3\t25\t0\t0\t10\t16\t\n\
         PI1 at -0 of width 0: 3\t25\t-0\t0\t10\t16\t\n\
@@ -83,12 +62,5 @@ fn contradictions() {
         PI1 unused, PI2 of width 0: 3\t25\t-1\t0\t10\t0\t\n\
     ",
     );
-}
-
-pub(crate) fn all() {
-    rows();
-    widths();
-    values();
-    contradictions();
-    any_table::all(b"pic ", Table::Pic);
+    bad_in_all(b"pic ", Table::Pic);
 }

@@ -1,15 +1,13 @@
 // Rows of pid. No column contradicts another, so there is no reason 8.
-use crate::any_table;
-use crate::each::Asked;
-use crate::each::each;
+use crate::any_table::bad_in_all;
+use crate::any_table::verdicts;
 use schemas::Table;
 
-fn verdicts(vectors: &[u8]) {
-    each(b"pid ", Asked::Verdict(Table::Pid), vectors);
-}
-
-fn rows() {
+// Whole rows, of which the last is unterminated; then widths and values.
+pub(crate) fn all() {
     verdicts(
+        b"pid ",
+        Table::Pid,
         b"\
         full: 3\t25\t10\t7\t8\t1\tHousekeeping\track\t-1\t10\tY\t5\tY\t1\tN\tnone\n\
         with what is mandatory alone: 3\t25\t10\t\t\t1\t\t\t\t\t\t\t\t\t\t\n\
@@ -23,11 +21,6 @@ fn rows() {
         APID empty: 3\t25\t\t\t\t1\t\t\t\t\t\t\t\t\t\t\n\
         SPID empty: 3\t25\t10\t\t\t\t\t\t\t\t\t\t\t\t\t\n\
         unterminated: 3\t25\t10\t7\t8\t1\tHousekeeping\track\t-1\t10\tY\t5\tY\t1\tN\tnone",
-    );
-}
-
-fn widths() {
-    verdicts(
         b"\
         as wide as allowed, at the highest: 255\t255\t65535\t2147483647\t2147483647\t4294967295\t\
             ABCDEFGHIJKLMNOPQRSTUVWXYZABCDEFGHIJKLMNOPQRSTUVWXYZABCDEFGHIJKL\tABCDEFGH\tABCDEFGHIJ\tAB\tA\t\
@@ -49,13 +42,6 @@ fn widths() {
         CHECK of 2 bytes: 3\t25\t10\t\t\t1\t\t\t\t\t\t\t\tAB\t\t\n\
         EVENT of 2 bytes: 3\t25\t10\t\t\t1\t\t\t\t\t\t\t\t\tAB\t\n\
         EVID of 18 bytes: 3\t25\t10\t\t\t1\t\t\t\t\t\t\t\t\t\tABCDEFGHIJKLMNOPQR\n\
-    ",
-    );
-}
-
-fn values() {
-    verdicts(
-        b"\
         TYPE 08: 08\t25\t10\t\t\t1\t\t\t\t\t\t\t\t\t\t\n\
         TYPE 3 after a space:  3\t25\t10\t\t\t1\t\t\t\t\t\t\t\t\t\t\n\
         STYPE 2x: 3\t2x\t10\t\t\t1\t\t\t\t\t\t\t\t\t\t\n\
@@ -82,11 +68,5 @@ fn values() {
         SPID 0: 3\t25\t10\t\t\t0\t\t\t\t\t\t\t\t\t\t\n\
     ",
     );
-}
-
-pub(crate) fn all() {
-    rows();
-    widths();
-    values();
-    any_table::all(b"pid ", Table::Pid);
+    bad_in_all(b"pid ", Table::Pid);
 }

@@ -1,15 +1,13 @@
 // Rows of plf. OFFBI below 0 and NBOCC above 9999 are too wide before they are out of range.
-use crate::any_table;
-use crate::each::Asked;
-use crate::each::each;
+use crate::any_table::bad_in_all;
+use crate::any_table::verdicts;
 use schemas::Table;
 
-fn verdicts(vectors: &[u8]) {
-    each(b"plf ", Asked::Verdict(Table::Plf), vectors);
-}
-
-fn rows() {
+// Whole rows, of which the last is unterminated; then widths, values and contradictions.
+pub(crate) fn all() {
     verdicts(
+        b"plf ",
+        Table::Plf,
         b"\
         full: P1\t1\t12\t4\t2\t16\t1\t0\n\
         with what is mandatory alone: P1\t1\t12\t4\t\t\t\t\n\
@@ -22,11 +20,6 @@ fn rows() {
         OFFBY empty: P1\t1\t\t4\t\t\t\t\n\
         OFFBI empty: P1\t1\t12\t\t\t\t\t\n\
         unterminated: P1\t1\t12\t4\t\t\t\t",
-    );
-}
-
-fn widths() {
-    verdicts(
         b"\
         as wide as allowed: ABCDEFGH\t4294967295\t07777\t7\t9999\t32767\tABCDEFGHI\tABCDEFGHI\n\
         NAME of 9 bytes: ABCDEFGHI\t1\t12\t4\t\t\t\t\n\
@@ -37,13 +30,6 @@ fn widths() {
         LGOCC of 6 bytes: P1\t1\t12\t4\t\t000020\t\t\n\
         TIME of 10 bytes: P1\t1\t12\t4\t\t\tABCDEFGHIJ\t\n\
         TDOCC of 10 bytes: P1\t1\t12\t4\t\t\t\tABCDEFGHIJ\n\
-    ",
-    );
-}
-
-fn values() {
-    verdicts(
-        b"\
         SPID 1a: P1\t1a\t12\t4\t\t\t\t\n\
         OFFBY 12 and a space: P1\t1\t12 \t4\t\t\t\t\n\
         OFFBI x: P1\t1\t12\tx\t\t\t\t\n\
@@ -62,13 +48,6 @@ fn values() {
         NBOCC -1: P1\t1\t12\t4\t-1\t\t\t\n\
         LGOCC 32768: P1\t1\t12\t4\t\t32768\t\t\n\
         LGOCC -1: P1\t1\t12\t4\t\t-1\t\t\n\
-    ",
-    );
-}
-
-fn contradictions() {
-    verdicts(
-        b"\
         NBOCC 2 with LGOCC 0: P1\t1\t12\t4\t2\t0\t\t\n\
         NBOCC 2 with LGOCC empty: P1\t1\t12\t4\t2\t\t\t\n\
         NBOCC empty with LGOCC 0: P1\t1\t12\t4\t\t0\t\t\n\
@@ -76,12 +55,5 @@ fn contradictions() {
         NBOCC 2 with LGOCC 1: P1\t1\t12\t4\t2\t1\t\t\n\
     ",
     );
-}
-
-pub(crate) fn all() {
-    rows();
-    widths();
-    values();
-    contradictions();
-    any_table::all(b"plf ", Table::Plf);
+    bad_in_all(b"plf ", Table::Plf);
 }

@@ -1,4 +1,6 @@
 // Numbers with a sign.
+use lines::columns::part;
+use lines::walk::next_line;
 ghost use mathlib.Core.Path.{_≡_};
 ghost use lib.IntN.{natAbs};
 
@@ -21,4 +23,20 @@ pub(crate) fn signed(label: &[u8], v: i64) {
     }
     io::print_decimal(1, magnitude(v));
     io::write_all(1, b"\n");
+}
+
+// Six numbers, each after the name of its table and its label, a line of a text.
+pub(crate) fn six_numbers(name: &[u8], labels: &[u8], values: &[i64; 6]) {
+    let mut i: usize = 0;
+    let mut from: usize = 0;
+    while from < labels.len() {
+        let line = next_line(labels, from);
+        let end = line.end;
+        if i < 6 {
+            io::write_all(1, name);
+            signed(part(labels, from, end), values[i]);
+            i += 1;
+        }
+        from = line.next;
+    }
 }

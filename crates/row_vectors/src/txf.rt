@@ -1,15 +1,13 @@
 // Rows of txf. NALIAS above 999 is too wide before it is out of range.
-use crate::any_table;
-use crate::each::Asked;
-use crate::each::each;
+use crate::any_table::bad_in_all;
+use crate::any_table::verdicts;
 use schemas::Table;
 
-fn verdicts(vectors: &[u8]) {
-    each(b"txf ", Asked::Verdict(Table::Txf), vectors);
-}
-
-fn rows() {
+// Whole rows, of which the last is unterminated; then widths, values and contradictions.
+pub(crate) fn all() {
     verdicts(
+        b"txf ",
+        Table::Txf,
         b"\
         full: T1\tModes\tU\t2\n\
         without DESCR: T1\t\tI\t2\n\
@@ -21,24 +19,12 @@ fn rows() {
         RAWFMT empty: T1\t\t\t2\n\
         NALIAS empty: T1\t\tU\t\n\
         unterminated: T1\t\tU\t2",
-    );
-}
-
-fn widths() {
-    verdicts(
         b"\
         as wide as allowed: ABCDEFGHIJ\tABCDEFGHIJKLMNOPQRSTUVWXYZABCDEF\tU\t999\n\
         NUMBR of 11 bytes: ABCDEFGHIJK\t\tU\t2\n\
         DESCR of 33 bytes: T1\tABCDEFGHIJKLMNOPQRSTUVWXYZABCDEFG\tU\t2\n\
         RAWFMT of 2 bytes: T1\t\tUU\t2\n\
         NALIAS of 4 bytes: T1\t\tU\t0002\n\
-    ",
-    );
-}
-
-fn values() {
-    verdicts(
-        b"\
         RAWFMT X: T1\t\tX\t2\n\
         RAWFMT u: T1\t\tu\t2\n\
         NALIAS 2a: T1\t\tU\t2a\n\
@@ -47,22 +33,8 @@ fn values() {
         NALIAS 1: T1\t\tU\t1\n\
         NALIAS 999: T1\t\tU\t999\n\
         NALIAS 1000: T1\t\tU\t1000\n\
-    ",
-    );
-}
-
-fn contradictions() {
-    verdicts(
-        b"\
         RAWFMT R: T1\t\tR\t2\n\
     ",
     );
-}
-
-pub(crate) fn all() {
-    rows();
-    widths();
-    values();
-    contradictions();
-    any_table::all(b"txf ", Table::Txf);
+    bad_in_all(b"txf ", Table::Txf);
 }

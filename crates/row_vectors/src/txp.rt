@@ -1,15 +1,13 @@
 // Rows of txp.
-use crate::any_table;
-use crate::each::Asked;
-use crate::each::each;
+use crate::any_table::bad_in_all;
+use crate::any_table::verdicts;
 use schemas::Table;
 
-fn verdicts(vectors: &[u8]) {
-    each(b"txp ", Asked::Verdict(Table::Txp), vectors);
-}
-
-fn rows() {
+// Whole rows, of which the last is unterminated; then widths, values and contradictions.
+pub(crate) fn all() {
     verdicts(
+        b"txp ",
+        Table::Txp,
         b"\
         full: T1\t0\t1\ton\n\
         with 0x7F in ALTXT: T1\t0\t1\ton\x7f\n\
@@ -21,24 +19,12 @@ fn rows() {
         TO empty: T1\t0\t\ton\n\
         ALTXT empty: T1\t0\t1\t\n\
         unterminated: T1\t0\t1\ton",
-    );
-}
-
-fn widths() {
-    verdicts(
         b"\
         as wide as allowed: ABCDEFGHIJ\t00000000000001\t0x000000000002\tABCDEFGHIJKLMN\n\
         NUMBR of 11 bytes: ABCDEFGHIJK\t0\t1\ton\n\
         FROM of 15 bytes: T1\t000000000000000\t1\ton\n\
         TO of 15 bytes: T1\t0\t000000000000001\ton\n\
         ALTXT of 15 bytes: T1\t0\t1\tABCDEFGHIJKLMNO\n\
-    ",
-    );
-}
-
-fn values() {
-    verdicts(
-        b"\
         FROM 1-: T1\t1-\t1\ton\n\
         TO 0b1: T1\t0\t0b1\ton\n\
         ALTXT of a space: T1\t0\t1\t \n\
@@ -49,13 +35,6 @@ fn values() {
         FROM 4294967296: T1\t4294967296\t1\ton\n\
         TO -2147483649: T1\t0\t-2147483649\ton\n\
         TO 4294967296: T1\t0\t4294967296\ton\n\
-    ",
-    );
-}
-
-fn contradictions() {
-    verdicts(
-        b"\
         FROM 2 over TO 1: T1\t2\t1\ton\n\
         FROM 0 over TO -1: T1\t0\t-1\ton\n\
         FROM -1 over TO -2: T1\t-1\t-2\ton\n\
@@ -64,12 +43,5 @@ fn contradictions() {
         FROM 010 to TO 9: T1\t010\t9\ton\n\
     ",
     );
-}
-
-pub(crate) fn all() {
-    rows();
-    widths();
-    values();
-    contradictions();
-    any_table::all(b"txp ", Table::Txp);
+    bad_in_all(b"txp ", Table::Txp);
 }
