@@ -4,10 +4,10 @@ use crate::sets::limits;
 use crate::sets::texts;
 
 // 01: "A caf row with NCURVE 3, two sound cap rows of it and nothing else"
-fn figure() {
+fn figure(none: &[u8]) {
     curves(
         b"NCURVE 3 with two cap rows",
-        b"",
+        none,
         b"C1\t\tI\tU\t\t\t3\t\n",
         b"\
             C1\t0\t0\n\
@@ -16,10 +16,10 @@ fn figure() {
     );
 }
 
-fn curve_counts() {
+fn curve_counts(none: &[u8]) {
     curves(
         b"NCURVE 2 with two cap rows",
-        b"",
+        none,
         b"C1\t\tI\tU\t\t\t2\t\n",
         b"\
             C1\t0\t0\n\
@@ -28,7 +28,7 @@ fn curve_counts() {
     );
     curves(
         b"NCURVE 2 with three cap rows",
-        b"",
+        none,
         b"C1\t\tI\tU\t\t\t2\t\n",
         b"\
             C1\t0\t0\n\
@@ -38,7 +38,7 @@ fn curve_counts() {
     );
     curves(
         b"NCURVE 2 twice, with two cap rows and with one",
-        b"",
+        none,
         b"\
             C1\t\tI\tU\t\t\t2\t\n\
             C2\t\tI\tU\t\t\t2\t\n\
@@ -52,10 +52,10 @@ fn curve_counts() {
 }
 
 // Rows with reasons 1 to 9 are not counted.
-fn not_counted() {
+fn not_counted(none: &[u8]) {
     curves(
         b"NCURVE 3 with a pair of cap rows of one key",
-        b"",
+        none,
         b"C1\t\tI\tU\t\t\t3\t\n",
         b"\
             C1\t0\t0\n\
@@ -65,7 +65,7 @@ fn not_counted() {
     );
     curves(
         b"NCURVE 2 beside a pair of cap rows of one key",
-        b"",
+        none,
         b"C1\t\tI\tU\t\t\t2\t\n",
         b"\
             C1\t0\t0\n\
@@ -76,7 +76,7 @@ fn not_counted() {
     );
     curves(
         b"NCURVE 3 with a cap row of reason 6",
-        b"",
+        none,
         b"C1\t\tI\tU\t\t\t3\t\n",
         b"\
             C1\t0\t0\n\
@@ -86,11 +86,11 @@ fn not_counted() {
     );
 }
 
-fn text_counts() {
-    texts(b"NALIAS 1 with no txp row", b"", b"T1\t\tU\t1\n", b"");
+fn text_counts(none: &[u8]) {
+    texts(b"NALIAS 1 with no txp row", none, b"T1\t\tU\t1\n", none);
     texts(
         b"NALIAS 1 with two txp rows",
-        b"",
+        none,
         b"T1\t\tU\t1\n",
         b"\
             T1\t0\t1\ton\n\
@@ -99,7 +99,7 @@ fn text_counts() {
     );
     texts(
         b"NALIAS 2 with two txp rows",
-        b"",
+        none,
         b"T1\t\tU\t2\n",
         b"\
             T1\t0\t1\ton\n\
@@ -109,17 +109,17 @@ fn text_counts() {
 }
 
 // A row with a later reason than 9 is counted.
-fn limit_counts() {
+fn limit_counts(none: &[u8]) {
     limits(
         b"NBOOL 2 with one ocp row",
-        b"",
+        none,
         b"P1\t\t\t\t3\t4\t\t\t\tN\tR\t\t\t\t\t\t\t\t\t\t\t\t\n",
         b"P1\t2\t2\tU\tI\n",
         b"P1\t0\tS\t0\t10\t\t\n",
     );
     limits(
         b"NBOOL 1 with two ocp rows",
-        b"",
+        none,
         b"P1\t\t\t\t3\t4\t\t\t\tN\tR\t\t\t\t\t\t\t\t\t\t\t\t\n",
         b"P1\t2\t1\tU\tI\n",
         b"\
@@ -129,17 +129,17 @@ fn limit_counts() {
     );
     limits(
         b"NBOOL 1 with an ocp row of reason 11",
-        b"",
+        none,
         b"P1\t\t\t\t3\t4\t\t\t\tN\tR\t\t\t\t\t\t\t\t\t\t\t\t\n",
         b"P1\t2\t1\tU\tI\n",
         b"P1\t0\tS\t0\t10\tX\t\n",
     );
 }
 
-pub(crate) fn all() {
-    figure();
-    curve_counts();
-    not_counted();
-    text_counts();
-    limit_counts();
+pub(crate) fn all(none: &[u8]) {
+    figure(none);
+    curve_counts(none);
+    not_counted(none);
+    text_counts(none);
+    limit_counts(none);
 }

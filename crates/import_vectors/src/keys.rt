@@ -1,68 +1,68 @@
 // Reason 9: in every key space all holders alike.
+use crate::cases::cases;
 use crate::sets::curves;
 use crate::sets::identifications;
 use crate::sets::limits;
 use crate::sets::packets;
-use crate::sets::parameters;
 use crate::sets::texts;
-use crate::show::set;
+use crate::sets::values;
 
-fn pid_keys() {
+fn pid_keys(none: &[u8]) {
     packets(
         b"pid of one SPID",
-        b"",
+        none,
         b"\
             3\t25\t10\t\t\t1\t\t\t\t\t\t\t\t\t\t\n\
             3\t26\t10\t\t\t0x1\t\t\t\t\t\t\t\t\t\t\n\
             3\t25\t11\t\t\t2\t\t\t\t\t\t\t\t\t\t\n\
         ",
-        b"",
-        b"",
+        none,
+        none,
     );
     packets(
         b"pid of the same five numbers",
-        b"",
+        none,
         b"\
             3\t25\t10\t\t\t1\t\t\t\t\t\t\t\t\t\t\n\
             3\t25\t10\t0\t0x0\t2\t\t\t\t\t\t\t\t\t\t\n\
             3\t25\t10\t1\t\t3\t\t\t\t\t\t\t\t\t\t\n\
         ",
-        b"",
-        b"",
+        none,
+        none,
     );
     packets(
         b"pid between two others by its two keys",
-        b"",
+        none,
         b"\
             3\t25\t10\t\t\t1\t\t\t\t\t\t\t\t\t\t\n\
             3\t25\t10\t\t\t2\t\t\t\t\t\t\t\t\t\t\n\
             3\t26\t10\t\t\t2\t\t\t\t\t\t\t\t\t\t\n\
         ",
-        b"",
-        b"",
+        none,
+        none,
     );
 }
 
 // 01: "N rows have no key and are never named."
-fn pid_without_keys() {
+fn pid_without_keys(none: &[u8]) {
     packets(
         b"pid of VALID N, Y, N",
-        b"",
+        none,
         b"\
             3\t25\t10\t\t\t1\t\t\t\t\t\t\tN\t\t\t\n\
             3\t25\t10\t\t\t1\t\t\t\t\t\t\tY\t\t\t\n\
             3\t25\t10\t\t\t1\t\t\t\t\t\t\tN\t\t\t\n\
         ",
-        b"",
-        b"",
+        none,
+        none,
     );
 }
 
 // 01: "an empty APID is a key of its own"
-fn pic_keys() {
+fn pic_keys(none: &[u8]) {
     identifications(
         b"pic of empty APID twice, 0 and 10",
-        b"",
+        none,
         b"\
             3\t25\t-1\t0\t-1\t0\t\n\
             3\t25\t-1\t0\t-1\t0\t0\n\
@@ -72,7 +72,7 @@ fn pic_keys() {
     );
     identifications(
         b"pic of APID 10 twice",
-        b"",
+        none,
         b"\
             3\t25\t-1\t0\t-1\t0\t10\n\
             3\t25\t-1\t0\t-1\t0\t0xA\n\
@@ -81,10 +81,10 @@ fn pic_keys() {
     );
 }
 
-fn plf_keys() {
+fn plf_keys(none: &[u8]) {
     packets(
         b"plf of one NAME and SPID",
-        b"",
+        none,
         b"\
             3\t25\t10\t\t\t1\t\t\t\t\t\t\t\t\t\t\n\
             3\t26\t10\t\t\t2\t\t\t\t\t\t\t\t\t\t\n\
@@ -98,40 +98,30 @@ fn plf_keys() {
     );
 }
 
-fn pcf_keys() {
-    parameters(
-        b"pcf of one NAME",
-        b"",
+fn pcf_keys(none: &[u8]) {
+    cases(
+        none,
         b"\
-            P1\t\t\t\t3\t4\t\t\t\tN\tR\t\t\t\t\t\t\t\t\t\t\t\t\n\
-            P2\t\t\t\t3\t4\t\t\t\tN\tR\t\t\t\t\t\t\t\t\t\t\t\t\n\
-            P1\t\t\t\t3\t4\t\t\t\tN\tR\t\t\t\t\t\t\t\t\t\t\t\t\n\
-        ",
-    );
-    parameters(
-        b"pcf of NAME with a space, and in lower case",
-        b"",
-        b"\
-            P1\t\t\t\t3\t4\t\t\t\tN\tR\t\t\t\t\t\t\t\t\t\t\t\t\n\
-            P1 \t\t\t\t3\t4\t\t\t\tN\tR\t\t\t\t\t\t\t\t\t\t\t\t\n\
-            p1\t\t\t\t3\t4\t\t\t\tN\tR\t\t\t\t\t\t\t\t\t\t\t\t\n\
-        ",
-    );
-    parameters(
-        b"pcf of a NAME that a row of reason 8 has",
-        b"",
-        b"\
-            P1\t\t\t\t3\t4\t\t\t\tN\tR\t\t\t\t\t\t\t\t\t\t\t\t\n\
-            P1\t\t\t\t5\t4\t\t\t\tN\tR\t\t\t\t\t\t\t\t\t\t\t\t\n\
+            pcf of one NAME\n\
+                P1\t\t\t\t3\t4\t\t\t\tN\tR\t\t\t\t\t\t\t\t\t\t\t\t\n\
+                P2\t\t\t\t3\t4\t\t\t\tN\tR\t\t\t\t\t\t\t\t\t\t\t\t\n\
+                P1\t\t\t\t3\t4\t\t\t\tN\tR\t\t\t\t\t\t\t\t\t\t\t\t\n\
+            pcf of NAME with a space, and in lower case\n\
+                P1\t\t\t\t3\t4\t\t\t\tN\tR\t\t\t\t\t\t\t\t\t\t\t\t\n\
+                P1 \t\t\t\t3\t4\t\t\t\tN\tR\t\t\t\t\t\t\t\t\t\t\t\t\n\
+                p1\t\t\t\t3\t4\t\t\t\tN\tR\t\t\t\t\t\t\t\t\t\t\t\t\n\
+            pcf of a NAME that a row of reason 8 has\n\
+                P1\t\t\t\t3\t4\t\t\t\tN\tR\t\t\t\t\t\t\t\t\t\t\t\t\n\
+                P1\t\t\t\t5\t4\t\t\t\tN\tR\t\t\t\t\t\t\t\t\t\t\t\t\n\
         ",
     );
 }
 
 // 01: "Key NUMBR and the value of XVALS."
-fn curve_keys() {
+fn curve_keys(none: &[u8]) {
     curves(
         b"caf of one NUMBR",
-        b"",
+        none,
         b"\
             C1\t\tI\tU\t\t\t2\t\n\
             C1\t\tI\tU\t\t\t2\t\n\
@@ -143,7 +133,7 @@ fn curve_keys() {
     );
     curves(
         b"cap of XVALS 10, 0xA and 012",
-        b"",
+        none,
         b"C1\t\tI\tU\t\t\t2\t\n",
         b"\
             C1\t10\t0\n\
@@ -156,10 +146,10 @@ fn curve_keys() {
 }
 
 // 01: "Key NUMBR, FROM's value."
-fn text_keys() {
+fn text_keys(none: &[u8]) {
     texts(
         b"txf of one NUMBR",
-        b"",
+        none,
         b"\
             T1\t\tU\t1\n\
             T1\t\tU\t1\n\
@@ -168,7 +158,7 @@ fn text_keys() {
     );
     texts(
         b"txp of FROM 0, 00 and -0",
-        b"",
+        none,
         b"T1\t\tU\t1\n",
         b"\
             T1\t0\t5\ta\n\
@@ -179,10 +169,10 @@ fn text_keys() {
     );
 }
 
-fn limit_keys() {
+fn limit_keys(none: &[u8]) {
     limits(
         b"ocf of one NAME",
-        b"",
+        none,
         b"P1\t\t\t\t3\t4\t\t\t\tN\tR\t\t\t\t\t\t\t\t\t\t\t\t\n",
         b"\
             P1\t2\t1\tU\tI\n\
@@ -192,7 +182,7 @@ fn limit_keys() {
     );
     limits(
         b"ocp of POS 1 and 01",
-        b"",
+        none,
         b"P1\t\t\t\t3\t4\t\t\t\tN\tR\t\t\t\t\t\t\t\t\t\t\t\t\n",
         b"P1\t2\t1\tU\tI\n",
         b"\
@@ -203,35 +193,31 @@ fn limit_keys() {
     );
 }
 
-fn key_spaces() {
-    set(
+fn key_spaces(none: &[u8]) {
+    values(
         b"one name in seven tables",
-        [
-            b"",
-            b"",
-            b"",
-            b"A\t\t\t\t3\t4\t\t\t\tN\tR\t\t\t\t\t\t\t\t\t\t\t\t\n",
-            b"A\t\tI\tU\t\t\t2\t\n",
-            b"\
-                A\t0\t0\n\
-                A\t1\t1\n\
-            ",
-            b"A\t\tU\t1\n",
-            b"A\t0\t0\ta\n",
-            b"A\t2\t1\tU\tI\n",
-            b"A\t0\tS\t0\t10\t\t\n",
-        ],
+        none,
+        b"A\t\t\t\t3\t4\t\t\t\tN\tR\t\t\t\t\t\t\t\t\t\t\t\t\n",
+        b"A\t\tI\tU\t\t\t2\t\n",
+        b"\
+            A\t0\t0\n\
+            A\t1\t1\n\
+        ",
+        b"A\t\tU\t1\n",
+        b"A\t0\t0\ta\n",
+        b"A\t2\t1\tU\tI\n",
+        b"A\t0\tS\t0\t10\t\t\n",
     );
 }
 
-pub(crate) fn all() {
-    pid_keys();
-    pid_without_keys();
-    pic_keys();
-    plf_keys();
-    pcf_keys();
-    curve_keys();
-    text_keys();
-    limit_keys();
-    key_spaces();
+pub(crate) fn all(none: &[u8]) {
+    pid_keys(none);
+    pid_without_keys(none);
+    pic_keys(none);
+    plf_keys(none);
+    pcf_keys(none);
+    curve_keys(none);
+    text_keys(none);
+    limit_keys(none);
+    key_spaces(none);
 }

@@ -22,80 +22,98 @@ fn curve<'a>(name: &[u8], none: &'a [u8], caf: &'a [u8], cap: &'a [u8]) {
     );
 }
 
-fn too_many_rows() {
+fn too_many_rows(none: &[u8]) {
     let many = [b'\n'; 1025];
-    ends(b"pic of 1025 rows", b"", b"", &many, b"", b"", b"", b"");
+    ends(
+        b"pic of 1025 rows",
+        none,
+        none,
+        &many,
+        none,
+        none,
+        none,
+        none,
+    );
     ends(
         b"plf and txp of 1025 rows",
-        b"",
-        b"",
-        b"",
+        none,
+        none,
+        none,
         &many,
         &many,
-        b"",
-        b"",
+        none,
+        none,
     );
 }
 
 // 01: "The least number decides"
-fn too_long() {
+fn too_long(none: &[u8]) {
     let many = [b'\n'; 1025];
     let long = [b'A'; 65537];
-    ends(b"ocp of 65537 bytes", b"", b"", b"", b"", b"", b"", &long);
+    ends(
+        b"ocp of 65537 bytes",
+        none,
+        none,
+        none,
+        none,
+        none,
+        none,
+        &long,
+    );
     ends(
         b"plf and ocp of 65537 bytes",
-        b"",
-        b"",
-        b"",
+        none,
+        none,
+        none,
         &long,
-        b"",
-        b"",
+        none,
+        none,
         &long,
     );
     ends(
         b"pid of 1025 rows and ocp of 65537 bytes",
-        b"",
+        none,
         &many,
-        b"",
-        b"",
-        b"",
-        b"",
+        none,
+        none,
+        none,
+        none,
         &long,
     );
 }
 
-fn at_the_most() {
+fn at_the_most(none: &[u8]) {
     let many = [b'\n'; 1024];
     let long = [b'A'; 65536];
-    curve(b"caf of 65536 bytes", b"", &long, b"");
-    curve(b"cap of 1024 rows into 4 cells", b"", b"", &many);
+    curve(b"caf of 65536 bytes", none, &long, none);
+    curve(b"cap of 1024 rows into 4 cells", none, none, &many);
 }
 
-fn cells_left() {
-    curve(b"no rows into 4 cells", b"", b"", b"");
+fn cells_left(none: &[u8]) {
+    curve(b"no rows into 4 cells", none, none, none);
     curve(
         b"three rows into 4 cells",
-        b"",
+        none,
         b"C1\t\tI\tU\t\t\t3\t\n",
         b"C1\t0\t0\nC1\t10\t-5\n",
     );
     curve(
         b"four rows into 4 cells",
-        b"",
+        none,
         b"C1\t\tI\tU\t\t\t2\t\n",
         b"C1\t0\t0\nC1\t10\t-5\nC1\t20\t100\n",
     );
     curve(
         b"five rows into 4 cells",
-        b"",
+        none,
         b"C1\t\tI\tU\t\t\t4\t\n",
         b"C1\t0\t0\nC1\t10\t-5\nC1\t20\t100\nC1\t30\t0\n",
     );
 }
 
-pub(crate) fn all() {
-    too_many_rows();
-    too_long();
-    at_the_most();
-    cells_left();
+pub(crate) fn all(none: &[u8]) {
+    too_many_rows(none);
+    too_long(none);
+    at_the_most(none);
+    cells_left(none);
 }

@@ -48,3 +48,18 @@ pub(crate) fn limits<'a>(name: &[u8], none: &'a [u8], pcf: &'a [u8], ocf: &'a [u
         [none, none, none, pcf, none, none, none, none, ocf, ocp],
     );
 }
+
+// All tables but pid, pic and plf.
+pub(crate) fn values<'a>(
+    name: &[u8],
+    none: &'a [u8],
+    pcf: &'a [u8],
+    caf: &'a [u8],
+    cap: &'a [u8],
+    txf: &'a [u8],
+    txp: &'a [u8],
+    ocf: &'a [u8],
+    ocp: &'a [u8],
+) {
+    set(name, [none, none, none, pcf, caf, cap, txf, txp, ocf, ocp]);
+}

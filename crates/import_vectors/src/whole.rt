@@ -1,7 +1,7 @@
 // All ten tables, every row good.
 use crate::show::set;
 
-fn good() {
+pub(crate) fn all() {
     set(
         b"all ten tables",
         [
@@ -30,8 +30,4 @@ fn good() {
             b"P1\t0\tS\t0\t10\tV1\t\n",
         ],
     );
-}
-
-pub(crate) fn all() {
-    good();
 }
