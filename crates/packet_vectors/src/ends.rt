@@ -1,8 +1,9 @@
 // Fields at the packet's end, and strings off a byte: refusals 28 and 29.
 use crate::sets::parameters;
 
-// 01: "24 bits at byte 11 fit; from bit 1: 28. 16 bits at byte 13: 28."
-fn numbers() {
+// 01: "24 bits at byte 11 fit; from bit 1: 28. 16 bits at byte 13: 28." From FIT4 on strings: three at the end, and from OFF1 on
+// off a byte, which is 29, and 28 where it is outside too.
+pub(crate) fn all() {
     parameters(
         b"\
             FIT24\t7\t11\t0\t\t\t\t\n\
@@ -13,34 +14,6 @@ fn numbers() {
             SIGNED8\t7\t13\t1\t\t\t\t\n\
             ENUM9\t7\t13\t0\t\t\t\t\n\
             OUTBITS\t7\t10\t1\t\t\t\t\n\
-        ",
-        b"\
-            FIT24\t\t\t\t3\t13\t\t\t\tN\tR\t\t\t\t\t\t\t\t\t\t\t\t\n\
-            OFF24\t\t\t\t3\t13\t\t\t\tN\tR\t\t\t\t\t\t\t\t\t\t\t\t\n\
-            FITBIT\t\t\t\t1\t0\t\t\t\tN\tR\t\t\t\t\t\t\t\t\t\t\t\t\n\
-            OFF16\t\t\t\t3\t12\t\t\t\tN\tR\t\t\t\t\t\t\t\t\t\t\t\t\n\
-            PAST8\t\t\t\t3\t4\t\t\t\tN\tR\t\t\t\t\t\t\t\t\t\t\t\t\n\
-            SIGNED8\t\t\t\t4\t4\t\t\t\tN\tR\t\t\t\t\t\t\t\t\t\t\t\t\n\
-            ENUM9\t\t\t\t2\t9\t\t\t\tN\tR\t\t\t\t\t\t\t\t\t\t\t\t\n\
-            OUTBITS\t\t\t\t6\t32\t\t\t\tN\tR\t\t\t\t\t\t\t\t\t\t\t\t\n\
-        ",
-        b"\
-            FIT24\n\
-            OFF24\n\
-            FITBIT\n\
-            OFF16\n\
-            PAST8\n\
-            SIGNED8\n\
-            ENUM9\n\
-            OUTBITS\n\
-        ",
-    );
-}
-
-// Three at the end; then off a byte, which is 29, and 28 where it is outside too.
-fn strings() {
-    parameters(
-        b"\
             FIT4\t7\t10\t0\t\t\t\t\n\
             OUT5\t7\t10\t0\t\t\t\t\n\
             OUTTEXT\t7\t13\t0\t\t\t\t\n\
@@ -51,6 +24,14 @@ fn strings() {
             NIBBLES\t7\t10\t0\t2\t4\t\t\n\
         ",
         b"\
+            FIT24\t\t\t\t3\t13\t\t\t\tN\tR\t\t\t\t\t\t\t\t\t\t\t\t\n\
+            OFF24\t\t\t\t3\t13\t\t\t\tN\tR\t\t\t\t\t\t\t\t\t\t\t\t\n\
+            FITBIT\t\t\t\t1\t0\t\t\t\tN\tR\t\t\t\t\t\t\t\t\t\t\t\t\n\
+            OFF16\t\t\t\t3\t12\t\t\t\tN\tR\t\t\t\t\t\t\t\t\t\t\t\t\n\
+            PAST8\t\t\t\t3\t4\t\t\t\tN\tR\t\t\t\t\t\t\t\t\t\t\t\t\n\
+            SIGNED8\t\t\t\t4\t4\t\t\t\tN\tR\t\t\t\t\t\t\t\t\t\t\t\t\n\
+            ENUM9\t\t\t\t2\t9\t\t\t\tN\tR\t\t\t\t\t\t\t\t\t\t\t\t\n\
+            OUTBITS\t\t\t\t6\t32\t\t\t\tN\tR\t\t\t\t\t\t\t\t\t\t\t\t\n\
             FIT4\t\t\t\t7\t4\t\t\t\tN\tR\t\t\t\t\t\t\t\t\t\t\t\t\n\
             OUT5\t\t\t\t7\t5\t\t\t\tN\tR\t\t\t\t\t\t\t\t\t\t\t\t\n\
             OUTTEXT\t\t\t\t8\t2\t\t\t\tT\tR\t\t\t\t\t\t\t\t\t\t\t\t\n\
@@ -61,6 +42,14 @@ fn strings() {
             NIBBLES\t\t\t\t7\t1\t\t\t\tN\tR\t\t\t\t\t\t\t\t\t\t\t\t\n\
         ",
         b"\
+            FIT24\n\
+            OFF24\n\
+            FITBIT\n\
+            OFF16\n\
+            PAST8\n\
+            SIGNED8\n\
+            ENUM9\n\
+            OUTBITS\n\
             FIT4\n\
             OUT5\n\
             OUTTEXT\n\
@@ -72,9 +61,4 @@ fn strings() {
             NIBBLES\t1\n\
         ",
     );
-}
-
-pub(crate) fn all() {
-    numbers();
-    strings();
 }

@@ -1,27 +1,8 @@
-// Two refusals at once. 01: "The least number decides"
+// Two refusals of 20 to 29 at once. 01: "The least number decides"
 use crate::packet::PACKET;
 use crate::sets::packets_by;
 use crate::sets::parameters;
 use crate::sets::parameters_in;
-use crate::show::identified;
-
-// The tables pid, pic and ocp.
-fn of<'a>(label: &[u8], none: &'a [u8], pid: &'a [u8], pic: &'a [u8], ocp: &'a [u8], p: &[u8]) {
-    identified(
-        label,
-        [pid, pic, none, none, none, none, none, none, none, ocp],
-        p,
-    );
-}
-
-// 01: "for 1 and 2 the first such table"
-fn tables_first<'a>(none: &'a [u8], long: &'a [u8], many: &'a [u8]) {
-    of(b"1 in pic and ocp", none, none, long, long, &PACKET);
-    of(b"2 in pic and ocp", none, none, many, many, &PACKET);
-    of(b"2 in pid, 1 in ocp", none, many, none, long, &PACKET);
-    of(b"1 before 20", none, none, none, long, b"");
-    of(b"2 before 20", none, none, none, many, b"");
-}
 
 // Without pid rows, for which 25 would be the answer.
 fn headers_first<'a>(none: &'a [u8], pic: &'a [u8]) {
@@ -70,9 +51,6 @@ fn locations_first(none: &[u8]) {
 }
 
 pub(crate) fn all() {
-    let long = [b'A'; 65537];
-    let many = [b'\n'; 1025];
-    tables_first(b"", &long, &many);
     headers_first(b"", b"3\t25\t14\t8\t-1\t0\t10\n");
     locations_first(b"");
 }

@@ -8,8 +8,9 @@ fn of(pid: &[u8]) {
     cases(Rows::OfPid, b"", b"", pid);
 }
 
+// 01: "no good VALID Y pid row". All holders of a key are alike. From "after SPID 0" on: rows count from 1, good or not, and
+// without its LF a row has reason 1.
 pub(crate) fn all() {
-    // 01: "no good VALID Y pid row"
     of(
         b"\
             no pid row\n\
@@ -17,11 +18,6 @@ pub(crate) fn all() {
                 3\t25\t10\t\t\t7\t\t\t\t\t\t\tN\t\t\t\n\
             SPID 0\n\
                 3\t25\t10\t\t\t0\t\t\t\t\t\t\t\t\t\t\n\
-        ",
-    );
-    // All holders of a key are alike.
-    of(
-        b"\
             the same five numbers twice\n\
                 3\t25\t10\t\t\t7\t\t\t\t\t\t\t\t\t\t\n\
                 3\t25\t10\t0\t0\t8\t\t\t\t\t\t\t\t\t\t\n\
@@ -34,11 +30,6 @@ pub(crate) fn all() {
                 3\t25\t11\t\t\t7\t\t\t\t\t\t\t\t\t\t\n\
                 3\t25\t10\t1\t\t8\t\t\t\t\t\t\t\t\t\t\n\
                 3\t25\t10\t\t1\t9\t\t\t\t\t\t\t\t\t\t\n\
-        ",
-    );
-    // Rows count from 1, good or not.
-    of(
-        b"\
             after SPID 0 and VALID N\n\
                 3\t25\t10\t\t\t0\t\t\t\t\t\t\t\t\t\t\n\
                 3\t25\t10\t\t\t8\t\t\t\t\t\t\tN\t\t\t\n\
@@ -57,11 +48,6 @@ pub(crate) fn all() {
             the greatest SPID, VALID Y\n\
                 3\t25\t11\t\t\t7\t\t\t\t\t\t\t\t\t\t\n\
                 0x3\t031\t0xa\t00\t0x0\t0xFFFFFFFF\t\t\t\t\t\t\tY\t\t\t\n\
-        ",
-    );
-    // Without its LF a row has reason 1.
-    of(
-        b"\
             a row without LF\n\
                 3\t25\t10\t\t\t7\t\t\t\t\t\t\t\t\t\t",
     );

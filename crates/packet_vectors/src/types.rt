@@ -1,7 +1,8 @@
-// Fields of each type, by their names' widths in bits.
+// Fields of each type, by their names' widths in bits, and strings by their lengths in bytes.
 use crate::sets::parameters;
 
-fn unsigned() {
+// Unsigned, and then signed. 01: "PTC 4 is two's complement." From BITS3 on PTC 6, and strings of PTC 7 and 8.
+pub(crate) fn all() {
     parameters(
         b"\
             BIT\t7\t11\t0\t\t\t\t\n\
@@ -14,6 +15,18 @@ fn unsigned() {
             U16\t7\t12\t0\t\t\t\t\n\
             U24\t7\t11\t0\t\t\t\t\n\
             U32\t7\t10\t0\t\t\t\t\n\
+            I4\t7\t11\t0\t\t\t\t\n\
+            I8\t7\t10\t0\t\t\t\t\n\
+            I16\t7\t12\t0\t\t\t\t\n\
+            I24\t7\t11\t0\t\t\t\t\n\
+            I32\t7\t10\t0\t\t\t\t\n\
+            BITS3\t7\t11\t5\t\t\t\t\n\
+            BITS8\t7\t10\t0\t\t\t\t\n\
+            BITS32\t7\t10\t0\t\t\t\t\n\
+            OCTETS2\t7\t10\t0\t\t\t\t\n\
+            OCTETS14\t7\t0\t0\t\t\t\t\n\
+            TEXT2\t7\t12\t0\t\t\t\t\n\
+            TEXT1\t7\t13\t0\t\t\t\t\n\
         ",
         b"\
             BIT\t\t\t\t1\t0\t\t\t\tN\tR\t\t\t\t\t\t\t\t\t\t\t\t\n\
@@ -26,6 +39,18 @@ fn unsigned() {
             U16\t\t\t\t3\t12\t\t\t\tN\tR\t\t\t\t\t\t\t\t\t\t\t\t\n\
             U24\t\t\t\t3\t13\t\t\t\tN\tR\t\t\t\t\t\t\t\t\t\t\t\t\n\
             U32\t\t\t\t3\t14\t\t\t\tN\tR\t\t\t\t\t\t\t\t\t\t\t\t\n\
+            I4\t\t\t\t4\t0\t\t\t\tN\tR\t\t\t\t\t\t\t\t\t\t\t\t\n\
+            I8\t\t\t\t4\t4\t\t\t\tN\tR\t\t\t\t\t\t\t\t\t\t\t\t\n\
+            I16\t\t\t\t4\t12\t\t\t\tN\tR\t\t\t\t\t\t\t\t\t\t\t\t\n\
+            I24\t\t\t\t4\t13\t\t\t\tN\tR\t\t\t\t\t\t\t\t\t\t\t\t\n\
+            I32\t\t\t\t4\t14\t\t\t\tN\tR\t\t\t\t\t\t\t\t\t\t\t\t\n\
+            BITS3\t\t\t\t6\t3\t\t\t\tN\tR\t\t\t\t\t\t\t\t\t\t\t\t\n\
+            BITS8\t\t\t\t6\t8\t\t\t\tN\tR\t\t\t\t\t\t\t\t\t\t\t\t\n\
+            BITS32\t\t\t\t6\t32\t\t\t\tN\tR\t\t\t\t\t\t\t\t\t\t\t\t\n\
+            OCTETS2\t\t\t\t7\t2\t\t\t\tN\tR\t\t\t\t\t\t\t\t\t\t\t\t\n\
+            OCTETS14\t\t\t\t7\t14\t\t\t\tN\tR\t\t\t\t\t\t\t\t\t\t\t\t\n\
+            TEXT2\t\t\t\t8\t2\t\t\t\tT\tR\t\t\t\t\t\t\t\t\t\t\t\t\n\
+            TEXT1\t\t\t\t8\t1\t\t\t\tT\tR\t\t\t\t\t\t\t\t\t\t\t\t\n\
         ",
         b"\
             BIT\n\
@@ -38,59 +63,11 @@ fn unsigned() {
             U16\n\
             U24\n\
             U32\n\
-        ",
-    );
-}
-
-// 01: "PTC 4 is two's complement."
-fn signed() {
-    parameters(
-        b"\
-            I4\t7\t11\t0\t\t\t\t\n\
-            I8\t7\t10\t0\t\t\t\t\n\
-            I16\t7\t12\t0\t\t\t\t\n\
-            I24\t7\t11\t0\t\t\t\t\n\
-            I32\t7\t10\t0\t\t\t\t\n\
-        ",
-        b"\
-            I4\t\t\t\t4\t0\t\t\t\tN\tR\t\t\t\t\t\t\t\t\t\t\t\t\n\
-            I8\t\t\t\t4\t4\t\t\t\tN\tR\t\t\t\t\t\t\t\t\t\t\t\t\n\
-            I16\t\t\t\t4\t12\t\t\t\tN\tR\t\t\t\t\t\t\t\t\t\t\t\t\n\
-            I24\t\t\t\t4\t13\t\t\t\tN\tR\t\t\t\t\t\t\t\t\t\t\t\t\n\
-            I32\t\t\t\t4\t14\t\t\t\tN\tR\t\t\t\t\t\t\t\t\t\t\t\t\n\
-        ",
-        b"\
             I4\n\
             I8\n\
             I16\n\
             I24\n\
             I32\n\
-        ",
-    );
-}
-
-// PTC 6, and strings of PTC 7 and 8 by their lengths in bytes.
-fn strings() {
-    parameters(
-        b"\
-            BITS3\t7\t11\t5\t\t\t\t\n\
-            BITS8\t7\t10\t0\t\t\t\t\n\
-            BITS32\t7\t10\t0\t\t\t\t\n\
-            OCTETS2\t7\t10\t0\t\t\t\t\n\
-            OCTETS14\t7\t0\t0\t\t\t\t\n\
-            TEXT2\t7\t12\t0\t\t\t\t\n\
-            TEXT1\t7\t13\t0\t\t\t\t\n\
-        ",
-        b"\
-            BITS3\t\t\t\t6\t3\t\t\t\tN\tR\t\t\t\t\t\t\t\t\t\t\t\t\n\
-            BITS8\t\t\t\t6\t8\t\t\t\tN\tR\t\t\t\t\t\t\t\t\t\t\t\t\n\
-            BITS32\t\t\t\t6\t32\t\t\t\tN\tR\t\t\t\t\t\t\t\t\t\t\t\t\n\
-            OCTETS2\t\t\t\t7\t2\t\t\t\tN\tR\t\t\t\t\t\t\t\t\t\t\t\t\n\
-            OCTETS14\t\t\t\t7\t14\t\t\t\tN\tR\t\t\t\t\t\t\t\t\t\t\t\t\n\
-            TEXT2\t\t\t\t8\t2\t\t\t\tT\tR\t\t\t\t\t\t\t\t\t\t\t\t\n\
-            TEXT1\t\t\t\t8\t1\t\t\t\tT\tR\t\t\t\t\t\t\t\t\t\t\t\t\n\
-        ",
-        b"\
             BITS3\n\
             BITS8\n\
             BITS32\n\
@@ -100,10 +77,4 @@ fn strings() {
             TEXT1\n\
         ",
     );
-}
-
-pub(crate) fn all() {
-    unsigned();
-    signed();
-    strings();
 }

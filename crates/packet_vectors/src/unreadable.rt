@@ -1,10 +1,10 @@
 // 01: "A validity parameter that can't be read makes it invalid."
 use crate::packet::PACKET;
-use crate::sets::parameters;
 use crate::sets::parameters_in;
 
-// OTHER is in another packet, NONE and DERIVED in none; the plf row of BAD is bad, and OUT leaves the packet.
-fn not_there() {
+// OTHER is in another packet, NONE and DERIVED in none; the plf row of BAD is bad, and OUT leaves the packet. SELF is on a
+// circle and TOSELF leads to it; PTC 6 is no validity parameter's.
+pub(crate) fn all() {
     parameters_in(
         &PACKET,
         b"",
@@ -23,6 +23,10 @@ fn not_there() {
             IFOUT\t7\t12\t0\t\t\t\t\n\
             IFIFOUT\t7\t13\t0\t\t\t\t\n\
             OUTTOO\t7\t13\t0\t\t\t\t\n\
+            SELF\t7\t10\t0\t\t\t\t\n\
+            TOSELF\t7\t10\t0\t\t\t\t\n\
+            BITS\t7\t10\t0\t\t\t\t\n\
+            IFBITS\t7\t10\t0\t\t\t\t\n\
         ",
         b"\
             OTHER\t\t\t\t3\t4\t\t\t\tN\tR\t\t\t\t\t\t\t\t\t\t\t\t\n\
@@ -37,6 +41,10 @@ fn not_there() {
             IFOUT\t\t\t\t3\t4\t\tOUT\t\tN\tR\t\t\t\t\t\t\t13312\t\t\t\t\t\n\
             IFIFOUT\t\t\t\t3\t4\t\tIFOUT\t\tN\tR\t\t\t\t\t\t\t18\t\t\t\t\t\n\
             OUTTOO\t\t\t\t3\t12\t\tOUT\t\tN\tR\t\t\t\t\t\t\t\t\t\t\t\t\n\
+            SELF\t\t\t\t3\t4\t\tSELF\t\tN\tR\t\t\t\t\t\t\t255\t\t\t\t\t\n\
+            TOSELF\t\t\t\t3\t4\t\tSELF\t\tN\tR\t\t\t\t\t\t\t255\t\t\t\t\t\n\
+            BITS\t\t\t\t6\t8\t\t\t\tN\tR\t\t\t\t\t\t\t\t\t\t\t\t\n\
+            IFBITS\t\t\t\t3\t4\t\tBITS\t\tN\tR\t\t\t\t\t\t\t255\t\t\t\t\t\n\
         ",
         b"\
             OTHER\n\
@@ -51,35 +59,10 @@ fn not_there() {
             IFOUT\n\
             IFIFOUT\n\
             OUTTOO\n\
-        ",
-    );
-}
-
-// SELF is on a circle and TOSELF leads to it; PTC 6 is no validity parameter's.
-fn bad_chains() {
-    parameters(
-        b"\
-            SELF\t7\t10\t0\t\t\t\t\n\
-            TOSELF\t7\t10\t0\t\t\t\t\n\
-            BITS\t7\t10\t0\t\t\t\t\n\
-            IFBITS\t7\t10\t0\t\t\t\t\n\
-        ",
-        b"\
-            SELF\t\t\t\t3\t4\t\tSELF\t\tN\tR\t\t\t\t\t\t\t255\t\t\t\t\t\n\
-            TOSELF\t\t\t\t3\t4\t\tSELF\t\tN\tR\t\t\t\t\t\t\t255\t\t\t\t\t\n\
-            BITS\t\t\t\t6\t8\t\t\t\tN\tR\t\t\t\t\t\t\t\t\t\t\t\t\n\
-            IFBITS\t\t\t\t3\t4\t\tBITS\t\tN\tR\t\t\t\t\t\t\t255\t\t\t\t\t\n\
-        ",
-        b"\
             SELF\n\
             TOSELF\n\
             BITS\n\
             IFBITS\n\
         ",
     );
-}
-
-pub(crate) fn all() {
-    not_there();
-    bad_chains();
 }

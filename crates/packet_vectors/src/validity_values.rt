@@ -3,8 +3,9 @@ use crate::packet::PACKET;
 use crate::questions::questions;
 use crate::sets::parameters;
 
-// MINUS is -1 and PLUS is 255.
-fn signs() {
+// MINUS is -1 and PLUS is 255. OWN is 133 and has VALPAR 133, which nothing asks for. ENUM is 3,973, and WIDE ends in the two
+// bytes of 4,660. EACH is 255 and then 133. 01: "occurrence 0 of the same packet"
+fn values() {
     parameters(
         b"\
             MINUS\t7\t10\t0\t\t\t\t\n\
@@ -13,28 +14,6 @@ fn signs() {
             IF255\t7\t13\t0\t\t\t\t\n\
             NOMINUS\t7\t13\t0\t\t\t\t\n\
             IFPLUS\t7\t13\t0\t\t\t\t\n\
-        ",
-        b"\
-            MINUS\t\t\t\t4\t4\t\t\t\tN\tR\t\t\t\t\t\t\t\t\t\t\t\t\n\
-            PLUS\t\t\t\t3\t4\t\t\t\tN\tR\t\t\t\t\t\t\t\t\t\t\t\t\n\
-            IFMINUS\t\t\t\t3\t4\t\tMINUS\t\tN\tR\t\t\t\t\t\t\t-1\t\t\t\t\t\n\
-            IF255\t\t\t\t3\t4\t\tMINUS\t\tN\tR\t\t\t\t\t\t\t255\t\t\t\t\t\n\
-            NOMINUS\t\t\t\t3\t4\t\tPLUS\t\tN\tR\t\t\t\t\t\t\t-1\t\t\t\t\t\n\
-            IFPLUS\t\t\t\t3\t4\t\tPLUS\t\tN\tR\t\t\t\t\t\t\t0xFF\t\t\t\t\t\n\
-        ",
-        b"\
-            IFMINUS\n\
-            IF255\n\
-            NOMINUS\n\
-            IFPLUS\n\
-        ",
-    );
-}
-
-// OWN is 133 and has VALPAR 133, which nothing asks for.
-fn defaults() {
-    parameters(
-        b"\
             ONE\t7\t11\t0\t\t\t\t\n\
             ZERO\t7\t11\t1\t\t\t\t\n\
             OWN\t7\t11\t0\t\t\t\t\n\
@@ -42,30 +21,6 @@ fn defaults() {
             IFZERO\t7\t13\t0\t\t\t\t\n\
             IFZERO0\t7\t13\t0\t\t\t\t\n\
             IFOWN\t7\t13\t0\t\t\t\t\n\
-        ",
-        b"\
-            ONE\t\t\t\t1\t0\t\t\t\tN\tR\t\t\t\t\t\t\t\t\t\t\t\t\n\
-            ZERO\t\t\t\t1\t0\t\t\t\tN\tR\t\t\t\t\t\t\t\t\t\t\t\t\n\
-            OWN\t\t\t\t3\t4\t\t\t\tN\tR\t\t\t\t\t\t\t133\t\t\t\t\t\n\
-            IFONE\t\t\t\t3\t4\t\tONE\t\tN\tR\t\t\t\t\t\t\t\t\t\t\t\t\n\
-            IFZERO\t\t\t\t3\t4\t\tZERO\t\tN\tR\t\t\t\t\t\t\t\t\t\t\t\t\n\
-            IFZERO0\t\t\t\t3\t4\t\tZERO\t\tN\tR\t\t\t\t\t\t\t0\t\t\t\t\t\n\
-            IFOWN\t\t\t\t3\t4\t\tOWN\t\tN\tR\t\t\t\t\t\t\t\t\t\t\t\t\n\
-        ",
-        b"\
-            IFONE\n\
-            IFZERO\n\
-            IFZERO0\n\
-            OWN\n\
-            IFOWN\n\
-        ",
-    );
-}
-
-// 01: "occurrence 0 of the same packet". ENUM is 3,973, and WIDE ends in the two bytes of 4,660. EACH is 255 and then 133.
-fn kinds() {
-    parameters(
-        b"\
             ENUM\t7\t10\t4\t\t\t\t\n\
             WIDE\t7\t10\t0\t\t\t\t\n\
             EACH\t7\t10\t0\t2\t8\t\t\n\
@@ -77,6 +32,19 @@ fn kinds() {
             TEXT\t7\t13\t0\t\t\t\t\n\
         ",
         b"\
+            MINUS\t\t\t\t4\t4\t\t\t\tN\tR\t\t\t\t\t\t\t\t\t\t\t\t\n\
+            PLUS\t\t\t\t3\t4\t\t\t\tN\tR\t\t\t\t\t\t\t\t\t\t\t\t\n\
+            IFMINUS\t\t\t\t3\t4\t\tMINUS\t\tN\tR\t\t\t\t\t\t\t-1\t\t\t\t\t\n\
+            IF255\t\t\t\t3\t4\t\tMINUS\t\tN\tR\t\t\t\t\t\t\t255\t\t\t\t\t\n\
+            NOMINUS\t\t\t\t3\t4\t\tPLUS\t\tN\tR\t\t\t\t\t\t\t-1\t\t\t\t\t\n\
+            IFPLUS\t\t\t\t3\t4\t\tPLUS\t\tN\tR\t\t\t\t\t\t\t0xFF\t\t\t\t\t\n\
+            ONE\t\t\t\t1\t0\t\t\t\tN\tR\t\t\t\t\t\t\t\t\t\t\t\t\n\
+            ZERO\t\t\t\t1\t0\t\t\t\tN\tR\t\t\t\t\t\t\t\t\t\t\t\t\n\
+            OWN\t\t\t\t3\t4\t\t\t\tN\tR\t\t\t\t\t\t\t133\t\t\t\t\t\n\
+            IFONE\t\t\t\t3\t4\t\tONE\t\tN\tR\t\t\t\t\t\t\t\t\t\t\t\t\n\
+            IFZERO\t\t\t\t3\t4\t\tZERO\t\tN\tR\t\t\t\t\t\t\t\t\t\t\t\t\n\
+            IFZERO0\t\t\t\t3\t4\t\tZERO\t\tN\tR\t\t\t\t\t\t\t0\t\t\t\t\t\n\
+            IFOWN\t\t\t\t3\t4\t\tOWN\t\tN\tR\t\t\t\t\t\t\t\t\t\t\t\t\n\
             ENUM\t\t\t\t2\t12\t\t\t\tN\tR\t\t\t\t\t\t\t\t\t\t\t\t\n\
             WIDE\t\t\t\t3\t14\t\t\t\tN\tR\t\t\t\t\t\t\t\t\t\t\t\t\n\
             EACH\t\t\t\t3\t4\t\t\t\tN\tR\t\t\t\t\t\t\t\t\t\t\t\t\n\
@@ -88,6 +56,15 @@ fn kinds() {
             TEXT\t\t\t\t8\t1\t\tENUM\t\tT\tR\t\t\t\t\t\t\t3973\t\t\t\t\t\n\
         ",
         b"\
+            IFMINUS\n\
+            IF255\n\
+            NOMINUS\n\
+            IFPLUS\n\
+            IFONE\n\
+            IFZERO\n\
+            IFZERO0\n\
+            OWN\n\
+            IFOWN\n\
             IFWIDE\n\
             IFEACH\n\
             IFEACH\t1\n\
@@ -139,8 +116,6 @@ fn raw_values() {
 }
 
 pub(crate) fn all() {
-    signs();
-    defaults();
-    kinds();
+    values();
     raw_values();
 }
