@@ -18,7 +18,7 @@ fn of_513(name: &[u8], label: &[u8], table: Table, byte: u8) {
 }
 
 // Rows of a table, of which the last is unterminated, and further rows.
-pub(crate) fn verdicts(name: &[u8], table: Table, rows: &[u8], further: &[u8]) {
+pub(crate) fn rows_of(name: &[u8], table: Table, rows: &[u8], further: &[u8]) {
     each(name, Asked::Verdict(table), rows);
     each(name, Asked::Verdict(table), further);
 }
@@ -31,6 +31,11 @@ pub(crate) fn bad_in_all(name: &[u8], table: Table) {
     of_512(name, b"of 512 TABs", table, b'\t');
     of_512(name, b"of 512 bytes 0xFF", table, 0xFF);
     of_513(name, b"of 513 bytes 0xFF", table, 0xFF);
+}
+
+pub(crate) fn verdicts(name: &[u8], table: Table, rows: &[u8], further: &[u8]) {
+    rows_of(name, table, rows, further);
+    bad_in_all(name, table);
 }
 
 // Longer than a whole table may be.

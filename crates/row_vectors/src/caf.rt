@@ -1,5 +1,4 @@
 // Rows of caf.
-use crate::any_table::bad_in_all;
 use crate::any_table::verdicts;
 use schemas::Table;
 
@@ -48,5 +47,4 @@ pub(crate) fn all() {
         ENGFMT and RAWFMT R: C1\t\tR\tR\t\t\t3\t\n\
     ",
     );
-    bad_in_all(b"caf ", Table::Caf);
 }

@@ -1,6 +1,6 @@
 // Rows of cap. No column contradicts another, so there is no reason 8.
 use crate::any_table::bad_in_all;
-use crate::any_table::verdicts;
+use crate::any_table::rows_of;
 use crate::show::number;
 use rows::read::formed;
 use schemas::Table;
@@ -18,7 +18,7 @@ fn longest() {
 
 // Whole rows, of which the last is unterminated; then widths and values.
 pub(crate) fn all() {
-    verdicts(
+    rows_of(
         b"cap ",
         Table::Cap,
         b"\

@@ -1,5 +1,4 @@
 // Rows of ocf. NBCHCK above 99 is too wide before it is out of range.
-use crate::any_table::bad_in_all;
 use crate::any_table::verdicts;
 use schemas::Table;
 
@@ -44,5 +43,4 @@ pub(crate) fn all() {
         CODIN A: P1\t2\t1\tU\tA\n\
     ",
     );
-    bad_in_all(b"ocf ", Table::Ocf);
 }

@@ -1,5 +1,4 @@
 // Rows of ocp. POS above 99 and VALPAR below -9999 are too wide before they are out of range.
-use crate::any_table::bad_in_all;
 use crate::any_table::verdicts;
 use schemas::Table;
 
@@ -55,5 +54,4 @@ pub(crate) fn all() {
         TYPE D with low over high: P1\t0\tD\t10\t9\t\t\n\
     ",
     );
-    bad_in_all(b"ocp ", Table::Ocp);
 }

@@ -1,5 +1,4 @@
 // Rows of pcf. PTC above 99 and VALPAR below -9999 are too wide before they are out of range.
-use crate::any_table::bad_in_all;
 use crate::any_table::verdicts;
 use schemas::Table;
 
@@ -107,5 +106,4 @@ pub(crate) fn all() {
         PTC 5 and S without CURTX: P1\t\t\t\t5\t4\t\t\t\tS\tR\t\t\t\t\t\t\t\t\t\t\t\t\n\
     ",
     );
-    bad_in_all(b"pcf ", Table::Pcf);
 }

@@ -1,5 +1,4 @@
 // Rows of pic.
-use crate::any_table::bad_in_all;
 use crate::any_table::verdicts;
 use schemas::Table;
 
@@ -62,5 +61,4 @@ pub(crate) fn all() {
         PI1 unused, PI2 of width 0: 3\t25\t-1\t0\t10\t0\t\n\
     ",
     );
-    bad_in_all(b"pic ", Table::Pic);
 }

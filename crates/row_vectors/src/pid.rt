@@ -1,5 +1,4 @@
 // Rows of pid. No column contradicts another, so there is no reason 8.
-use crate::any_table::bad_in_all;
 use crate::any_table::verdicts;
 use schemas::Table;
 
@@ -68,5 +67,4 @@ pub(crate) fn all() {
         SPID 0: 3\t25\t10\t\t\t0\t\t\t\t\t\t\t\t\t\t\n\
     ",
     );
-    bad_in_all(b"pid ", Table::Pid);
 }

@@ -1,5 +1,4 @@
 // Rows of plf. OFFBI below 0 and NBOCC above 9999 are too wide before they are out of range.
-use crate::any_table::bad_in_all;
 use crate::any_table::verdicts;
 use schemas::Table;
 
@@ -55,5 +54,4 @@ pub(crate) fn all() {
         NBOCC 2 with LGOCC 1: P1\t1\t12\t4\t2\t1\t\t\n\
     ",
     );
-    bad_in_all(b"plf ", Table::Plf);
 }

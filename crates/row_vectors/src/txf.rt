@@ -1,5 +1,4 @@
 // Rows of txf. NALIAS above 999 is too wide before it is out of range.
-use crate::any_table::bad_in_all;
 use crate::any_table::verdicts;
 use schemas::Table;
 
@@ -36,5 +35,4 @@ pub(crate) fn all() {
         RAWFMT R: T1\t\tR\t2\n\
     ",
     );
-    bad_in_all(b"txf ", Table::Txf);
 }

@@ -1,5 +1,4 @@
 // Rows of txp.
-use crate::any_table::bad_in_all;
 use crate::any_table::verdicts;
 use schemas::Table;
 
@@ -43,5 +42,4 @@ pub(crate) fn all() {
         FROM 010 to TO 9: T1\t010\t9\ton\n\
     ",
     );
-    bad_in_all(b"txp ", Table::Txp);
 }
