@@ -1,5 +1,6 @@
 // Refusals 1 to 3, which touch no cell, and imports that leave further cells.
 use crate::show::into_4;
+use lines::columns::part;
 
 // The first three tables and the last three.
 fn ends<'a>(
@@ -22,13 +23,12 @@ fn curve<'a>(name: &[u8], none: &'a [u8], caf: &'a [u8], cap: &'a [u8]) {
     );
 }
 
-fn too_many_rows(none: &[u8]) {
-    let many = [b'\n'; 1025];
+fn too_many_rows<'a>(none: &'a [u8], more: &'a [u8]) {
     ends(
         b"pic of 1025 rows",
         none,
         none,
-        &many,
+        more,
         none,
         none,
         none,
@@ -39,17 +39,15 @@ fn too_many_rows(none: &[u8]) {
         none,
         none,
         none,
-        &many,
-        &many,
+        more,
+        more,
         none,
         none,
     );
 }
 
 // 01: "The least number decides"
-fn too_long(none: &[u8]) {
-    let many = [b'\n'; 1025];
-    let long = [b'A'; 65537];
+fn too_long<'a>(none: &'a [u8], more: &'a [u8], longer: &'a [u8]) {
     ends(
         b"ocp of 65537 bytes",
         none,
@@ -58,35 +56,38 @@ fn too_long(none: &[u8]) {
         none,
         none,
         none,
-        &long,
+        longer,
     );
     ends(
         b"plf and ocp of 65537 bytes",
         none,
         none,
         none,
-        &long,
+        longer,
         none,
         none,
-        &long,
+        longer,
     );
     ends(
         b"pid of 1025 rows and ocp of 65537 bytes",
         none,
-        &many,
+        more,
         none,
         none,
         none,
         none,
-        &long,
+        longer,
     );
 }
 
-fn at_the_most(none: &[u8]) {
-    let many = [b'\n'; 1024];
-    let long = [b'A'; 65536];
-    curve(b"caf of 65536 bytes", none, &long, none);
-    curve(b"cap of 1024 rows into 4 cells", none, none, &many);
+fn at_the_most<'a>(none: &'a [u8], more: &'a [u8], longer: &'a [u8]) {
+    curve(b"caf of 65536 bytes", none, part(longer, 0, 65536), none);
+    curve(
+        b"cap of 1024 rows into 4 cells",
+        none,
+        none,
+        part(more, 0, 1024),
+    );
 }
 
 fn cells_left(none: &[u8]) {
@@ -111,9 +112,12 @@ fn cells_left(none: &[u8]) {
     );
 }
 
+// A table of a row too many, and one that is a byte too long.
 pub(crate) fn all(none: &[u8]) {
-    too_many_rows(none);
-    too_long(none);
-    at_the_most(none);
+    let more = [b'\n'; 1025];
+    let longer = [b'A'; 65537];
+    too_many_rows(none, &more);
+    too_long(none, &more, &longer);
+    at_the_most(none, &more, &longer);
     cells_left(none);
 }
