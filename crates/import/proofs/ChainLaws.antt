@@ -32,12 +32,6 @@ module _ (oc found sound : List ℕ) (z n i : ℕ) where
       rw e
 
   module _ (more : 0 < n) (next : ℕ) (is : next ≡ nextAt oc found sound i) where
-    pub comes-stop : next ≡ noRow → false ≡ comesTo oc found sound z n i
-    unfolding comesTo
-    comes-stop h =
-        let e : n ≡ suc (n - 1) = omega arith in
-        rw (e, ← is, eq-eqb next noRow h)
-
     pub comes-hit : (next ≡ noRow → ⊥) → next ≡ z → true ≡ comesTo oc found sound z n i
     unfolding comesTo
     comes-hit h k =

@@ -86,7 +86,7 @@ module _ (oc found linked whole : List ℕ) where
 
   -- depths
   pub depths-none : (n : ℕ) → KnownDepths oc found linked whole (replicate {A = ℕ} n 0)
-  depths-none n = record { row = λ j h. absurd (h (none-marked oc found linked n j)) }
+  depths-none n = record { row = λ j h. absurd (h (none-marked n j)) }
 
   module _ (depths : List ℕ) (at depth : ℕ) (known : KnownDepths oc found linked whole depths) (t : good depth at ≡ true) where
     here : (getD (set depths at depth) at 0 ≡ 0 → ⊥) → good (getD (set depths at depth) at 0) at ≡ true

@@ -1,11 +1,11 @@
 -- A chain that comes to its end never comes back. Assumes nothing.
 use mathlib.Core.Path.{_≡_, refl, ap, sym, subst, _∙_}
-use mathlib.Core.Bool.{true, false, cond}
+use mathlib.Core.Bool.{true, false}
 use mathlib.Core.List.{List}
 use Prim.Native.Nat.{ℕ, zero, suc, _<_}
 use native.Mathlib.Omega.{arith}
 use lib.Dec.{eqb}
-use lib.ListN.{getD, set, replicate, length, getD-replicate, length-replicate}
+use lib.ListN.{getD, set, replicate}
 use lib.Seq.{getD-set-other}
 use borrow.Author.Tests.{eq-eqb, ne-eqb, eqb-true, eqb-false}
 use Rattle.laws.proofs.Cases.{bool-cases, false-of, false≢true}
@@ -14,6 +14,12 @@ use Rattle.import.proofs.ChainLaws.{next-none}
 use Rattle.import.specs.Courses.{Ends, last, on, KnownEnds, isReturn, Followed}
 use Rattle.import.specs.declared.chains.Course.{Course}
 use Rattle.import.specs.declared.chains.Course.the-variants as course
+
+-- an array that nothing was written to
+pub none-marked : (n j : ℕ) → getD (replicate {A = ℕ} n 0) j 0 ≡ 0
+none-marked zero j = refl
+none-marked (suc n) zero = refl
+none-marked (suc n) (suc j) = none-marked n j
 
 module _ (oc found sound : List ℕ) where
   -- how many rows come after the first
@@ -50,11 +56,6 @@ module _ (oc found sound : List ℕ) where
   ends-next (on k e) h = e
 
   -- marks
-  pub none-marked : (n j : ℕ) → getD (replicate {A = ℕ} n 0) j 0 ≡ 0
-  none-marked zero j = refl
-  none-marked (suc n) zero = refl
-  none-marked (suc n) (suc j) = none-marked n j
-
   pub known-none : (n : ℕ) → KnownEnds oc found sound (replicate {A = ℕ} n 0)
   known-none n = record { row = λ j h. absurd (omega (arith, h, none-marked n j)) }
 
