@@ -1,6 +1,5 @@
 // One line for each answer.
 use curves::ints::size;
-use fields::text::string_part;
 use show_refusals::labelled as number;
 use show_refusals::refused;
 use show_refusals::refused_at;
@@ -10,6 +9,7 @@ use units::ByteOffset;
 use units::RowNumber;
 use values::engineer::Engineered;
 use values::engineer::engineer;
+use values::text::text_part;
 
 fn integer(v: i64) {
     if v < 0 {
@@ -30,7 +30,7 @@ fn text(txp: &[u8], row: RowNumber, from: ByteOffset, bytes: usize) {
     number(b" at ", from.0 as u64);
     number(b" ", bytes as u64);
     io::write_all(1, b" ");
-    io::write_all(1, string_part(txp, from, bytes));
+    io::write_all(1, text_part(txp, from, bytes));
 }
 
 // A text is a part of txp.

@@ -1,14 +1,19 @@
 -- Where a column stands in its line, and a line in its table. Assumes nothing.
-use mathlib.Core.Path.{_≡_, ap, _∙_}
+use mathlib.Core.Path.{_≡_, refl, sym, ap, _∙_}
 use mathlib.Core.List.{List, [], _∷_, _++_}
 use Prim.Native.Nat.{ℕ, zero, suc, _+_, _-_, _≤_}
 use native.Mathlib.Omega.{arith}
 use lib.Dec.{eqb}
-use lib.ListN.{length, getD, drop, length-append, length-take, length-drop}
+use lib.ListN.{length, getD, take, drop, length-append, length-take, length-drop}
+use lib.Seq.{take-take, drop-drop}
+use borrow.Author.Tests.{le-leb}
 use Rattle.laws.proofs.Cases.{cond-cases}
 use Rattle.lines.specs.Lines.{lineLength}
-use Rattle.lines.specs.Columns.{tab, columnsFrom, columnsOf, Place, placesFrom, placesOf}
-use Rattle.rows.specs.Records.{txpRow}
+use Rattle.lines.specs.Columns.{tab, columnsFrom, columnsOf, Place, placesFrom, placesOf, divided, partOf}
+use Rattle.lines.proofs.ColumnLaws.{column-is}
+use Rattle.rows.specs.Records.{column, txpRow}
+use Rattle.rows.proofs.PlaceLaws.{start-is, end-is}
+use Rattle.fields.specs.Text.{partAt}
 use Rattle.rows.specs.declared.records.TxpRow.{TxpRow}
 use Rattle.lookup.specs.Listed.{lineAt}
 use Rattle.values.specs.Engineering.{altxt}
@@ -71,3 +76,31 @@ module _ (text : List ℕ) (start : ℕ) {line : List ℕ} {r : TxpRow} (l : lin
   pub altxt-is : (number : ℕ) → altxt number (start + r .start) (r .end - r .start)
       ≡ altxt number (start + txpRow (lineAt text start) .start) (txpRow (lineAt text start) .end - txpRow (lineAt text start) .start)
   altxt-is number = rw read
+
+-- A text's bytes: the part of txp at the place that is answered is ALTXT
+
+part-column : (line : List ℕ) → partOf line (txpRow line .start) (txpRow line .end) ≡ column line 3
+unfolding txpRow column
+part-column line = rw (← start-is line refl 3 (omega arith), ← end-is line refl 3 (omega arith)) (column-is line (divided line) 3 refl (omega arith))
+
+-- a part of the first m elements is that part of them all
+part-within : (l : List ℕ) (m s n : ℕ) → s + n ≤ m → take n (drop s (take m l)) ≡ take n (drop s l)
+part-within l m zero n h = take-take n m l (omega arith)
+part-within l zero (suc s) n h = absurd (omega arith)
+part-within [] (suc m) (suc s) n h = refl
+part-within (x ∷ l) (suc m) (suc s) n h = part-within l m s n (omega arith)
+
+line-part : (text : List ℕ) (start s n : ℕ) → s + n ≤ length (lineAt text start) → take n (drop s (lineAt text start)) ≡ take n (drop s (drop start text))
+unfolding lineAt
+line-part text start s n h = part-within (drop start text) (lineLength (drop start text)) s n (omega (arith, h, length-take (lineLength (drop start text)) (drop start text)))
+
+pub altxt-bytes : (text : List ℕ) (start : ℕ) → start ≤ length text
+    → (let row = txpRow (lineAt text start) in partAt text (start + row .start) (row .end - row .start) ≡ column (lineAt text start) 3)
+unfolding partAt
+altxt-bytes text start h =
+    let line = lineAt text start in
+    let s = txpRow line .start in
+    let e = txpRow line .end in
+    let fits : start + s + (e - s) ≤ length text = omega (arith, place-first line, place-inside line, line-inside text start) in
+    rw (le-leb (start + s + (e - s)) (length text) fits, ← drop-drop s start text)
+    (sym (line-part text start s (e - s) (omega (arith, place-first line, place-inside line))) ∙ part-column line)

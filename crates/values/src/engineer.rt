@@ -36,7 +36,7 @@ ghost use Rattle.lookup.specs.Listed.{looked};
 ghost use Rattle.values.specs.Engineering.{said, ofCategory, ofRow, engineerBy, engineerOf};
 
 // An integer; the part of the packet that a string is; a text as its txp row, and ALTXT's place in that table and its length; or why there is none.
-// fields::text::string_part(txp, from, bytes) hands back the bytes of such a text.
+// `text_part` hands back the bytes of such a text.
 pub enum Engineered {
     Number(i64),
     Part(ByteOffset, usize),

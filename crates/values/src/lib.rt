@@ -2,4 +2,4 @@
 pub mod curve;
 pub mod engineer;
 pub mod members;
-mod text;
+pub mod text;

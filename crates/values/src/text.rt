@@ -1,9 +1,10 @@
-// The text of a raw value.
+// The text of a raw value, and the bytes of a text.
 use crate::engineer::Engineered;
 use crate::members::gather;
 use calibration::nearest::Found;
 use calibration::nearest::not_above;
 use curves::ints::less;
+use fields::text::string_part;
 use lines::names::CurveName;
 use lookup::find::line_at;
 use lookup::find::start_at;
@@ -14,6 +15,7 @@ use units::ByteOffset;
 use units::RowNumber;
 ghost use mathlib.Core.Path.{_≡_};
 ghost use Prim.Native.Nat.{_+_, _-_};
+ghost use Rattle.fields.specs.Text.{partAt};
 ghost use Rattle.lookup.specs.Listed.{looked, lineAt};
 ghost use Rattle.rows.specs.Records.{txpRow};
 ghost use Rattle.values.specs.Members.{members};
@@ -59,4 +61,11 @@ pub(crate) fn text_value(txp: &[u8], cells: &[u16], name: CurveName, raw: i64) -
         }
         Found::Nothing => Engineered::NoText,
     }
+}
+
+// The bytes of a text: the part of txp at the place that was answered.
+pub fn text_part(txp: &[u8], from: ByteOffset, bytes: usize) -> &[u8]
+    ensures { λ r. ⌜ now r ≡ partAt (now (txp .entry)) (from .0) bytes ⌝ }
+{
+    string_part(txp, from, bytes)
 }
