@@ -16,7 +16,7 @@ use words::say::words;
 ghost use mathlib.Core.Path.{_≡_};
 ghost use mathlib.Core.List.{map};
 ghost use Rattle.files.specs.Reads.{Within};
-ghost use Rattle.files.specs.Space.{endOf, tableIn, tablesIn};
+ghost use Rattle.files.specs.Space.{endOf, tableIn, tablesIn, Apart};
 
 // 0 where there is such a directory, else the number of the system's error. Reading a directory fails, by which it is told from a file.
 pub fn directory_error(directory: &[u8]) -> i32 {
@@ -95,7 +95,10 @@ fn end_of(t: usize, count: usize) -> usize
 }
 
 // Reads one table, and says where it isn't there or can't be read; answers whether it could.
-fn load_table(directory: &[u8], t: usize, space: &mut [u8], ends: &mut [usize; TABLES]) -> bool {
+fn load_table(directory: &[u8], t: usize, space: &mut [u8], ends: &mut [usize; TABLES]) -> bool
+    requires { ⌜ Apart (now ends) ⌝ }
+    ensures { λ _. ⌜ Apart (now (ends .exit)) ⌝ }
+{
     match read_table(directory, t, space) {
         Got::Bytes(count) => {
             keep_at(ends, t, end_of(t, count));
@@ -113,7 +116,9 @@ fn load_table(directory: &[u8], t: usize, space: &mut [u8], ends: &mut [usize; T
 }
 
 // Reads the ten tables. A table for which the space has no room counts as missing.
-pub fn load(directory: &[u8], space: &mut [u8]) -> Loaded {
+pub fn load(directory: &[u8], space: &mut [u8]) -> Loaded
+    ensures { λ r. ⌜ Apart (r .ends) ⌝ }
+{
     let mut ends = [0usize; TABLES];
     let mut whole = true;
     for t in 0..TABLES {
@@ -125,7 +130,9 @@ pub fn load(directory: &[u8], space: &mut [u8]) -> Loaded {
 }
 
 // The same, and a line where there is no such directory, or a table was not read.
-pub fn load_directory(directory: &[u8], space: &mut [u8]) -> Loaded {
+pub fn load_directory(directory: &[u8], space: &mut [u8]) -> Loaded
+    ensures { λ r. ⌜ Apart (r .ends) ⌝ }
+{
     let error = directory_error(directory);
     if error != 0 {
         words(directory);

@@ -2,7 +2,9 @@
 use crate::reads::byte_at;
 use crate::reads::half_at;
 ghost use mathlib.Core.Path.{_≡_};
-ghost use mathlib.Core.Bool.{true};
+ghost use mathlib.Core.Bool.{true, cond};
+ghost use Prim.Native.Nat.{_*_};
+ghost use lib.Dec.{ltb};
 ghost use Rattle.import.specs.Model.{noRow, nextAt, comesTo, chainGood};
 ghost use Rattle.import.specs.Courses.{Ends, KnownEnds, Followed, KnownDepths, DepthIs};
 
@@ -33,7 +35,9 @@ fn next_row(oc: &[u8], found: &[u16], sound: &[u8], i: usize) -> usize
 }
 
 // Twice as many steps, up to a number that no chain reaches.
-fn longer(steps: usize) -> usize {
+fn longer(steps: usize) -> usize
+    ensures { λ r. ⌜ r ≡ cond (ltb steps 16384) (steps * 2) steps ⌝ }
+{
     if steps < 16384 { steps * 2 } else { steps }
 }
 

@@ -14,6 +14,8 @@ use tables::TABLES;
 use words::refusals::say_refused;
 use words::say::number;
 use words::say::words;
+ghost use mathlib.Core.List.{map};
+ghost use Rattle.replay.specs.Turns.{freshState, Played};
 
 // More packets than any file has.
 const MOST_PACKETS: usize = 18446744073709551615;
@@ -62,7 +64,9 @@ fn take_turn(
     fd: i32,
     k: usize,
     state: LimitState,
-) -> Turn {
+) -> Turn
+    ensures { λ r. ⌜ Played (map now (tables .entry)) (now (cells .entry)) (now (name .entry)) state (r .state) ⌝ }
+{
     let mut memory = [0u8; MOST_PACKET];
     let packet: &mut [u8] = &mut memory;
     match next_packet(fd, packet) {
@@ -94,7 +98,9 @@ fn take_turn(
 }
 
 // From a fresh state to the archive's end; answers the last state.
-fn take_turns(tables: [&[u8]; TABLES], cells: &[u16], name: &[u8], fd: i32) -> LimitState {
+fn take_turns(tables: [&[u8]; TABLES], cells: &[u16], name: &[u8], fd: i32) -> LimitState
+    ensures { λ r. ⌜ Played (map now (tables .entry)) (now (cells .entry)) (now (name .entry)) freshState r ⌝ }
+{
     let mut state = LimitState {
         fresh: true,
         apid: 0,

@@ -1,23 +1,25 @@
--- One table after the other.
+-- The invariant: each table so far ends in its own part.
 use Prim.Native.Nat.{_-_, _≤_}
 use mathlib.Core.Path.{_≡_}
 use native.Mathlib.Omega.{arith}
 use lib.ListN.{length}
 use borrow.Author.Needs.{needs}
+use Rattle.files.specs.Space.{Apart}
+use Rattle.files.proofs.SpaceLaws.{apart-none}
 use Rattle.files.proofs.directory.load.Statement.{statement}
 use Rattle.files.proofs.directory.load.Tie as tie
 
 abbrev Inv-loop : tie.InvT-loop
-Inv-loop directory space₀ ends₀ whole₀ t₀ space ends whole t = (length space ≡ length space₀) × (t ≤ 10)
+Inv-loop directory space₀ ends₀ whole₀ t₀ space ends whole t = (length space ≡ length space₀) × (t ≤ 10) × Apart ends
 
 abbrev μ-loop : tie.MeasureT-loop
 μ-loop directory space₀ ends₀ whole₀ t₀ space ends whole t = 10 - t
 
 loop-holds : tie.Need-loop-holds Inv-loop μ-loop
-loop-holds c = (omega arith, omega arith)
+loop-holds c = (omega arith, omega arith, apart-none 10)
 
 load-table-requires : tie.Need-load-table-requires Inv-loop μ-loop
-load-table-requires c κs = search needs
+load-table-requires c κs = c .before .before .before .loop .inv .2
 
 add-t : tie.Need-add-t Inv-loop μ-loop
 add-t c = omega arith
@@ -26,13 +28,13 @@ loop-less : tie.Need-loop-less Inv-loop μ-loop
 loop-less c = omega arith
 
 loop-again : tie.Need-loop-again Inv-loop μ-loop
-loop-again c = (omega arith, omega arith)
+loop-again c = (omega arith, omega arith, c .before .before .before .load-table .ensures)
 
 same-length : tie.Need-same-length Inv-loop μ-loop
 same-length c = omega arith
 
 returns : tie.Need-returns Inv-loop μ-loop
-returns c = search needs
+returns c = c .before .loop .inv .2
 
 pub load-spec : {M : Type 1} → statement M
 load-spec =
