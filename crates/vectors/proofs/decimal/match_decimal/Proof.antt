@@ -1,0 +1,44 @@
+-- The digits are the fewest that hold the number.
+use mathlib.Core.Path.{_∙_, ap}
+use native.Mathlib.Omega.{arith}
+use Rattle.vectors.specs.Spoken.{matchedAll}
+use Rattle.vectors.proofs.SpokenLaws.{decimal-is}
+use borrow.Author.Needs.{needs}
+use Rattle.vectors.proofs.decimal.match_decimal.Statement.{statement}
+use Rattle.vectors.proofs.decimal.match_decimal.Tie as tie
+use Rattle.vectors.proofs.decimal.match_decimal.Reads as reads
+use Rattle.vectors.proofs.decimal.match_decimal.Lts as lts
+use Rattle.io.proofs.decimal.Reads as decimal-reads
+use Rattle.vectors.proofs.fit.match_text.Reads as match-text-reads
+
+-- src/decimal.rt:10:9
+decimal-requires : tie.Need-decimal-requires
+decimal-requires c κs = search needs
+
+-- src/decimal.rt:11:26
+array-share-prefix-digits : tie.Need-array-share-prefix-digits
+array-share-prefix-digits c = search needs
+
+-- src/decimal.rt:11:26
+slice-aggregate-match-text : tie.Need-slice-aggregate-match-text
+slice-aggregate-match-text c = search needs
+
+-- src/decimal.rt:11:5
+match-text-requires : tie.Need-match-text-requires
+match-text-requires c κs = search needs
+
+-- src/decimal.rt:6:1
+returns : tie.Need-returns
+returns c = let d = c .before .before .decimal in
+    let a = c .before .before .before .before .before .args in
+    c .match-text .ensures ∙ ap (matchedAll (a .line .now) (a .at)) (decimal-is (a .n) (d .result) _ (omega arith) (d .ensures .1 .0) (d .ensures .1 .1))
+
+pub match-decimal-spec : {M : Type 1} → statement M
+match-decimal-spec =
+    tie.close
+    (tie.spec
+    decimal-requires
+    array-share-prefix-digits
+    slice-aggregate-match-text
+    match-text-requires
+    returns)

@@ -1,0 +1,24 @@
+-- The text follows.
+use Rattle.vectors.specs.Replies.{engineeringAnswer}
+use borrow.Author.Needs.{needs}
+use Rattle.vectors.proofs.packet_questions.say_text.Statement.{statement}
+use Rattle.vectors.proofs.packet_questions.say_text.Tie as tie
+use Rattle.vectors.proofs.packet_questions.say_text.Reads as reads
+use Rattle.vectors.proofs.packet_questions.say_text.Lts as lts
+use Rattle.vectors.proofs.answer.compose.Reads as compose-reads
+
+-- src/packet_questions.rt:97:9
+slice-aggregate-compose : tie.Need-slice-aggregate-compose
+slice-aggregate-compose c = search needs
+
+-- src/packet_questions.rt:96:5
+compose-requires : tie.Need-compose-requires
+compose-requires c κs = search needs
+
+-- src/packet_questions.rt:92:1
+returns : tie.Need-returns
+unfolding engineeringAnswer
+returns c = c .compose .ensures
+
+pub say-text-spec : {M : Type 1} → statement M
+say-text-spec = tie.close (tie.spec slice-aggregate-compose compose-requires returns)

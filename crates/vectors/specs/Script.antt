@@ -1,0 +1,124 @@
+-- What a vector file means: line by line, how many questions of each kind are asked, how many answers differ, and how many lines can't be read.
+-- Assumes nothing: these are definitions.
+use Prim.Native.Nat.{ℕ, suc, _+_}
+use mathlib.Core.Bool.{Bool, true, false, cond}
+use mathlib.Core.List.{List, [], _∷_, map}
+use mathlib.Core.Option.{Option, some, none}
+use lib.Dec.{eqb, ltb}
+use lib.ListN.{length, getD, set, replicate}
+use Rattle.laws.specs.Text.{ascii, char}
+use Rattle.lines.specs.Lines.{Line, linesOf}
+use Rattle.limit_state.specs.declared.state.LimitState.{LimitState}
+use Rattle.vectors.specs.declared.ask.Judged.{Judged}
+use Rattle.vectors.specs.declared.compare.Verdict.{Verdict}
+use Rattle.vectors.specs.declared.compare.Verdict.the-variants.{Unread, Same, Differs}
+use Rattle.vectors.specs.declared.set.SetLine.{SetLine}
+use Rattle.lines.specs.Columns.{partOf}
+use Rattle.vectors.specs.declared.standing.Tally.{Tally}
+use Rattle.vectors.specs.declared.standing.Standing as held
+use Rattle.vectors.specs.Words.{wordOf, textOf, settingOf, questionOf}
+use Rattle.vectors.specs.Memory.{Memory, Kept, areaIn, tablesIn, allCleared}
+use Rattle.vectors.specs.Settings.{setArea, setState, textBytes}
+use Rattle.vectors.specs.Questions.{judged}
+
+-- the tables and the packet, the limit state, the question that waits for its answer, and the tally so far
+pub record Standing : Type 0 where
+  pub space : List ℕ
+  pub ends : List ℕ
+  pub state : LimitState
+  pub waits : Option (List ℕ)
+  pub tally : Tally
+
+-- one more; a count stops at the greatest number of 64 bits
+unfoldable pub more : ℕ → ℕ
+more n = cond (eqb n 18446744073709551615) n (n + 1)
+
+-- a question that is asked is counted among those of its kind; one that can't be read is a line that can't
+unfoldable pub counted : Tally → ℕ → Verdict → Tally
+counted t k Same = record { asked = set (t .asked) k (more (getD (t .asked) k 0)); differ = t .differ; unread = t .unread }
+counted t k Differs = record { asked = set (t .asked) k (more (getD (t .asked) k 0)); differ = more (t .differ); unread = t .unread }
+counted t k Unread = record { asked = t .asked; differ = t .differ; unread = more (t .unread) }
+
+-- the line under a question
+unfoldable pub answered : Standing → (question line : List ℕ) → Standing
+answered s question line =
+    let j : Judged =
+    judged (questionOf (wordOf question)) (tablesIn (record { space = s .space; ends = s .ends })) (areaIn (record { space = s .space; ends = s .ends }) 10) (textOf question) (s .state) line in
+    record {
+      space = s .space;
+      ends = s .ends;
+      state = j .state;
+      waits = none;
+      tally = counted (s .tally) (questionOf (wordOf question)) (j .verdict);
+    }
+
+-- a line that sets something, by its word's place in the list of settings; 15 is none of them
+unfoldable pub setBy : Standing → ℕ → List ℕ → Standing
+setBy s k raw =
+    cond (eqb k 14)
+    (let l : SetLine = setState (s .state) (textBytes raw) in
+    record { space = s .space; ends = s .ends; state = l .state; waits = none; tally = cond (l .readable) (s .tally) (counted (s .tally) 0 Unread) })
+    (let m : Kept = setArea k (record { space = s .space; ends = s .ends }) raw in
+    record { space = m .space; ends = m .ends; state = s .state; waits = none; tally = cond (m .readable) (s .tally) (counted (s .tally) 0 Unread) })
+
+unfoldable pub unreadLine : Standing → Standing
+unreadLine s = record { space = s .space; ends = s .ends; state = s .state; waits = none; tally = counted (s .tally) 0 Unread }
+
+-- a comment, a question, a setting, or none of them
+unfoldable pub taken : Standing → List ℕ → Standing
+taken s [] = s
+taken s (b ∷ bs) =
+    cond (eqb b (char "#")) s
+    (cond (ltb (questionOf (wordOf (b ∷ bs))) 12)
+    (record { space = s .space; ends = s .ends; state = s .state; waits = some (b ∷ bs); tally = s .tally })
+    (cond (ltb (settingOf (wordOf (b ∷ bs))) 15) (setBy s (settingOf (wordOf (b ∷ bs))) (textOf (b ∷ bs))) (unreadLine s)))
+
+-- under a question a line is its answer
+unfoldable pub nextBy : Standing → List ℕ → Option (List ℕ) → Standing
+nextBy s line none = taken s line
+nextBy s line (some question) = answered s question line
+
+unfoldable pub next : Standing → List ℕ → Standing
+next s line = nextBy s line (s .waits)
+
+unfoldable pub afterLines : Standing → List Line → Standing
+afterLines s [] = s
+afterLines s (l ∷ ls) = afterLines (next s (l .bytes)) ls
+
+-- a question that no line follows can't be read
+unfoldable pub closedBy : Tally → Option (List ℕ) → Tally
+closedBy tally none = tally
+closedBy tally (some question) = counted tally 0 Unread
+
+unfoldable pub closing : Standing → Tally
+closing s = closedBy (s .tally) (s .waits)
+
+-- the state is fresh, no question waits, and nothing is counted
+unfoldable pub firstStanding : (space ends : List ℕ) → Standing
+firstStanding space ends =
+    record {
+      space = space;
+      ends = ends;
+      state = record { fresh = true; apid = 0; count = 0; run = 0; announced = 0 };
+      waits = none;
+      tally = record { asked = 0 ∷ 0 ∷ 0 ∷ 0 ∷ 0 ∷ 0 ∷ 0 ∷ 0 ∷ 0 ∷ 0 ∷ 0 ∷ 0 ∷ []; differ = 0; unread = 0 };
+    }
+
+-- all tables and the packet are empty, whatever the space holds
+unfoldable pub tallyOf : (space text : List ℕ) → Tally
+tallyOf space text = closing (afterLines (firstStanding space (allCleared (replicate 11 0))) (linesOf text))
+
+-- a standing as it is held: the question that waits is a part of the text
+unfoldable pub standingIn : (text space ends : List ℕ) → held.Standing → Standing
+standingIn text space ends s =
+    record {
+      space = space;
+      ends = ends;
+      state = s .state;
+      waits = cond (s .waits) (some (partOf text (s .from) (s .to))) none;
+      tally = s .tally;
+    }
+
+-- one without such a question
+unfoldable pub stood : LimitState → Tally → held.Standing
+stood state tally = record { state = state; waits = false; from = 0; to = 0; tally = tally }
