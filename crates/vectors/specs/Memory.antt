@@ -15,11 +15,17 @@ pub record Memory : Type 0 where
   pub space : List ℕ
   pub ends : List ℕ
 
+abbrev pub memory : (space ends : List ℕ) → Memory
+memory space ends = record { space = space; ends = ends }
+
 -- whether a line could be read, and the memory after it
 pub record Kept : Type 0 where
   pub readable : Bool
   pub space : List ℕ
   pub ends : List ℕ
+
+abbrev pub kept : Bool → (space ends : List ℕ) → Kept
+kept readable space ends = record { readable = readable; space = space; ends = ends }
 
 unfoldable pub unread : Memory → Kept
 unread m = record { readable = false; space = m .space; ends = m .ends }

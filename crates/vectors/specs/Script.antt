@@ -1,25 +1,33 @@
 -- What a vector file means: line by line, how many questions of each kind are asked, how many answers differ, and how many lines can't be read.
 -- Assumes nothing: these are definitions.
 use Prim.Native.Nat.{ℕ, suc, _+_}
+use mathlib.Core.Path.{_≡_, refl}
 use mathlib.Core.Bool.{Bool, true, false, cond}
 use mathlib.Core.List.{List, [], _∷_, map}
 use mathlib.Core.Option.{Option, some, none}
 use lib.Dec.{eqb, ltb}
 use lib.ListN.{length, getD, set, replicate}
 use Rattle.laws.specs.Text.{ascii, char}
-use Rattle.lines.specs.Lines.{Line, linesOf}
+use Rattle.lines.specs.Lines.{Line, linesOf, lead, onFirst}
 use Rattle.limit_state.specs.declared.state.LimitState.{LimitState}
 use Rattle.vectors.specs.declared.ask.Judged.{Judged}
 use Rattle.vectors.specs.declared.compare.Verdict.{Verdict}
 use Rattle.vectors.specs.declared.compare.Verdict.the-variants.{Unread, Same, Differs}
 use Rattle.vectors.specs.declared.set.SetLine.{SetLine}
-use Rattle.lines.specs.Columns.{partOf}
+use Rattle.fields.specs.Text.{partAt}
+use Rattle.lines.specs.Columns.{partOf, columnsOf, columnsFrom}
+use Rattle.lines.specs.Names.{nameOf, sameName, sameBytes}
+use Rattle.numbers.specs.Number.{numberOf, meaning, spelt, after, digitOn, digitOf, answerOf}
 use Rattle.vectors.specs.declared.standing.Tally.{Tally}
 use Rattle.vectors.specs.declared.standing.Standing as held
-use Rattle.vectors.specs.Words.{wordOf, textOf, settingOf, questionOf}
-use Rattle.vectors.specs.Memory.{Memory, Kept, areaIn, tablesIn, allCleared}
+use Rattle.vectors.specs.Escapes.{unescaped, within, before, beforeByte, plain}
+use Rattle.vectors.specs.Answers.{saying, composed}
+use Rattle.vectors.specs.Replies.{numberAnswer, integerAnswer, wordsAnswer}
+use Rattle.vectors.specs.Spoken.{spoken, signText, spelled, decimal, places, cellsText}
+use Rattle.vectors.specs.Words.{wordOf, textOf, upto, placeOf, settingOf, questionOf}
+use Rattle.vectors.specs.Memory.{Kept, memory, areaIn, tablesIn, cleared, allCleared}
 use Rattle.vectors.specs.Settings.{setArea, setState, textBytes}
-use Rattle.vectors.specs.Questions.{judged}
+use Rattle.vectors.specs.Questions.{judged, judgedBytes, judgedText, questionBytesIn, questionVerdict, replyTo, verdictOf}
 
 -- the tables and the packet, the limit state, the question that waits for its answer, and the tally so far
 pub record Standing : Type 0 where
@@ -28,6 +36,9 @@ pub record Standing : Type 0 where
   pub state : LimitState
   pub waits : Option (List ℕ)
   pub tally : Tally
+
+abbrev pub standing : (space ends : List ℕ) → LimitState → Option (List ℕ) → Tally → Standing
+standing space ends state waits tally = record { space = space; ends = ends; state = state; waits = waits; tally = tally }
 
 -- one more; a count stops at the greatest number of 64 bits
 unfoldable pub more : ℕ → ℕ
@@ -43,7 +54,7 @@ counted t k Unread = record { asked = t .asked; differ = t .differ; unread = mor
 unfoldable pub answered : Standing → (question line : List ℕ) → Standing
 answered s question line =
     let j : Judged =
-    judged (questionOf (wordOf question)) (tablesIn (record { space = s .space; ends = s .ends })) (areaIn (record { space = s .space; ends = s .ends }) 10) (textOf question) (s .state) line in
+    judged (questionOf (wordOf question)) (tablesIn (memory (s .space) (s .ends))) (areaIn (memory (s .space) (s .ends)) 10) (textOf question) (s .state) line in
     record {
       space = s .space;
       ends = s .ends;
@@ -58,7 +69,7 @@ setBy s k raw =
     cond (eqb k 14)
     (let l : SetLine = setState (s .state) (textBytes raw) in
     record { space = s .space; ends = s .ends; state = l .state; waits = none; tally = cond (l .readable) (s .tally) (counted (s .tally) 0 Unread) })
-    (let m : Kept = setArea k (record { space = s .space; ends = s .ends }) raw in
+    (let m : Kept = setArea k (memory (s .space) (s .ends)) raw in
     record { space = m .space; ends = m .ends; state = s .state; waits = none; tally = cond (m .readable) (s .tally) (counted (s .tally) 0 Unread) })
 
 unfoldable pub unreadLine : Standing → Standing
@@ -122,3 +133,17 @@ standingIn text space ends s =
 -- one without such a question
 unfoldable pub stood : LimitState → Tally → held.Standing
 stood state tally = record { state = state; waits = false; from = 0; to = 0; tally = tally }
+
+-- a number, one whose answer is another, a word that isn't of the format, and a question that no line follows
+pub record Examples : Type 0 where
+  pub four : tallyOf [] (ascii "# numbers\nnumber 08\n= no number\nnumber 7\n= 8\nnumbers 7\nnumber 9\n")
+      ≡ record { asked = 0 ∷ 0 ∷ 0 ∷ 0 ∷ 0 ∷ 0 ∷ 2 ∷ 0 ∷ 0 ∷ 0 ∷ 0 ∷ 0 ∷ []; differ = 1; unread = 2 }
+
+pub examples : Examples
+unfolding
+    tallyOf closing closedBy afterLines next nextBy taken answered counted more setBy unreadLine firstStanding allCleared cleared linesOf lead onFirst
+    wordOf textOf upto placeOf settingOf questionOf columnsOf columnsFrom nameOf sameName sameBytes
+    judged judgedBytes judgedText questionBytesIn within unescaped before beforeByte plain questionVerdict replyTo verdictOf
+    numberAnswer integerAnswer wordsAnswer saying composed numberOf meaning spelt after digitOn digitOf answerOf
+    spoken signText spelled decimal places partAt cellsText tablesIn areaIn
+examples = record { four = refl }

@@ -7,7 +7,7 @@ ghost use mathlib.Core.List.{map};
 ghost use Prim.Native.Nat.{_+_, _≤_};
 ghost use lib.ListN.{length, getD};
 ghost use lib.Seq.{sets};
-ghost use Rattle.vectors.specs.Memory.{areaIn, tablesIn, cleared, allCleared, added};
+ghost use Rattle.vectors.specs.Memory.{memory, kept, areaIn, tablesIn, cleared, allCleared, added};
 
 // The tables' areas come first, and the packet's after them.
 pub(crate) const PACKET: usize = 10;
@@ -31,7 +31,7 @@ pub(crate) fn number_at(numbers: &[usize], k: usize) -> usize
 
 // The bytes of an area.
 pub(crate) fn area_in<'a>(space: &'a [u8], ends: &[usize], t: usize) -> &'a [u8]
-    ensures { λ r. ⌜ now r ≡ areaIn (record { space = now (space .entry); ends = now (ends .entry) }) t ⌝ }
+    ensures { λ r. ⌜ now r ≡ areaIn (memory (now (space .entry)) (now (ends .entry))) t ⌝ }
 {
     if AREAS <= t {
         return &space[..0];
@@ -40,7 +40,7 @@ pub(crate) fn area_in<'a>(space: &'a [u8], ends: &[usize], t: usize) -> &'a [u8]
 }
 
 pub(crate) fn tables_in<'a>(space: &'a [u8], ends: &[usize]) -> [&'a [u8]; TABLES]
-    ensures { λ r. ⌜ map now r ≡ tablesIn (record { space = now (space .entry); ends = now (ends .entry) }) ⌝ }
+    ensures { λ r. ⌜ map now r ≡ tablesIn (memory (now (space .entry)) (now (ends .entry))) ⌝ }
 {
     [
         area_in(space, ends, 0),
@@ -96,7 +96,7 @@ pub(crate) fn clear_all(ends: &mut [usize])
 
 // Adds bytes to an area, and answers whether they fit. What doesn't fit isn't added.
 pub(crate) fn append(space: &mut [u8], ends: &mut [usize], t: usize, bytes: &[u8]) -> bool
-    ensures { λ r. ⌜ record { readable = r; space = now (space .exit); ends = now (ends .exit) } ≡ added (record { space = now (space .entry); ends = now (ends .entry) }) t (now (bytes .entry)) ⌝ }
+    ensures { λ r. ⌜ kept r (now (space .exit)) (now (ends .exit)) ≡ added (memory (now (space .entry)) (now (ends .entry))) t (now (bytes .entry)) ⌝ }
 {
     if AREAS <= t {
         return false;

@@ -28,7 +28,7 @@ ghost use Prim.Native.Nat.{ℕ};
 ghost use Rattle.lines.specs.Columns.{partOf};
 ghost use Rattle.vectors.specs.Words.{textOf};
 ghost use Rattle.lines.specs.Lines.{linesOf};
-ghost use Rattle.vectors.specs.Script.{answered, setBy, taken, firstStanding, afterLines, closing, tallyOf, stood, standingIn, next};
+ghost use Rattle.vectors.specs.Script.{standing, answered, setBy, taken, firstStanding, afterLines, closing, tallyOf, stood, standingIn, next};
 
 // No question waits.
 fn stands(state: LimitState, tally: Tally) -> Standing
@@ -62,7 +62,7 @@ fn take_answer(
     state: LimitState,
     tally: Tally,
 ) -> Standing
-    ensures { λ r. ⌜ record { space = now (space .entry); ends = now (ends .entry); state = r .state; waits = none; tally = r .tally } ≡ answered (record { space = now (space .entry); ends = now (ends .entry); state = state; waits = none; tally = tally }) (now (question .entry)) (now (line .entry)) ⌝ }
+    ensures { λ r. ⌜ standing (now (space .entry)) (now (ends .entry)) (r .state) none (r .tally) ≡ answered (standing (now (space .entry)) (now (ends .entry)) state none tally) (now (question .entry)) (now (line .entry)) ⌝ }
     ensures { λ r. ⌜ r ≡ stood (r .state) (r .tally) ⌝ }
 {
     let k = question_of(word_of(question));
@@ -93,7 +93,7 @@ fn take_setting(
     state: LimitState,
     tally: Tally,
 ) -> Standing
-    ensures { λ r. ⌜ record { space = now (space .exit); ends = now (ends .exit); state = r .state; waits = none; tally = r .tally } ≡ setBy (record { space = now (space .entry); ends = now (ends .entry); state = state; waits = none; tally = tally }) k (textOf (now (line .entry))) ⌝ }
+    ensures { λ r. ⌜ standing (now (space .exit)) (now (ends .exit)) (r .state) none (r .tally) ≡ setBy (standing (now (space .entry)) (now (ends .entry)) state none tally) k (textOf (now (line .entry))) ⌝ }
     ensures { λ r. ⌜ r ≡ stood (r .state) (r .tally) ⌝ }
 {
     if k == 14 {
@@ -123,7 +123,7 @@ fn take_line(
     state: LimitState,
     tally: Tally,
 ) -> Standing
-    ensures { λ r. ⌜ record { space = now (space .exit); ends = now (ends .exit); state = r .state; waits = cond (r .waits) (some (now (line .entry))) none; tally = r .tally } ≡ taken (record { space = now (space .entry); ends = now (ends .entry); state = state; waits = none; tally = tally }) (now (line .entry)) ⌝ }
+    ensures { λ r. ⌜ standing (now (space .exit)) (now (ends .exit)) (r .state) (cond (r .waits) (some (now (line .entry))) none) (r .tally) ≡ taken (standing (now (space .entry)) (now (ends .entry)) state none tally) (now (line .entry)) ⌝ }
     ensures { λ r. ⌜ (r .waits ≡ true → (r .from ≡ from) × (r .to ≡ to)) ⌝ }
 {
     if line.len() == 0 {

@@ -20,7 +20,7 @@ use lines::columns::part;
 ghost use mathlib.Core.Path.{_≡_};
 ghost use mathlib.Core.List.{[]};
 ghost use Prim.Native.Nat.{_≤_};
-ghost use Rattle.vectors.specs.Memory.{added};
+ghost use Rattle.vectors.specs.Memory.{memory, kept, added};
 ghost use Rattle.vectors.specs.Settings.{textBytes, addRow, setPacket, addPacket, byteIn, runBytes, addFill, clearNamed, setArea, stateIn, setState};
 ghost use Rattle.vectors.specs.Settings.{fill as fillWith};
 
@@ -31,7 +31,7 @@ pub(crate) struct SetLine {
 }
 
 fn add_row(space: &mut [u8], ends: &mut [usize], t: usize, raw: &[u8]) -> bool
-    ensures { λ r. ⌜ record { readable = r; space = now (space .exit); ends = now (ends .exit) } ≡ addRow (record { space = now (space .entry); ends = now (ends .entry) }) t (now (raw .entry)) ⌝ }
+    ensures { λ r. ⌜ kept r (now (space .exit)) (now (ends .exit)) ≡ addRow (memory (now (space .entry)) (now (ends .entry))) t (now (raw .entry)) ⌝ }
 {
     let mut memory = [0u8; ROOM];
     let out: &mut [u8] = &mut memory;
@@ -42,7 +42,7 @@ fn add_row(space: &mut [u8], ends: &mut [usize], t: usize, raw: &[u8]) -> bool
 }
 
 fn add_packet(space: &mut [u8], ends: &mut [usize], raw: &[u8]) -> bool
-    ensures { λ r. ⌜ record { readable = r; space = now (space .exit); ends = now (ends .exit) } ≡ addPacket (record { space = now (space .entry); ends = now (ends .entry) }) (now (raw .entry)) ⌝ }
+    ensures { λ r. ⌜ kept r (now (space .exit)) (now (ends .exit)) ≡ addPacket (memory (now (space .entry)) (now (ends .entry))) (now (raw .entry)) ⌝ }
 {
     let mut memory = [0u8; ROOM];
     let out: &mut [u8] = &mut memory;
@@ -53,7 +53,7 @@ fn add_packet(space: &mut [u8], ends: &mut [usize], raw: &[u8]) -> bool
 }
 
 fn set_packet(space: &mut [u8], ends: &mut [usize], raw: &[u8]) -> bool
-    ensures { λ r. ⌜ record { readable = r; space = now (space .exit); ends = now (ends .exit) } ≡ setPacket (record { space = now (space .entry); ends = now (ends .entry) }) (now (raw .entry)) ⌝ }
+    ensures { λ r. ⌜ kept r (now (space .exit)) (now (ends .exit)) ≡ setPacket (memory (now (space .entry)) (now (ends .entry))) (now (raw .entry)) ⌝ }
 {
     let mut memory = [0u8; ROOM];
     let out: &mut [u8] = &mut memory;
@@ -78,7 +78,7 @@ fn byte_in(text: &[u8]) -> usize
 
 // Adds a byte so many times.
 fn add_run(space: &mut [u8], ends: &mut [usize], t: usize, byte: u8, count: usize) -> bool
-    ensures { λ r. ⌜ record { readable = r; space = now (space .exit); ends = now (ends .exit) } ≡ added (record { space = now (space .entry); ends = now (ends .entry) }) t (runBytes byte count) ⌝ }
+    ensures { λ r. ⌜ kept r (now (space .exit)) (now (ends .exit)) ≡ added (memory (now (space .entry)) (now (ends .entry))) t (runBytes byte count) ⌝ }
 {
     let run = [byte; ROOM];
     append(space, ends, t, part(&run, 0, count))
@@ -86,7 +86,7 @@ fn add_run(space: &mut [u8], ends: &mut [usize], t: usize, byte: u8, count: usiz
 
 // PLACE|COUNT|BYTE
 fn add_fill(space: &mut [u8], ends: &mut [usize], text: &[u8]) -> bool
-    ensures { λ r. ⌜ record { readable = r; space = now (space .exit); ends = now (ends .exit) } ≡ addFill (record { space = now (space .entry); ends = now (ends .entry) }) (now (text .entry)) ⌝ }
+    ensures { λ r. ⌜ kept r (now (space .exit)) (now (ends .exit)) ≡ addFill (memory (now (space .entry)) (now (ends .entry))) (now (text .entry)) ⌝ }
 {
     if column_count(text) != 3 {
         return false;
@@ -103,7 +103,7 @@ fn add_fill(space: &mut [u8], ends: &mut [usize], text: &[u8]) -> bool
 }
 
 fn fill(space: &mut [u8], ends: &mut [usize], raw: &[u8]) -> bool
-    ensures { λ r. ⌜ record { readable = r; space = now (space .exit); ends = now (ends .exit) } ≡ fillWith (record { space = now (space .entry); ends = now (ends .entry) }) (now (raw .entry)) ⌝ }
+    ensures { λ r. ⌜ kept r (now (space .exit)) (now (ends .exit)) ≡ fillWith (memory (now (space .entry)) (now (ends .entry))) (now (raw .entry)) ⌝ }
 {
     let mut memory = [0u8; ROOM];
     let out: &mut [u8] = &mut memory;
@@ -115,7 +115,7 @@ fn fill(space: &mut [u8], ends: &mut [usize], raw: &[u8]) -> bool
 
 // All areas, or the one that is named.
 fn clear_named(ends: &mut [usize], name: &[u8]) -> bool
-    ensures { λ r. ⌜ record { readable = r; space = []; ends = now (ends .exit) } ≡ clearNamed (record { space = []; ends = now (ends .entry) }) (now (name .entry)) ⌝ }
+    ensures { λ r. ⌜ kept r [] (now (ends .exit)) ≡ clearNamed (memory [] (now (ends .entry))) (now (name .entry)) ⌝ }
 {
     if name.len() == 0 {
         clear_all(ends);
@@ -183,7 +183,7 @@ pub(crate) fn set_state(raw: &[u8], state: LimitState) -> SetLine
 
 // The tables and the packet after a line, by its number in the list of settings.
 pub(crate) fn set_area(k: usize, raw: &[u8], space: &mut [u8], ends: &mut [usize]) -> bool
-    ensures { λ r. ⌜ record { readable = r; space = now (space .exit); ends = now (ends .exit) } ≡ setArea k (record { space = now (space .entry); ends = now (ends .entry) }) (now (raw .entry)) ⌝ }
+    ensures { λ r. ⌜ kept r (now (space .exit)) (now (ends .exit)) ≡ setArea k (memory (now (space .entry)) (now (ends .entry))) (now (raw .entry)) ⌝ }
 {
     match k {
         10 => set_packet(space, ends, raw),
