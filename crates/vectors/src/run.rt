@@ -20,6 +20,7 @@ use crate::verb::word_of;
 use limit_state::state::LimitState;
 use lines::columns::part;
 use lines::walk::next_line;
+use std::num::wrapping_sub_usize;
 ghost use mathlib.Core.Path.{_≡_};
 ghost use mathlib.Core.Bool.{true, cond};
 ghost use mathlib.Core.Option.{some, none};
@@ -43,9 +44,10 @@ fn stands(state: LimitState, tally: Tally) -> Standing
     }
 }
 
+// A question that can't be read stands in the line before its answer.
 fn say_question(name: &[u8], number: usize, question: &[u8], verdict: Verdict) {
     match verdict {
-        Verdict::Unread => say_unread(name, number, question),
+        Verdict::Unread => say_unread(name, wrapping_sub_usize(number, 1), question),
         Verdict::Same => {}
         Verdict::Differs => {}
     }
