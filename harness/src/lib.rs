@@ -6,3 +6,4 @@ pub mod proved;
 pub mod random;
 pub mod reference;
 pub mod tally;
+pub mod vectors;

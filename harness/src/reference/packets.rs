@@ -70,28 +70,38 @@ fn identification(packet: &[u8], place: Identification) -> Result<i64, Refusal> 
     if place.unused() {
         return Ok(0);
     }
-    match unsigned(packet, 8 * place.offset, place.width) {
-        Some(value) => Ok(value),
+    match unsigned(packet, 8 * place.offset as usize, place.width as usize) {
+        Some(value) => Ok(value as i64),
         None => refuse_at(24, place.offset as u64),
     }
 }
 
-/// A field of up to 32 bits, most significant bit first, if all its bits lie in the packet.
-pub fn unsigned(packet: &[u8], start: i64, width: i64) -> Option<i64> {
-    let (start, end) = (start as usize, (start + width) as usize);
+/// A field of 1 to 64 bits, most significant bit first, if all its bits lie in the packet.
+pub fn unsigned(packet: &[u8], start: usize, width: usize) -> Option<u64> {
+    let end = start.checked_add(width)?;
     let bytes = packet.get(start / 8..end.div_ceil(8))?;
-    let joined = bytes.iter().fold(0u64, |value, &byte| value << 8 | u64::from(byte));
+    let joined = bytes.iter().fold(0u128, |value, &byte| value << 8 | u128::from(byte));
     let after = bytes.len() * 8 - (end - start / 8 * 8);
-    Some((joined >> after & ((1 << width) - 1)) as i64)
+    Some((joined >> after & ((1 << width) - 1)) as u64)
 }
 
-/// Two's complement.
-fn signed(value: i64, width: i64) -> i64 {
-    if value >> (width - 1) == 1 {
-        value - (1 << width)
-    } else {
-        value
+/// A field in two's complement.
+pub fn signed(packet: &[u8], start: usize, width: usize) -> Option<i64> {
+    let above = 64 - width;
+    unsigned(packet, start, width).map(|value| (value << above) as i64 >> above)
+}
+
+/// The part of the packet that a string is: refusal 28 if a bit of it lies outside, else 29 if it isn't on a byte.
+pub fn string(packet: &[u8], start: usize, length: usize) -> Result<Raw, Refusal> {
+    let byte = start / 8;
+    let end = length.checked_mul(8).and_then(|bits| start.checked_add(bits));
+    if end.is_none_or(|end| end > 8 * packet.len()) {
+        return refuse_at(28, byte as u64);
     }
+    if !start.is_multiple_of(8) {
+        return refuse_at(29, byte as u64);
+    }
+    Ok(Raw::Text { start: byte as i64, length: length as i64 })
 }
 
 /// A raw value: a number, or the part of the packet that a string is, in bytes.
@@ -123,34 +133,26 @@ pub fn parameter<'j>(judged: &'j Judged, spid: i64, name: &'j [u8]) -> Result<Pa
 
 impl Parameter<'_> {
     /// 01: "Occurrence k, from 0, starts at bit 8 × OFFBY + OFFBI + k × LGOCC".
-    fn start(&self, occurrence: i64) -> i64 {
-        8 * self.place.offby + self.place.offbi + occurrence * self.place.lgocc
+    fn start(&self, occurrence: i64) -> usize {
+        (8 * self.place.offby + self.place.offbi + occurrence * self.place.lgocc) as usize
     }
 
     /// Refusals 28 and 29.
     pub fn raw(&self, packet: &[u8], occurrence: i64) -> Result<Raw, Refusal> {
-        let start = self.start(occurrence);
-        let byte = start / 8;
-        if start + self.kind.width > 8 * packet.len() as i64 {
-            return refuse_at(28, byte as u64);
+        if self.kind.is_string() {
+            return string(packet, self.start(occurrence), self.kind.width as usize / 8);
         }
-        if !self.kind.is_string() {
-            return self.integer(packet, occurrence).map(Raw::Integer);
-        }
-        if start % 8 != 0 {
-            return refuse_at(29, byte as u64);
-        }
-        Ok(Raw::Text { start: byte, length: self.kind.width / 8 })
+        self.integer(packet, occurrence).map(Raw::Integer)
     }
 
     /// The raw number of a parameter that isn't a string.
     pub fn integer(&self, packet: &[u8], occurrence: i64) -> Result<i64, Refusal> {
-        let start = self.start(occurrence);
-        match unsigned(packet, start, self.kind.width) {
-            Some(value) if self.kind.ptc == 4 => Ok(signed(value, self.kind.width)),
-            Some(value) => Ok(value),
-            None => refuse_at(28, (start / 8) as u64),
-        }
+        let (start, width) = (self.start(occurrence), self.kind.width as usize);
+        let value = match self.kind.ptc {
+            4 => signed(packet, start, width),
+            _ => unsigned(packet, start, width).map(|value| value as i64),
+        };
+        value.map_or_else(|| refuse_at(28, (start / 8) as u64), Ok)
     }
 }
 

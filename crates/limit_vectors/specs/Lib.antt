@@ -1,3 +1,0 @@
-pub mod States
-pub mod Answers
-pub mod Runs

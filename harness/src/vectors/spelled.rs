@@ -1,0 +1,141 @@
+//! Answers as the vector files spell them.
+
+use super::text::BEYOND;
+use crate::answers::Answer;
+use crate::reference::curves::{curve_at, Point};
+use crate::reference::numbers;
+use crate::reference::packets::{self, Raw};
+use crate::reference::rows::field_width;
+use crate::reference::schemas::{Kind, Verdict, CAP, GOOD, TXP};
+
+/// What a lent cell holds before import, and no verdict is: 255:255.
+pub const UNWRITTEN: Verdict = 0xFFFF;
+
+/// The refusal in an answer, or its values spelled out.
+fn unless_refused(answer: &Answer, spell: impl FnOnce() -> String) -> String {
+    match answer.result {
+        0 => spell(),
+        result => format!("refused {} at {}", result >> 32, result & 0xFFFF_FFFF),
+    }
+}
+
+/// The counts or the refusal, and the cells up to the last that was written: none after a refusal.
+pub fn import(answer: &Answer, cells: &[Verdict]) -> String {
+    let [rows, good, ..] = answer.places;
+    let counts = unless_refused(answer, || format!("{rows} rows, {good} good:"));
+    let written = cells.iter().rposition(|&cell| cell != UNWRITTEN).map_or(0, |last| last + 1);
+    cells[..written].iter().fold(counts, |spelled, &verdict| spelled + " " + &cell(verdict))
+}
+
+fn cell(verdict: Verdict) -> String {
+    match verdict {
+        GOOD => "good".to_string(),
+        _ => format!("{}:{}", verdict / 256, verdict % 256),
+    }
+}
+
+/// The cell of a table's only row. Where it isn't one row, this is what import answers.
+pub fn row(answer: &Answer, cells: &[Verdict]) -> String {
+    match (answer.result, answer.places[0]) {
+        (0, 1) => cell(cells[0]),
+        _ => import(answer, cells),
+    }
+}
+
+pub fn identify(answer: &Answer) -> String {
+    let [row, spid, apid, service, subservice, pi1, pi2, _] = answer.places;
+    unless_refused(answer, || {
+        format!(
+            "row {row}, SPID {spid}, APID {apid}, type {service}, subtype {subservice}, PI1 {pi1}, PI2 {pi2}"
+        )
+    })
+}
+
+pub fn extract(answer: &Answer) -> String {
+    let validity = |valid| if valid == 1 { "valid" } else { "invalid" };
+    unless_refused(answer, || match answer.places {
+        [0, value, valid, ..] => format!("{value}, {}", validity(valid)),
+        [_, start, length, valid, ..] => format!("{}, {}", part(start, length), validity(valid)),
+    })
+}
+
+fn part(start: i64, length: i64) -> String {
+    format!("string from {start}, {length} bytes")
+}
+
+/// A text is spelled with its bytes, a part of txp.
+pub fn engineer(answer: &Answer, txp: &[u8]) -> String {
+    unless_refused(answer, || match answer.places {
+        [0, value, ..] => value.to_string(),
+        [1, start, length, ..] => part(start, length),
+        [_, row, start, length, ..] => {
+            let text = txp.get(start as usize..(start + length) as usize).unwrap_or_default();
+            let text = String::from_utf8_lossy(text);
+            format!("text of row {row} from {start}, {length} bytes: {text}")
+        }
+    })
+}
+
+/// An accepted packet ends fresh, so a state that is still fresh is never the answer.
+pub fn step(answer: &Answer) -> String {
+    let [fresh, apid, count, run, announced, ..] = answer.places;
+    let still = if fresh == 1 { "fresh, " } else { "" };
+    unless_refused(answer, || format!("{still}APID {apid}, count {count}, run {run}, announced {announced}"))
+}
+
+pub fn number(text: &[u8]) -> String {
+    match numbers::number(text) {
+        None => "no number".to_string(),
+        Some(value) if value.unsigned_abs() >= BEYOND as u64 => "beyond".to_string(),
+        Some(value) => value.to_string(),
+    }
+}
+
+pub fn width(ptc: u64, pfc: u64) -> String {
+    let known = |number: u64| i64::try_from(number).ok();
+    match known(ptc).zip(known(pfc)).and_then(|(ptc, pfc)| field_width(ptc, pfc)) {
+        Some(bits) => format!("{bits} bits"),
+        None => "none".to_string(),
+    }
+}
+
+pub fn unsigned(packet: &[u8], bit: u64, width: u64) -> String {
+    field(width, |width| packets::unsigned(packet, bit as usize, width))
+}
+
+pub fn signed(packet: &[u8], bit: u64, width: u64) -> String {
+    field(width, |width| packets::signed(packet, bit as usize, width))
+}
+
+fn field<T: ToString>(width: u64, read: impl FnOnce(usize) -> Option<T>) -> String {
+    if !(1..=64).contains(&width) {
+        return "no width".to_string();
+    }
+    read(width as usize).map_or("outside".to_string(), |value| value.to_string())
+}
+
+pub fn string(packet: &[u8], bit: u64, bytes: u64) -> String {
+    if bytes == 0 {
+        return "no bytes".to_string();
+    }
+    match packets::string(packet, bit as usize, bytes as usize) {
+        Ok(Raw::Text { start, length }) => part(start, length),
+        Ok(Raw::Integer(value)) => value.to_string(),
+        Err(refusal) if refusal.number == 28 => "outside".to_string(),
+        Err(_) => "off a byte".to_string(),
+    }
+}
+
+/// The line through two points: XVALS and YVALS of cap, and a raw value as FROM of txp has it.
+pub fn line(from: [i64; 2], to: [i64; 2], x: i64) -> String {
+    let on_curve = |point: [i64; 2]| in_range(&CAP[1].kind, point[0]) && in_range(&CAP[2].kind, point[1]);
+    if !on_curve(from) || !on_curve(to) || !in_range(&TXP[1].kind, x) || from[0] >= to[0] {
+        return "no line".to_string();
+    }
+    let points = [from, to].map(|[x, y]| Point { x, y });
+    curve_at(points.to_vec(), true, x).map_or("out of range".to_string(), |value| value.to_string())
+}
+
+fn in_range(kind: &Kind, value: i64) -> bool {
+    matches!(*kind, Kind::Number { least, greatest } if (least..=greatest).contains(&value))
+}
