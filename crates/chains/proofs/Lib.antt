@@ -1,0 +1,4 @@
+pub mod ChainLaws
+pub mod CircleLaws
+pub mod DepthLaws
+pub mod EndLaws

@@ -1,0 +1,4 @@
+pub mod Symbols
+pub mod Arrays
+pub mod Searches
+pub mod Interning
