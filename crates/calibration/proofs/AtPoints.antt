@@ -1,4 +1,4 @@
--- A curve goes through each of its points, in whatever order they stand, under P and F alike. Assumes nothing.
+-- A curve goes through each of its points, in whatever order they stand, under P and F alike.
 use mathlib.Core.Path.{_≡_, refl, sym, ap, _∙_}
 use mathlib.Core.Bool.{true}
 use mathlib.Core.List.{List}

@@ -1,4 +1,4 @@
--- Each case of a curve's value. Assumes nothing.
+-- Each case of a curve's value.
 use mathlib.Core.Path.{_≡_, _∙_}
 use mathlib.Core.Bool.{true, false}
 use mathlib.Core.List.{List}

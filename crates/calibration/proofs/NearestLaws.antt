@@ -1,4 +1,4 @@
--- The search for the nearest, one element further. Assumes nothing.
+-- The search for the nearest, one element further.
 use mathlib.Core.Path.{_≡_}
 use mathlib.Core.Bool.{Bool, true, false, cond}
 use mathlib.Core.List.{List}

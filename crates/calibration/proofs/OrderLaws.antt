@@ -1,4 +1,4 @@
--- The order of the integers, and of two numbers on one side of a value. Assumes nothing.
+-- The order of the integers, and of two numbers on one side of a value.
 use mathlib.Core.Path.{_≡_, refl, sym, ap}
 use mathlib.Core.Bool.{true, false}
 use native.Mathlib.Omega.{arith}

@@ -1,4 +1,4 @@
--- What a function says of numbers that passed through words, it says of the numbers. Assumes nothing.
+-- What a function says of numbers that passed through words, it says of the numbers.
 use mathlib.Core.Path.{_≡_, ap, ap₂, _∙_}
 use Prim.Native.Nat.{_^_, _<_}
 use lib.IntN.{ℤ}

@@ -1,4 +1,4 @@
--- The value of a curve, whose points stand in any order: the X of each in one list, and its Y in another. Assumes nothing: these are definitions.
+-- The value of a curve, whose points stand in any order: the X of each in one list, and its Y in another.
 use mathlib.Core.Path.{_≡_, refl}
 use mathlib.Core.Bool.{cond}
 use mathlib.Core.List.{List, [], _∷_}

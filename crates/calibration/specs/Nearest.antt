@@ -1,4 +1,4 @@
--- The nearest of several numbers, in any order, to a value, on one side of it. Assumes nothing: these are definitions.
+-- The nearest of several numbers, in any order, to a value, on one side of it.
 use mathlib.Core.Path.{_≡_, refl}
 use mathlib.Core.Bool.{Bool, cond}
 use mathlib.Core.List.{List, [], _∷_}

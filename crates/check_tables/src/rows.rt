@@ -4,6 +4,7 @@ use tables::TABLES;
 use tables::kind_of;
 use tables::row_count;
 use tables::table_at;
+use units::RowNumber;
 use words::names::column_name;
 use words::names::table_name;
 use words::reasons::say_reason;
@@ -21,12 +22,12 @@ fn say_column(t: usize, column: usize) {
 }
 
 // "pcf 12: 2824: reason 11 at column 8 (VALID): no good row .."
-fn say_row(t: usize, row: usize, verdict: usize) {
+fn say_row(t: usize, row: RowNumber, verdict: usize) {
     let reason = verdict / 256;
     let column = verdict % 256;
     say::name(table_name(wrapping_add_usize(t, 1)));
     words(b" ");
-    say::number(row);
+    say::number(row.0);
     words(b": ");
     say::number(verdict);
     words(b": reason ");
@@ -50,17 +51,18 @@ fn cell_at(cells: &[u16], at: usize) -> u16
     0
 }
 
-// A line for the row with this number, from 0, unless it is good.
-fn say_cell(t: usize, row: usize, verdict: u16) {
+// A line for the row with this number, unless it is good.
+fn say_cell(t: usize, row: RowNumber, verdict: u16) {
     if verdict != 0 {
-        say_row(t, wrapping_add_usize(row, 1), verdict as usize);
+        say_row(t, row, verdict as usize);
     }
 }
 
 // The rows of a table, whose cells start at a place.
 fn say_table(t: usize, rows: usize, cells: &[u16], from: usize) {
     for row in 0..rows {
-        say_cell(t, row, cell_at(cells, wrapping_add_usize(from, row)));
+        let number = RowNumber(wrapping_add_usize(row, 1));
+        say_cell(t, number, cell_at(cells, wrapping_add_usize(from, row)));
     }
 }
 

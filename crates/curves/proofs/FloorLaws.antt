@@ -1,4 +1,4 @@
--- A fraction rounded down: that it is the greatest integer not above the fraction, and how it comes out of magnitudes. Assumes nothing.
+-- A fraction rounded down: that it is the greatest integer not above the fraction, and how it comes out of magnitudes.
 use mathlib.Core.Path.{_≡_, refl, sym, ap, _∙_}
 use mathlib.Core.Bool.{true, not}
 use Prim.Native.Nat.{ℕ, zero, suc, _+_, _-_, _*_, _/_, _<_, _≤_}

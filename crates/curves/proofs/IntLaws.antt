@@ -1,4 +1,4 @@
--- Laws of integers that the proofs of signed functions cite: signs, magnitudes, and what a word holds. Assumes nothing.
+-- Laws of integers that the proofs of signed functions cite: signs, magnitudes, and what a word holds.
 use mathlib.Core.Path.{_≡_, refl, sym, ap₂, _∙_}
 use mathlib.Core.Bool.{Bool, true, false, not, Bool·beq}
 use Prim.Native.Nat.{ℕ, zero, suc, _+_, _-_, _^_, _<_, _≤_}

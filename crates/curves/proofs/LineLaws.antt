@@ -1,4 +1,4 @@
--- Laws of the line: its numbers' ranges, results far off, and each case of the answer. Assumes nothing.
+-- Laws of the line: its numbers' ranges, results far off, and each case of the answer.
 use mathlib.Core.Path.{_≡_, refl, sym, ap, _∙_}
 use mathlib.Core.Bool.{Bool, true, false, cond, _&&_}
 use Prim.Native.Nat.{ℕ, zero, suc, _+_, _-_, _*_, _^_, _<_, _≤_}

@@ -1,4 +1,4 @@
--- A fraction rounded down. Assumes nothing: these are definitions.
+-- A fraction rounded down.
 use mathlib.Core.Path.{_≡_, refl}
 use Prim.Native.Nat.{ℕ, _/_}
 use lib.IntN.{ℤ, pos, negsuc}

@@ -1,4 +1,4 @@
--- The straight line through two points of a curve. Assumes nothing: these are definitions.
+-- The straight line through two points of a curve.
 use mathlib.Core.Path.{_≡_, refl}
 use mathlib.Core.Bool.{Bool, cond, _&&_}
 use lib.IntN.{ℤ, pos, negsuc, natAbs, _+ℤ_, _-ℤ_, _*ℤ_}

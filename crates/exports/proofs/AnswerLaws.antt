@@ -1,4 +1,4 @@
--- What a result and the places of an answer hold. Assumes nothing.
+-- What a result and the places of an answer hold.
 use mathlib.Core.Path.{_≡_, refl, sym, ap, ap₂, subst, _∙_}
 use mathlib.Core.List.{List, [], _∷_}
 use Prim.Native.Nat.{ℕ, zero, suc, _-_, _^_, _<_, _+_, _/_, _%_, _≤_}

@@ -1,4 +1,4 @@
--- The numbers of good plf and pic rows are in the ranges that 01 prints. Assumes nothing.
+-- The numbers of good plf and pic rows are in the ranges that 01 prints.
 use mathlib.Core.Path.{_≡_, refl, sym, ap, subst, _∙_}
 use mathlib.Core.Logic.{⊎-elim}
 use mathlib.Core.Bool.{true, false}
@@ -6,9 +6,10 @@ use mathlib.Core.List.{List, []}
 use mathlib.Core.Option.{some}
 use Prim.Native.Nat.{ℕ, _^_, _≤_, _<_}
 use native.Mathlib.Omega.{arith}
-use lib.IntN.{ℤ, pos, negℤ, natAbs}
+use lib.IntN.{ℤ, pos, negsuc, negℤ, natAbs}
 use lib.ListN.{getD}
 use lib.Signed.{leZ}
+use borrow.Author.Tests.{leb-true}
 use Rattle.laws.proofs.Cases.{false≢true}
 use Rattle.numbers.specs.Number.{numberOf, meaning, spelt, after}
 use Rattle.lines.specs.Lines.{Line}
@@ -17,12 +18,14 @@ use Rattle.schemas.specs.Schema.{Column, Kind, aNumber, natural, natural!, inte
 use Rattle.schemas.specs.Tables.{schema, pic, plf}
 use Rattle.schemas.specs.Reasons.{kindReason, columnReason}
 use Rattle.schemas.proofs.Meaning.{Absent, Given, column-fine, number-fine}
-use Rattle.rows.specs.Values.{naturalFrom, naturalOr, integerOr}
-use Rattle.rows.specs.Records.{picRow, plfRow}
-use Rattle.rows.specs.Formed.{formed}
+use Rattle.rows.specs.Values.{naturalFrom, naturalOr, integerOr, identificationField}
+use Rattle.rows.specs.Records.{column, picRow, plfRow}
+use Rattle.formed.specs.Formed.{formed}
+use Rattle.rows.specs.declared.records.IdentificationField.{IdentificationField}
+use Rattle.rows.specs.declared.records.IdentificationField.the-variants.{Unused, At}
 use Rattle.rows.specs.declared.records.PicRow.{PicRow}
 use Rattle.rows.specs.declared.records.PlfRow.{PlfRow}
-use Rattle.rows.proofs.Meaning.{column-passes, natural-column, integer-column}
+use Rattle.formed.proofs.Meaning.{column-passes, natural-column, integer-column}
 use Rattle.verdicts.specs.Key.{Key}
 use Rattle.verdicts.specs.Verdicts.{verdicts}
 use Rattle.verdicts.specs.Entries.{carried}
@@ -81,16 +84,28 @@ plf-formed line e =
       lgocc = natural-most (natural 5 0 32767) _ 0 32767 0 refl (omega arith) (omega arith) (column-passes Plf line e 5 (omega arith));
     }
 
+-- the byte of an identification field, 0 where it is unused
+abbrev pub byteOf : IdentificationField → ℕ
+byteOf Unused = 0
+byteOf (At byte width) = byte .0
+
 pub record PicRanges (row : PicRow) : Type 0 where
-  pub first : leZ (row .pi1off) (pos 8191) ≡ true
-  pub second : leZ (row .pi2off) (pos 8191) ≡ true
+  pub first : byteOf (row .pi1) ≤ 8191
+  pub second : byteOf (row .pi2) ≤ 8191
+
+field-most : (z : ℤ) (width : ℕ) → leZ z (pos 8191) ≡ true → byteOf (identificationField z width) ≤ 8191
+unfolding identificationField
+field-most (pos n) width h = leb-true n 8191 h
+field-most (negsuc n) width h = omega arith
 
 pic-formed : (line : Line) → formed Pic line ≡ 0 → PicRanges (picRow (line .bytes))
 unfolding picRow schema pic
 pic-formed line e =
     record {
-      first = integer-most (integer! 5 (negℤ (pos 1)) (pos 8191)) _ (negℤ (pos 1)) (pos 8191) (pos 0) refl refl (omega arith) (omega arith) (column-passes Pic line e 2 (omega arith));
-      second = integer-most (integer! 5 (negℤ (pos 1)) (pos 8191)) _ (negℤ (pos 1)) (pos 8191) (pos 0) refl refl (omega arith) (omega arith) (column-passes Pic line e 4 (omega arith));
+      first = field-most _ (naturalOr 0 (column (line .bytes) 3))
+          (integer-most (integer! 5 (negℤ (pos 1)) (pos 8191)) _ (negℤ (pos 1)) (pos 8191) (pos 0) refl refl (omega arith) (omega arith) (column-passes Pic line e 2 (omega arith)));
+      second = field-most _ (naturalOr 0 (column (line .bytes) 5))
+          (integer-most (integer! 5 (negℤ (pos 1)) (pos 8191)) _ (negℤ (pos 1)) (pos 8191) (pos 0) refl refl (omega arith) (omega arith) (column-passes Pic line e 4 (omega arith)));
     }
 
 -- A row that is found is good

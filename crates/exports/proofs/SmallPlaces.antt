@@ -1,4 +1,4 @@
--- The place of every refusal of an import or a packet question is below 2 ^ 32, so that number and place are read back from its code. Assumes nothing.
+-- The place of every refusal of an import or a packet question is below 2 ^ 32, so that number and place are read back from its code.
 use mathlib.Core.Path.{_≡_, refl}
 use mathlib.Core.Bool.{Bool, true}
 use mathlib.Core.List.{List, [], _∷_}
@@ -7,10 +7,10 @@ use Prim.Native.Nat.{ℕ, suc, _+_, _^_, _≤_, _<_, _*_, _/_}
 use native.Mathlib.Nat.{mul-le-mul, div-le-self}
 use native.Mathlib.Omega.{arith}
 use lib.Dec.{eqb, ltb}
-use lib.IntN.{ℤ, pos, negsuc}
+use lib.IntN.{ℤ}
 use lib.ListN.{length, getD}
-use lib.Signed.{leZ, ltZ}
-use borrow.Author.Tests.{ltb-true, leb-true}
+use lib.Signed.{ltZ}
+use borrow.Author.Tests.{ltb-true}
 use Rattle.laws.specs.Said.{Said, value, refused as refusedWith, free}
 use Rattle.laws.proofs.Cases.{cond-cases}
 use Rattle.lines.specs.Lines.{linesOf}
@@ -18,9 +18,9 @@ use Rattle.lines.specs.Names.{nameOf}
 use Rattle.lines.specs.declared.names.Name.{Name}
 use Rattle.schemas.specs.declared.Table.the-variants.{Pic, Plf, Pcf}
 use Rattle.rows.specs.Records.{picRow, plfRow, pcfRow}
-use Rattle.rows.specs.Width.{widthOf}
-use Rattle.rows.specs.declared.width.Width.{Width}
-use Rattle.rows.specs.declared.width.Width.the-variants as width
+use Rattle.fields.specs.Width.{widthOf}
+use Rattle.rows.specs.declared.records.IdentificationField.{IdentificationField}
+use Rattle.rows.specs.declared.records.IdentificationField.the-variants as field
 use Rattle.rows.specs.declared.records.PicRow.{PicRow}
 use Rattle.rows.specs.declared.records.PlfRow.{PlfRow}
 use Rattle.rows.specs.declared.records.PcfRow.{PcfRow}
@@ -50,7 +50,7 @@ use Rattle.packets.specs.Extraction.{extractFrom, extractIn, extractBy, extract
 use Rattle.values.specs.Members.{members, thirdOf}
 use Rattle.values.specs.Engineering.{Engineering, refused as notEngineered, ofCurve, calibrated, textAt, textFor, ofCategory, ofRow, engineerFrom, engineerBy, engineerOf}
 use Rattle.exports.specs.Answers.{placeIn, ofImport, ofIdentification, ofRead, ofEngineering}
-use Rattle.exports.proofs.RowRanges.{PlfRanges, PicRanges, plf-found, pic-found}
+use Rattle.exports.proofs.RowRanges.{PlfRanges, byteOf, PicRanges, plf-found, pic-found}
 
 -- Tables
 
@@ -103,10 +103,10 @@ read-small byte (value z) h = omega arith
 read-small byte (refusedWith n) h = h
 read-small byte free h = omega arith
 
-field-small : (p : List ℕ) (offset : ℤ) (width : ℕ) → leZ offset (pos 8191) ≡ true → leaving (identifierAt p offset width) < 2 ^ 32
+field-small : (p : List ℕ) (field : IdentificationField) → byteOf field ≤ 8191 → leaving (identifierAt p field) < 2 ^ 32
 unfolding identifierAt
-field-small p (pos byte) width h = read-small byte (unsignedAt p (byte * 8) width) (omega (arith, leb-true byte 8191 h))
-field-small p (negsuc n) width h = omega arith
+field-small p (field.At byte width) h = read-small (byte .0) (unsignedAt p (byte .0 * 8) width) (omega arith)
+field-small p field.Unused h = omega arith
 
 together-small : (a b : Identifier) → leaving a < 2 ^ 32 → leaving b < 2 ^ 32 → firstLeaving (together a b) < 2 ^ 32
 unfolding together
@@ -117,8 +117,7 @@ together-small (isNumber a) (isNumber b) h g = omega arith
 by-small : (p : List ℕ) (row : PicRow) → PicRanges row → firstLeaving (identifiersBy p row) < 2 ^ 32
 unfolding identifiersBy
 by-small p row r =
-    together-small (identifierAt p (row .pi1off) (row .pi1wid)) (identifierAt p (row .pi2off) (row .pi2wid)) (field-small p (row .pi1off) (row .pi1wid) (r .first))
-    (field-small p (row .pi2off) (row .pi2wid) (r .second))
+    together-small (identifierAt p (row .pi1)) (identifierAt p (row .pi2)) (field-small p (row .pi1) (r .first)) (field-small p (row .pi2) (r .second))
 
 module _ (texts : List (List ℕ)) (p : List ℕ) where
   from-small : (o other : Option Row) → ((r : Row) → o ≡ some r → PicRanges (picRow (r .bytes))) → ((r : Row) → other ≡ some r → PicRanges (picRow (r .bytes)))
@@ -194,10 +193,10 @@ start-small row k r h =
     let b : k ≤ 9998 = omega (arith, r .nbocc) in
     omega (arith, r .offby, r .offbi, mul-le-mul {n₁ = k} {m₁ = row .lgocc .0} {n₂ = 9998} {m₂ = 32767} b (r .lgocc))
 
-raw-in-small : (p : List ℕ) (plf : PlfRow) (ptc k : ℕ) (w : Width) → PlfRanges plf → placeR (rawIn p plf ptc k w) < 2 ^ 32
+raw-in-small : (p : List ℕ) (plf : PlfRow) (ptc k : ℕ) (w : Option ℕ) → PlfRanges plf → placeR (rawIn p plf ptc k w) < 2 ^ 32
 unfolding rawIn
-raw-in-small p plf ptc k width.Refused r = omega arith
-raw-in-small p plf ptc k (width.Bits n) r =
+raw-in-small p plf ptc k none r = omega arith
+raw-in-small p plf ptc k (some n) r =
     cond-cases (λ (x : Raw). placeR x < 2 ^ 32) (ltb k (plf .nbocc)) (λ t. raw-field-small p ptc n (startOf plf k) (start-small plf k r (ltb-true _ _ t))) (λ _. omega arith)
 
 pub raw-small : (p : List ℕ) (plf : PlfRow) (pcf : PcfRow) (k : ℕ) → PlfRanges plf → placeR (rawOf p plf pcf k) < 2 ^ 32

@@ -1,4 +1,4 @@
--- The place of every refusal of a limit step is below 2 ^ 32. Assumes nothing.
+-- The place of every refusal of a limit step is below 2 ^ 32.
 use mathlib.Core.Path.{_≡_, refl}
 use mathlib.Core.List.{List, [], _∷_, map}
 use mathlib.Core.Option.{Option, none, some}

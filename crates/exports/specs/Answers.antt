@@ -1,4 +1,4 @@
--- What the C functions return, and what they write to the eight places of an answer. Assumes nothing: these are definitions.
+-- What the C functions return, and what they write to the eight places of an answer.
 use Prim.Native.Nat.{ℕ, _+_, _-_, _*_, _^_}
 use mathlib.Core.Path.{_≡_, refl}
 use mathlib.Core.Bool.{Bool, true, false, cond}

@@ -1,4 +1,4 @@
--- Laws of a field: each case of its answer, what an answer tells of the field, and what it depends on. Assumes nothing.
+-- Laws of a field: each case of its answer, what an answer tells of the field, and what it depends on.
 use mathlib.Core.Path.{_≡_, refl}
 use mathlib.Core.Bool.{Bool, true, false, cond, _&&_}
 use mathlib.Core.List.{List}

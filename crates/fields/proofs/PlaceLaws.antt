@@ -1,4 +1,4 @@
--- Laws of lying inside: the last bit decides. Assumes nothing.
+-- Laws of lying inside: the last bit decides.
 use mathlib.Core.Path.{_≡_, refl, ap, ap₂}
 use mathlib.Core.Bool.{Bool, true, false, _&&_}
 use mathlib.Core.List.{List}

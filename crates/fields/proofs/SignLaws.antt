@@ -1,4 +1,4 @@
--- Laws of two's complement: by the first bit, its range, and a signed field's answers. Assumes nothing.
+-- Laws of two's complement: by the first bit, its range, and a signed field's answers.
 use mathlib.Core.Path.{_≡_, refl, sym, ap, _∙_}
 use mathlib.Core.Bool.{false}
 use mathlib.Core.List.{List}

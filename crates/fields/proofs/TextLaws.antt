@@ -1,4 +1,4 @@
--- Laws of strings: each case of the answer, and the part. Assumes nothing.
+-- Laws of strings: each case of the answer, and the part.
 use mathlib.Core.Path.{_≡_, refl, sym, ap, _∙_}
 use mathlib.Core.Bool.{Bool, true, false, cond}
 use mathlib.Core.List.{List, []}

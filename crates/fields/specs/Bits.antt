@@ -1,4 +1,4 @@
--- The bits of a packet, and the number that a run of them makes. Assumes nothing: these are definitions.
+-- The bits of a packet, and the number that a run of them makes.
 use mathlib.Core.Path.{_≡_, refl}
 use mathlib.Core.List.{List, [], _∷_}
 use Prim.Native.Nat.{ℕ, zero, suc, _+_, _-_, _*_, _/_, _%_, _^_}

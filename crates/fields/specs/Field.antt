@@ -1,4 +1,4 @@
--- A field of a packet, and what is read there. Assumes nothing: these are definitions.
+-- A field of a packet, and what is read there.
 use mathlib.Core.Path.{_≡_, refl}
 use mathlib.Core.Bool.{Bool, cond, _&&_}
 use mathlib.Core.List.{List, [], _∷_}

@@ -1,4 +1,4 @@
--- The packet of 01's figures, which examples read. Assumes nothing: this is a definition.
+-- The packet of 01's figures, which examples read.
 use mathlib.Core.List.{List, [], _∷_}
 use Prim.Native.Nat.{ℕ}
 

@@ -4,3 +4,4 @@ pub mod Field
 pub mod Sign
 pub mod Text
 pub mod Figures
+pub mod Width

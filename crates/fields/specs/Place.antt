@@ -1,4 +1,4 @@
--- Whether a run of bits lies in a packet. Assumes nothing: these are definitions.
+-- Whether a run of bits lies in a packet.
 use mathlib.Core.Path.{_≡_, refl}
 use mathlib.Core.Bool.{Bool, true, false, _&&_}
 use mathlib.Core.List.{List, [], _∷_}

@@ -1,4 +1,4 @@
--- Two's complement. Assumes nothing: these are definitions.
+-- Two's complement.
 use mathlib.Core.Path.{_≡_, refl}
 use mathlib.Core.Bool.{cond, _&&_}
 use mathlib.Core.List.{List, [], _∷_}

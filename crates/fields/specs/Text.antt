@@ -1,4 +1,4 @@
--- Strings: runs of whole bytes of a packet. Assumes nothing: these are definitions.
+-- Strings: runs of whole bytes of a packet.
 use mathlib.Core.Path.{_≡_, refl}
 use mathlib.Core.Bool.{cond}
 use mathlib.Core.List.{List, [], _∷_}

@@ -3,3 +3,4 @@ mod bits;
 pub mod field;
 pub mod sign;
 pub mod text;
+pub mod width;

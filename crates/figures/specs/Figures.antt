@@ -1,4 +1,4 @@
--- 01: "Marked figures are proved of the definitions as a single table with one claim". Assumes nothing.
+-- 01: "Marked figures are proved of the definitions as a single table with one claim".
 use mathlib.Core.Path.{_≡_, refl}
 use mathlib.Core.List.{List, [], _∷_, map}
 use mathlib.Core.Option.{Option, none, some}

@@ -1,4 +1,4 @@
--- Where the tables end. Assumes nothing.
+-- Where the tables end.
 use mathlib.Core.Path.{_≡_, refl, sym, subst, _∙_}
 use mathlib.Core.Bool.{Bool, true, false, cond}
 use mathlib.Core.List.{List}

@@ -1,4 +1,4 @@
--- The refusals of a header, test by test. Assumes nothing.
+-- The refusals of a header, test by test.
 use mathlib.Core.Path.{_≡_, refl, ap, sym, _∙_}
 use mathlib.Core.Logic.{_⊎_, inl, inr}
 use mathlib.Core.Bool.{Bool, true, false, not, cond, _&&_, _||_}

@@ -1,4 +1,4 @@
--- The header of a packet by CCSDS 133.0, and refusals 20 to 23. Assumes nothing: these are definitions.
+-- The header of a packet by CCSDS 133.0, and refusals 20 to 23.
 use mathlib.Core.Path.{_≡_, refl}
 use mathlib.Core.Bool.{Bool, true, not, cond, _&&_, _||_}
 use mathlib.Core.List.{List}

@@ -1,4 +1,4 @@
--- The cells after judging, and the answer of an import by its three tests. Assumes nothing.
+-- The cells after judging, and the answer of an import by its three tests.
 use mathlib.Core.Path.{_≡_, refl, ap, _∙_}
 use mathlib.Core.Bool.{Bool, true, false, cond}
 use mathlib.Core.List.{List, _++_}
@@ -13,8 +13,7 @@ use Rattle.verdicts.specs.Entries.{allRows}
 use Rattle.verdicts.specs.Verdicts.{verdicts}
 use Rattle.verdicts.specs.Answer.{Imported, refused, taken, zeros, tooLong, tooManyRows, importOf}
 use Rattle.verdicts.proofs.CellLaws.{length-cells}
-use Rattle.tables.specs.Sizes.{sizesOf}
-use Rattle.tables.specs.declared.Sizes.the-variants.{Fit, TooLong, TooManyRows}
+use Rattle.tables.specs.Sizes.{fit, refusedBy, sizesOf}
 use Rattle.import.specs.Judged.{judgedCells}
 
 module _ (texts : List (List ℕ)) (cells : List ℕ) where
@@ -47,30 +46,30 @@ module _ (texts : List (List ℕ)) (cells : List ℕ) where
 
 module _ (texts : List (List ℕ)) (room : ℕ) where
   -- refusals 1 and 2
-  pub answer-long : {table : ℕ} → sizesOf texts ≡ TooLong table → importOf texts room ≡ refused 1 table
+  pub answer-long : {table : ℕ} → sizesOf texts ≡ refusedBy 1 table → importOf texts room ≡ refused 1 table
   unfolding importOf sizesOf
   answer-long {table} e = go (eqb (tooLong texts) 0) (eqb (tooManyRows texts) 0) _ _ _ e
     where
-      go : (a b : Bool) (p q : ℕ) (x : Imported) → cond a (cond b Fit (TooManyRows p)) (TooLong q) ≡ TooLong table → cond a (cond b x (refused 2 p)) (refused 1 q) ≡ refused 1 table
+      go : (a b : Bool) (p q : ℕ) (x : Imported) → cond a (cond b fit (refusedBy 2 p)) (refusedBy 1 q) ≡ refusedBy 1 table → cond a (cond b x (refused 2 p)) (refused 1 q) ≡ refused 1 table
       go true true p q x e = cc
       go true false p q x e = cc
       go false b p q x e = cc
 
-  pub answer-many : {table : ℕ} → sizesOf texts ≡ TooManyRows table → importOf texts room ≡ refused 2 table
+  pub answer-many : {table : ℕ} → sizesOf texts ≡ refusedBy 2 table → importOf texts room ≡ refused 2 table
   unfolding importOf sizesOf
   answer-many {table} e = go (eqb (tooLong texts) 0) (eqb (tooManyRows texts) 0) _ _ _ e
     where
-      go : (a b : Bool) (p q : ℕ) (x : Imported) → cond a (cond b Fit (TooManyRows p)) (TooLong q) ≡ TooManyRows table → cond a (cond b x (refused 2 p)) (refused 1 q) ≡ refused 2 table
+      go : (a b : Bool) (p q : ℕ) (x : Imported) → cond a (cond b fit (refusedBy 2 p)) (refusedBy 1 q) ≡ refusedBy 2 table → cond a (cond b x (refused 2 p)) (refused 1 q) ≡ refused 2 table
       go true true p q x e = cc
       go true false p q x e = cc
       go false b p q x e = cc
 
   -- neither
-  pub sizes-taken : sizesOf texts ≡ Fit → (tooLong texts ≡ 0) × (tooManyRows texts ≡ 0)
+  pub sizes-taken : sizesOf texts ≡ fit → (tooLong texts ≡ 0) × (tooManyRows texts ≡ 0)
   unfolding sizesOf
   sizes-taken e = go (eqb (tooLong texts) 0) (eqb (tooManyRows texts) 0) refl refl e
     where
-      go : (a b : Bool) → eqb (tooLong texts) 0 ≡ a → eqb (tooManyRows texts) 0 ≡ b → cond a (cond b Fit (TooManyRows (tooManyRows texts))) (TooLong (tooLong texts)) ≡ Fit → (tooLong texts ≡ 0) × (tooManyRows texts ≡ 0)
+      go : (a b : Bool) → eqb (tooLong texts) 0 ≡ a → eqb (tooManyRows texts) 0 ≡ b → cond a (cond b fit (refusedBy 2 (tooManyRows texts))) (refusedBy 1 (tooLong texts)) ≡ fit → (tooLong texts ≡ 0) × (tooManyRows texts ≡ 0)
       go true true p q e = (eqb-true _ _ p, eqb-true _ _ q)
       go true false p q e = (cc, cc)
       go false b p q e = (cc, cc)

@@ -1,4 +1,4 @@
--- The count of good rows, cell by cell. Assumes nothing.
+-- The count of good rows, cell by cell.
 use mathlib.Core.Path.{_≡_}
 use mathlib.Core.List.{List}
 use Prim.Native.Nat.{ℕ, suc, _+_, _≤_, _<_}

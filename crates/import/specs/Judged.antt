@@ -1,22 +1,17 @@
 -- What an import answers by its own enum, and the cells after judging.
-use Prim.Native.Nat.{ℕ}
+use Prim.Native.Nat.{ℕ, _≤_, _<_}
+use mathlib.Core.Path.{_≡_}
 use mathlib.Core.Bool.{cond}
 use mathlib.Core.List.{List}
 use lib.Dec.{ltb}
-use lib.ListN.{length}
+use lib.ListN.{length, take, replicate}
 use lib.Seq.{sets}
 use Rattle.verdicts.specs.Answer as answer
 use Rattle.verdicts.specs.Entries.{allRows}
 use Rattle.verdicts.specs.Verdicts.{verdicts}
-use Rattle.import.specs.Model.{judgedVerdicts}
-use Rattle.import.specs.Rows.{Store}
+use Rattle.import.specs.Passes.{Judges}
 use Rattle.import.specs.declared.Imported.{Imported}
 use Rattle.import.specs.declared.Imported.the-variants.{Done, TooLong, TooManyRows, TooFewCells}
-
--- the verdicts of the first n rows, by the arrays that keep them
-abbrev pub verdictsOf : Store → List ℕ → ℕ → List ℕ
-verdictsOf s starts n =
-    judgedVerdicts (s .own) (s .kind) starts (s .held) (s .ka) (s .kb) (s .kc) (s .oa) (s .ob) (s .ta) (s .tb) (s .oc) (s .tc) (s .number) (s .marks) n
 
 -- the cells hold the verdicts of all rows where there are enough of them, and else what they held
 unfoldable pub judgedCells : List (List ℕ) → List ℕ → List ℕ
@@ -28,3 +23,21 @@ said (Done rows good) = answer.taken rows good
 said (TooLong table) = answer.refused 1 table
 said (TooManyRows table) = answer.refused 2 table
 said TooFewCells = answer.refused 3 0
+
+-- the passes were gone through, from no holders
+pub record JudgedInto (halves bytes before after : List ℕ) (n : ℕ) : Type 0 where
+  pub holders : List ℕ
+  pub judges : Judges halves bytes (replicate 28672 0) holders before after n
+
+-- of rows that are kept
+pub record DoneBy (halves bytes before after : List ℕ) (n rows good : ℕ) : Type 0 where
+  pub all : rows ≡ n
+  pub enough : n ≤ length before
+  pub judged : JudgedInto halves bytes before after n
+  pub zeros : good ≡ answer.zeros (take n after)
+
+unfoldable pub AnswersBy : (halves bytes before after : List ℕ) → (n : ℕ) → Imported → Type 0
+AnswersBy halves bytes before after n (Done rows good) = DoneBy halves bytes before after n rows good
+AnswersBy halves bytes before after n (TooLong table) = ⊥
+AnswersBy halves bytes before after n (TooManyRows table) = ⊥
+AnswersBy halves bytes before after n TooFewCells = (length before < n) × (after ≡ before)

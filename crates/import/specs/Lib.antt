@@ -1,5 +1,3 @@
+pub mod Found
+pub mod Passes
 pub mod Judged
-pub mod Model
-pub mod Rows
-pub mod Trails
-pub mod Courses

@@ -1,28 +1,25 @@
-// The import: verdicts of all rows of the ten tables.
-use crate::all_rows::judge_tables;
+// The import: verdicts of all rows of the tables.
 use crate::good::good_rows;
-use tables::Sizes;
+use crate::judged::judge_kept;
+use crate::parts::IDS;
+use kept::BYTES;
+use kept::HALVES;
+use kept::Keeping;
+use kept::LINKS;
+use kept::WORDS;
+use kept::keep;
 use tables::TABLES;
-use tables::check_sizes;
 ghost use mathlib.Core.Path.{_≡_};
 ghost use mathlib.Core.List.{map};
+ghost use Prim.Native.Nat.{_*_, _≤_};
 ghost use lib.ListN.{length};
-ghost use Rattle.verdicts.specs.Answer.{tooLong, tooManyRows, importOf, cellsAfter};
-ghost use Rattle.import.specs.Judged.{said};
+ghost use Rattle.verdicts.specs.Answer.{importOf, cellsAfter};
+ghost use Rattle.import.specs.Judged.{said, JudgedInto, AnswersBy};
 
-mod all_rows;
-mod base;
-mod buckets;
-mod chains;
-mod find;
+mod found;
 mod good;
-mod judge;
-mod keep;
-mod names;
-mod reads;
-mod resolve;
-mod shared;
-mod sound;
+mod judged;
+mod parts;
 
 // The counts of rows and of good rows; or refused: the first table that is too large, from 1, or too few cells.
 pub enum Imported {
@@ -32,28 +29,41 @@ pub enum Imported {
     TooFewCells,
 }
 
+// The verdicts of n rows that are kept, put to the cells.
+fn judge_into(halves: &[u16], bytes: &[u8], cells: &mut [u16], n: usize)
+    requires { ⌜ (8 * 14336 ≤ length (now halves)) × (5 * 14336 ≤ length (now bytes)) ⌝ }
+    ensures { λ _. ⌜ JudgedInto (now (halves .entry)) (now (bytes .entry)) (now (cells .entry)) (now (cells .exit)) n ⌝ }
+{
+    let mut holders = [0u16; IDS];
+    judge_kept(halves, bytes, &mut holders, cells, n);
+}
+
+// The answer of an import whose n rows are kept.
+fn import_kept(halves: &[u16], bytes: &[u8], cells: &mut [u16], n: usize) -> Imported
+    requires { ⌜ (8 * 14336 ≤ length (now halves)) × (5 * 14336 ≤ length (now bytes)) ⌝ }
+    ensures { λ r. ⌜ AnswersBy (now (halves .entry)) (now (bytes .entry)) (now (cells .entry)) (now (cells .exit)) n r ⌝ }
+{
+    if cells.len() < n {
+        return Imported::TooFewCells;
+    }
+    judge_into(halves, bytes, cells, n);
+    let good = good_rows(&cells[..n]);
+    Imported::Done(n, good)
+}
+
 // Judges all rows of the tables: one cell for each, in table order. A refusal touches no cell.
 pub fn import(tables: [&[u8]; TABLES], cells: &mut [u16]) -> Imported
     ensures { λ r. ⌜ said r ≡ importOf (map now (tables .entry)) (length (now (cells .entry))) ⌝ }
     ensures { λ r. ⌜ now (cells .exit) ≡ cellsAfter (map now (tables .entry)) (now (cells .entry)) (said r) ⌝ }
 {
-    match check_sizes(tables) {
-        Sizes::TooLong(table) => Imported::TooLong(table),
-        Sizes::TooManyRows(table) => Imported::TooManyRows(table),
-        Sizes::Fit => import_fitting(tables, cells),
+    let mut words = [0u64; WORDS];
+    let mut links = [0u16; LINKS];
+    let mut halves = [0u16; HALVES];
+    let mut bytes = [0u8; BYTES];
+    match keep(tables, &mut words, &mut links, &mut halves, &mut bytes) {
+        Keeping::TooLong(table) => Imported::TooLong(table),
+        Keeping::TooManyRows(table) => Imported::TooManyRows(table),
+        Keeping::NoRoom => Imported::TooFewCells,
+        Keeping::Done(rows, _) => import_kept(&halves, &bytes, cells, rows),
     }
-}
-
-// The same of tables that are of a size to take.
-fn import_fitting(tables: [&[u8]; TABLES], cells: &mut [u16]) -> Imported
-    requires { ⌜ (tooLong (map now tables) ≡ 0) × (tooManyRows (map now tables) ≡ 0) ⌝ }
-    ensures { λ r. ⌜ said r ≡ importOf (map now (tables .entry)) (length (now (cells .entry))) ⌝ }
-    ensures { λ r. ⌜ now (cells .exit) ≡ cellsAfter (map now (tables .entry)) (now (cells .entry)) (said r) ⌝ }
-{
-    let rows = judge_tables(tables, cells);
-    if cells.len() < rows {
-        return Imported::TooFewCells;
-    }
-    let good = good_rows(&cells[..rows]);
-    Imported::Done(rows, good)
 }

@@ -1,4 +1,4 @@
--- A value against the limits of a check, test by test. Assumes nothing.
+-- A value against the limits of a check, test by test.
 use mathlib.Core.Path.{_≡_}
 use mathlib.Core.Bool.{Bool, true, false}
 use lib.IntN.{ℤ}

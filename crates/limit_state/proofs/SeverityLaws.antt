@@ -1,4 +1,4 @@
--- Run and announced stay small. Assumes nothing.
+-- Run and announced stay small.
 use mathlib.Core.List.{List, [], _∷_}
 use Prim.Native.Nat.{ℕ, _+_, _≤_, min}
 use native.Mathlib.Omega.{arith}

@@ -1,4 +1,4 @@
--- The severity of a value, one check after the other. Assumes nothing.
+-- The severity of a value, one check after the other.
 use mathlib.Core.Path.{_≡_, refl, sym, ap, ap₂, _∙_}
 use mathlib.Core.Bool.{Bool, true, false, cond, _&&_, _||_}
 use mathlib.Core.List.{List, [], _∷_}

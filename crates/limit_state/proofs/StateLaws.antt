@@ -1,4 +1,4 @@
--- Which numbers make a state, and which packets are newer. Assumes nothing.
+-- Which numbers make a state, and which packets are newer.
 use mathlib.Core.Path.{_≡_, refl, ap, _∙_}
 use mathlib.Core.Bool.{Bool, true, false, not, _&&_, _||_}
 use Prim.Native.Nat.{ℕ, _+_, _-_, _%_, _≤_, _<_}

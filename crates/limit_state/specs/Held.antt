@@ -1,4 +1,4 @@
--- Checks, as arrays hold them. Assumes nothing: these are definitions.
+-- Checks, as arrays hold them.
 use Prim.Native.Nat.{ℕ}
 use mathlib.Core.Path.{_≡_, refl}
 use mathlib.Core.List.{List, map}

@@ -1,4 +1,4 @@
--- How a reading changes run and announced. Assumes nothing: these are definitions.
+-- How a reading changes run and announced.
 use Prim.Native.Nat.{ℕ, _+_, min}
 use mathlib.Core.Path.{_≡_, refl}
 use mathlib.Core.Bool.{cond}

@@ -1,4 +1,4 @@
--- The limit state, and which packets are newer. Assumes nothing: these are definitions.
+-- The limit state, and which packets are newer.
 use Prim.Native.Nat.{ℕ, _+_, _-_, _%_}
 use mathlib.Core.Path.{_≡_, refl}
 use mathlib.Core.Bool.{Bool, true, false, not, _&&_, _||_}

@@ -1,4 +1,4 @@
--- The severity of a value by the checks that apply. Assumes nothing: these are definitions.
+-- The severity of a value by the checks that apply.
 use mathlib.Core.Path.{_≡_, refl}
 use mathlib.Core.Bool.{Bool, true, false, cond, _&&_, _||_}
 use mathlib.Core.List.{List, [], _∷_}

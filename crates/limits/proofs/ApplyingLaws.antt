@@ -1,4 +1,4 @@
--- The checks that apply in a packet, one row of ocp after the other. Assumes nothing.
+-- The checks that apply in a packet, one row of ocp after the other.
 use mathlib.Core.Path.{_≡_, refl, sym, ap, _∙_}
 use mathlib.Core.Bool.{Bool, true, false, _&&_}
 use mathlib.Core.List.{List, [], _∷_, map}

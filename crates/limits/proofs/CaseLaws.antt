@@ -1,4 +1,4 @@
--- A limit step, case by case, as its functions answer it. Assumes nothing.
+-- A limit step, case by case, as its functions answer it.
 use mathlib.Core.Path.{_≡_, refl, sym, ap, _∙_}
 use mathlib.Core.Bool.{Bool, true, false, cond, not, _&&_, _||_}
 use mathlib.Core.List.{List, map}

@@ -1,4 +1,4 @@
--- 01: "Invalid readings change nothing": an accepted packet in which the parameter is invalid keeps run and announced. Assumes nothing.
+-- 01: "Invalid readings change nothing": an accepted packet in which the parameter is invalid keeps run and announced.
 use mathlib.Core.Path.{_≡_, refl}
 use mathlib.Core.Bool.{Bool, false}
 use mathlib.Core.List.{List, [], _∷_, map}

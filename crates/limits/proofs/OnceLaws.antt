@@ -1,4 +1,4 @@
--- A packet is accepted once: offered again it is refused, at once or after the next. Assumes nothing.
+-- A packet is accepted once: offered again it is refused, at once or after the next.
 use mathlib.Core.Path.{_≡_, refl, sym, _∙_}
 use mathlib.Core.Bool.{Bool, false}
 use mathlib.Core.List.{List, [], _∷_}

@@ -1,4 +1,4 @@
--- The occurrences left, checked from what the earlier ones made, answer what all of them answer from the start. Assumes nothing.
+-- The occurrences left, checked from what the earlier ones made, answer what all of them answer from the start.
 use mathlib.Core.Path.{_≡_, refl, ap, sym, _∙_}
 use mathlib.Core.Bool.{Bool, true, false, cond, _||_, or-true, or-false, or-assoc}
 use mathlib.Core.List.{List, [], _∷_, _++_, map}

@@ -1,4 +1,4 @@
--- The raw value of a parameter that has checks is an integer, or is refused by 28: a good ocf row names a pcf row of PTC 1-4. Assumes nothing.
+-- The raw value of a parameter that has checks is an integer, or is refused by 28: a good ocf row names a pcf row of PTC 1-4.
 use mathlib.Core.Path.{_≡_}
 use mathlib.Core.Bool.{true, false}
 use mathlib.Core.List.{List}
@@ -14,9 +14,9 @@ use Rattle.fields.specs.Place.{inside}
 use Rattle.fields.specs.Field.{fieldAt, unsignedAt}
 use Rattle.fields.specs.Sign.{complementOf, signedAt}
 use Rattle.fields.proofs.FieldLaws.{width-yes}
-use Rattle.rows.specs.Contradictions.{isWhole}
-use Rattle.rows.specs.Width.{widthOf}
-use Rattle.rows.specs.declared.width.Width.the-variants.{Bits}
+use Rattle.formed.specs.Contradictions.{isWhole}
+use Rattle.fields.specs.Width.{widthOf}
+use mathlib.Core.Option.{some}
 use Rattle.rows.specs.declared.records.PlfRow.{PlfRow}
 use Rattle.rows.specs.declared.records.PcfRow.{PcfRow}
 use Rattle.readings.specs.RawValues.{Raw, refused, integer, isString, startOf, integerRaw, fieldRaw, rawIn, rawOf}
@@ -46,7 +46,7 @@ no-string ptc w =
 
 -- 01: "28 … a bit of the field lies outside", at "the byte in which the first such field starts"
 pub whole-raw : (p : List ℕ) (plf : PlfRow) (pcf : PcfRow) (k n : ℕ) → length p ≤ 8192 → k < plf .nbocc
-    → isWhole (pcf .ptc) ≡ true → widthOf (pcf .ptc) (pcf .pfc) ≡ Bits n → Whole (startOf plf k / 8) (rawOf p plf pcf k)
+    → isWhole (pcf .ptc) ≡ true → widthOf (pcf .ptc) (pcf .pfc) ≡ some n → Whole (startOf plf k / 8) (rawOf p plf pcf k)
 unfolding rawOf rawIn
 whole-raw p plf pcf k n short below whole width =
     let s = no-string (pcf .ptc) whole in

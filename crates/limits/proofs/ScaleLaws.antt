@@ -1,4 +1,4 @@
--- The value that is checked, by its scale, is the raw one under INTER U and the engineering one under C. Assumes nothing.
+-- The value that is checked, by its scale, is the raw one under INTER U and the engineering one under C.
 use mathlib.Core.Path.{_≡_, refl, ap, sym, _∙_}
 use mathlib.Core.Bool.{Bool, true, false, cond}
 use mathlib.Core.List.{List, [], _∷_, map}

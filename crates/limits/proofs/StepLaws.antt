@@ -1,4 +1,4 @@
--- What passes the refusals of a step, and what an accepted packet leaves. Assumes nothing.
+-- What passes the refusals of a step, and what an accepted packet leaves.
 use mathlib.Core.Path.{_≡_, refl, sym}
 use mathlib.Core.Bool.{Bool, true, false, cond}
 use mathlib.Core.List.{List, map}

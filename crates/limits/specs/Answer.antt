@@ -1,4 +1,4 @@
--- 01's number and place, or the new state, of each answer of a limit step. Assumes nothing: these are definitions.
+-- 01's number and place, or the new state, of each answer of a limit step.
 use mathlib.Core.Path.{_≡_, refl}
 use Rattle.packets.specs.Refusals.{numberOf, placeOf}
 use Rattle.limits.specs.Step.{Stepping, refused, stepped}

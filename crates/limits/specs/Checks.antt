@@ -1,4 +1,4 @@
--- The checks of a parameter, and which of them apply in a packet. Assumes nothing: these are definitions.
+-- The checks of a parameter, and which of them apply in a packet.
 use Prim.Native.Nat.{ℕ}
 use mathlib.Core.Path.{_≡_, refl}
 use mathlib.Core.Bool.{Bool, true, false, not, _||_}

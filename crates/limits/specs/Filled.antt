@@ -1,4 +1,4 @@
--- The checks that apply, put to arrays. Assumes nothing: these are definitions.
+-- The checks that apply, put to arrays.
 use Prim.Native.Nat.{ℕ, _<_, _≤_}
 use mathlib.Core.Path.{_≡_}
 use mathlib.Core.List.{List, map}

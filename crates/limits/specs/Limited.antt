@@ -1,4 +1,4 @@
--- The ocf row of a parameter, by where its line starts. Assumes nothing: these are definitions.
+-- The ocf row of a parameter, by where its line starts.
 use Prim.Native.Nat.{ℕ}
 use mathlib.Core.Path.{_≡_, refl}
 use mathlib.Core.List.{List, []}

@@ -1,4 +1,4 @@
--- The same step, one occurrence after the other. Assumes nothing: these are definitions.
+-- The same step, one occurrence after the other.
 use Prim.Native.Nat.{ℕ}
 use mathlib.Core.Path.{_≡_, refl}
 use mathlib.Core.Bool.{true, false, cond, _||_}

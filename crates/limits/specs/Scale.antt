@@ -1,4 +1,4 @@
--- How the value that is checked comes from the raw one. Assumes nothing: these are definitions.
+-- How the value that is checked comes from the raw one.
 use mathlib.Core.Path.{_≡_, refl}
 use mathlib.Core.Bool.{cond}
 use mathlib.Core.List.{List, []}

@@ -1,4 +1,4 @@
--- A limit step: the state after a packet. Assumes nothing: these are definitions.
+-- A limit step: the state after a packet.
 use Prim.Native.Nat.{ℕ}
 use mathlib.Core.Bool.{Bool, false, cond}
 use mathlib.Core.List.{List, [], _∷_, map}

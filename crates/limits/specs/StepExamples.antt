@@ -1,4 +1,4 @@
--- Limit steps over small tables, computed. Assumes nothing.
+-- Limit steps over small tables, computed.
 use Prim.Native.Nat.{ℕ}
 use Prim.Native.String.{String}
 use mathlib.Core.Path.{_≡_, refl}
@@ -27,7 +27,7 @@ use Rattle.rows.specs.Values.{
   limitCodingOf,
   checkTypeOf,
 }
-use Rattle.rows.specs.Width.{widthOf, integerWidth, within}
+use Rattle.fields.specs.Width.{widthOf, integerWidth, within}
 use Rattle.rows.specs.Records.{column, pidRow, plfRow, pcfRow, cafRow, ocfRow, ocpRow}
 use Rattle.fields.specs.Bits.{bitAt, numberAt}
 use Rattle.fields.specs.Place.{bitInside, inside}

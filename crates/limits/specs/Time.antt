@@ -1,4 +1,4 @@
--- Whether a state takes a packet of an APID and a count. Assumes nothing: these are definitions.
+-- Whether a state takes a packet of an APID and a count.
 use Prim.Native.Nat.{ℕ}
 use mathlib.Core.Path.{_≡_, refl}
 use mathlib.Core.Bool.{true, false, cond}

@@ -1,4 +1,4 @@
--- The values of a packet that are checked. Assumes nothing: these are definitions.
+-- The values of a packet that are checked.
 use Prim.Native.Nat.{ℕ, zero, suc}
 use mathlib.Core.Path.{_≡_, refl}
 use mathlib.Core.Bool.{Bool, true, false, cond}

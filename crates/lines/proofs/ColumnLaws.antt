@@ -1,4 +1,4 @@
--- Laws of the columns of a line and of their places. Assumes nothing.
+-- Laws of the columns of a line and of their places.
 use mathlib.Core.Path.{_≡_, refl, sym, ap, _∙_}
 use mathlib.Core.List.{List, [], _∷_, _++_, map, append-nil, append-assoc}
 use Prim.Native.Nat.{ℕ, zero, suc, _+_, _-_, _<_, _≤_}

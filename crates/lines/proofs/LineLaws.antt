@@ -1,4 +1,4 @@
--- Laws of the lines of a table, as a walk meets them and as a line is replaced. Assumes nothing.
+-- Laws of the lines of a table, as a walk meets them and as a line is replaced.
 use mathlib.Core.Path.{_≡_, refl, ap, _∙_}
 use mathlib.Core.Bool.{Bool, true, false, not, cond, _&&_}
 use mathlib.Core.List.{List, [], _∷_, _++_}

@@ -1,4 +1,4 @@
--- Laws of names as they are made and compared, each once over the width. Assumes nothing.
+-- Laws of names as they are made and compared, each once over the width.
 use mathlib.Core.Path.{_≡_, refl, sym, ap, ap₂, _∙_}
 use mathlib.Core.Bool.{Bool, true, false, _&&_}
 use mathlib.Core.List.{List, [], _∷_, _++_}

@@ -2,11 +2,13 @@
 use Prim.Native.Nat.{ℕ, _+_, _-_}
 use mathlib.Core.Path.{_≡_, refl}
 use mathlib.Core.List.{List, [], _∷_, _++_, map}
-use mathlib.Core.Bool.{cond}
-use lib.Dec.{eqb}
+use mathlib.Core.Bool.{Bool, true, not, cond, _||_, _&&_}
+use lib.Dec.{eqb, leb}
 use lib.ListN.{length, getD, take, drop, set, replicate}
+use Rattle.laws.specs.Lists.{any}
 use Rattle.laws.specs.Text.{ascii}
 use Rattle.lines.specs.declared.columns.Columns.{Columns}
+use Rattle.lines.specs.declared.columns.Scanned.{Scanned}
 
 -- the byte TAB
 abbrev pub tab : ℕ
@@ -51,6 +53,20 @@ divided line =
       count = length (columnsOf line);
     }
 
+-- 01: "other bytes are 0x20 to 0x7E"
+unfoldable pub printable : ℕ → Bool
+printable b = leb 0x20 b && leb b 0x7E
+
+unfoldable pub allowed : ℕ → Bool
+allowed b = eqb b tab || printable b
+
+unfoldable pub foreignIn : List ℕ → Bool
+foreignIn line = any (λ b. not (allowed b)) line
+
+-- what one walk over a line tells: its columns, and whether it has a foreign byte
+unfoldable pub scanned : List ℕ → Scanned
+scanned line = record { columns = divided line; foreign = foreignIn line }
+
 -- places with one more column: it is counted, and kept where there is room
 unfoldable pub withColumn : Columns → ℕ → ℕ → Columns
 withColumn c start end =
@@ -69,7 +85,8 @@ pub record Examples : Type 0 where
   pub places : placesOf (65 ∷ 66 ∷ 9 ∷ 9 ∷ 67 ∷ [])
       ≡ record { start = 0; end = 2 } ∷ record { start = 3; end = 3 } ∷ record { start = 4; end = 5 } ∷ []
   pub empty-line : columnsOf [] ≡ [] ∷ []
+  pub delete : foreignIn (65 ∷ 9 ∷ 0x7F ∷ []) ≡ true
 
 pub examples : Examples
-unfolding columnsOf columnsFrom placesOf placesFrom
-examples = record { columns = refl; places = refl; empty-line = refl }
+unfolding columnsOf columnsFrom placesOf placesFrom foreignIn allowed printable
+examples = record { columns = refl; places = refl; empty-line = refl; delete = refl }

@@ -1,7 +1,7 @@
 // The columns of a line, divided in one walk.
 ghost use mathlib.Core.Path.{_≡_};
 ghost use lib.ListN.{set};
-ghost use Rattle.lines.specs.Columns.{divided, partOf, columnIn};
+ghost use Rattle.lines.specs.Columns.{printable, scanned, divided, partOf, columnIn};
 
 // No table has more columns than this.
 pub const MOST_COLUMNS: usize = 24;
@@ -15,6 +15,12 @@ pub struct Columns {
     pub count: usize,
 }
 
+// A line's columns, and whether a byte stands in it that may not.
+pub struct Scanned {
+    pub columns: Columns,
+    pub foreign: bool,
+}
+
 // Keeps a number at place k, where there is room.
 pub fn keep_at(numbers: &mut [usize], k: usize, number: usize)
     ensures { λ r. ⌜ now (numbers .exit) ≡ set (now (numbers .entry)) k number ⌝ }
@@ -24,33 +30,58 @@ pub fn keep_at(numbers: &mut [usize], k: usize, number: usize)
     }
 }
 
-// The places of a line's columns.
-pub fn divide(line: &[u8]) -> Columns
-    ensures { λ r. ⌜ r ≡ divided (now (line .entry)) ⌝ }
+// Whether a byte is one of 0x20 to 0x7E.
+fn is_printable(b: u8) -> bool
+    ensures { λ r. ⌜ r ≡ printable b ⌝ }
+{
+    if 0x20 <= b {
+        return b <= 0x7E;
+    }
+    false
+}
+
+// One walk divides the line and looks for a byte that may not stand in it.
+pub fn scan(line: &[u8]) -> Scanned
+    ensures { λ r. ⌜ r ≡ scanned (now (line .entry)) ⌝ }
 {
     let mut starts: [usize; MOST_COLUMNS] = [0; MOST_COLUMNS];
     let mut ends: [usize; MOST_COLUMNS] = [0; MOST_COLUMNS];
     let mut count: usize = 0;
     let mut start: usize = 0;
+    let mut foreign = false;
     let mut i: usize = 0;
     while i < line.len() {
-        if line[i] == TAB {
+        let b = line[i];
+        if is_printable(b) {
+            i += 1;
+        } else if b == TAB {
             keep_at(&mut starts, count, start);
             keep_at(&mut ends, count, i);
             count += 1;
             i += 1;
             start = i;
         } else {
+            foreign = true;
             i += 1;
         }
     }
     keep_at(&mut starts, count, start);
     keep_at(&mut ends, count, line.len());
-    Columns {
+    count += 1;
+    let columns = Columns {
         starts,
         ends,
-        count: count + 1,
-    }
+        count,
+    };
+    Scanned { columns, foreign }
+}
+
+// The places of a line's columns.
+pub fn divide(line: &[u8]) -> Columns
+    ensures { λ r. ⌜ r ≡ divided (now (line .entry)) ⌝ }
+{
+    let scanned = scan(line);
+    scanned.columns
 }
 
 // The bytes of a line from `start` to before `end`, as far as the line has them.

@@ -1,4 +1,4 @@
--- The cells of a table's rows among those of all rows. Assumes nothing.
+-- The cells of a table's rows among those of all rows.
 use mathlib.Core.Path.{_≡_, refl, sym, ap, _∙_}
 use mathlib.Core.List.{List}
 use Prim.Native.Nat.{ℕ, _+_, _-_, _≤_, _<_}

@@ -1,4 +1,4 @@
--- A search through the listed rows, place by place. Assumes nothing.
+-- A search through the listed rows, place by place.
 use mathlib.Core.Path.{_≡_, sym, ap}
 use mathlib.Core.Bool.{Bool, true, false}
 use mathlib.Core.List.{List, []}

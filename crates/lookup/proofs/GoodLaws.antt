@@ -1,4 +1,4 @@
--- The good rows that are left at a byte, line by line. Assumes nothing.
+-- The good rows that are left at a byte, line by line.
 use mathlib.Core.Path.{_≡_, refl, sym, ap, _∙_}
 use mathlib.Core.Bool.{true, false, cond}
 use mathlib.Core.List.{List, [], _∷_}

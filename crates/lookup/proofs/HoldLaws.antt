@@ -1,4 +1,4 @@
--- Keys compared field by field, and the key of each space against those of a line. Assumes nothing.
+-- Keys compared field by field, and the key of each space against those of a line.
 use mathlib.Core.Path.{_≡_, refl, _∙_}
 use mathlib.Core.Bool.{Bool, true, false, _&&_, _||_}
 use mathlib.Core.List.{List}

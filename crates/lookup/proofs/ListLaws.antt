@@ -1,4 +1,4 @@
--- The good rows listed one after the other. Assumes nothing.
+-- The good rows listed one after the other.
 use mathlib.Core.Path.{_≡_, refl, ap, _∙_}
 use mathlib.Core.Bool.{true, false}
 use mathlib.Core.List.{List, [], _∷_, map}

@@ -1,4 +1,4 @@
--- What the lists of good rows and a search through them tell a caller. Assumes nothing.
+-- What the lists of good rows and a search through them tell a caller.
 use mathlib.Core.Path.{_≡_, refl, sym, ap, _∙_}
 use mathlib.Core.Bool.{Bool, true, false, _||_}
 use mathlib.Core.List.{List, [], _∷_, map}

@@ -1,4 +1,4 @@
--- The first column of a line and the word of a name. Assumes nothing.
+-- The first column of a line and the word of a name.
 use mathlib.Core.Path.{_≡_, refl, sym, ap, _∙_}
 use mathlib.Core.List.{List, [], _∷_, _++_}
 use Prim.Native.Nat.{ℕ, _+_, _-_, _≤_, _<_}

@@ -1,4 +1,4 @@
--- The good rows of a table, by the cells of an import. Assumes nothing: these are definitions.
+-- The good rows of a table, by the cells of an import.
 use Prim.Native.Nat.{ℕ, suc, _+_}
 use mathlib.Core.Path.{_≡_, refl}
 use mathlib.Core.Bool.{Bool, cond}

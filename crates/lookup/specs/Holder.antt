@@ -1,4 +1,4 @@
--- The good row that holds a key. Assumes nothing: these are definitions.
+-- The good row that holds a key.
 use Prim.Native.Nat.{ℕ}
 use mathlib.Core.Bool.{Bool, cond}
 use mathlib.Core.List.{List, [], _∷_}

@@ -1,4 +1,4 @@
--- Good rows kept in arrays: a word that tells most rows apart, where a row starts, and its number. Assumes nothing: these are definitions.
+-- Good rows kept in arrays: a word that tells most rows apart, where a row starts, and its number.
 use Prim.Native.Nat.{ℕ, zero, suc, _<_}
 use mathlib.Core.Path.{_≡_}
 use mathlib.Core.Bool.{Bool, cond, _&&_}

@@ -1,4 +1,4 @@
--- A walk over the good lines of a table. Assumes nothing: these are definitions.
+-- A walk over the good lines of a table.
 use Prim.Native.Nat.{ℕ, _+_, _≤_, _<_}
 use mathlib.Core.Path.{_≡_}
 use mathlib.Core.Bool.{true, false}

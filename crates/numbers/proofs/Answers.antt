@@ -1,4 +1,4 @@
--- What each answer says of the number that a text is. Assumes nothing.
+-- What each answer says of the number that a text is.
 use mathlib.Core.Path.{_≡_, refl, subst}
 use mathlib.Core.List.{List}
 use mathlib.Core.Bool.{false, _&&_, and-false}

@@ -1,4 +1,4 @@
--- Laws of a character that is tested against a range of characters. Assumes nothing.
+-- Laws of a character that is tested against a range of characters.
 use mathlib.Core.Path.{_≡_}
 use mathlib.Core.Bool.{true, false, and-false}
 use Prim.Native.Nat.{ℕ, _≤_, _<_}

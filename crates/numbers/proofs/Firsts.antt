@@ -1,4 +1,4 @@
--- Laws of a text's first character, as the code tells the cases apart. Assumes nothing.
+-- Laws of a text's first character, as the code tells the cases apart.
 use mathlib.Core.Path.{_≡_, refl, ap, sym, _∙_}
 use mathlib.Core.Logic.{_⊎_, inl, inr, ⊎-elim}
 use mathlib.Core.List.{List, [], _∷_}

@@ -1,4 +1,4 @@
--- Laws of a run of digits, for the loop that reads it. Assumes nothing.
+-- Laws of a run of digits, for the loop that reads it.
 use mathlib.Core.Path.{_≡_, refl, ap, sym, _∙_}
 use mathlib.Core.List.{List, [], _∷_}
 use mathlib.Core.Bool.{Bool, true, false}

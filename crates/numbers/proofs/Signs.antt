@@ -1,4 +1,4 @@
--- A magnitude with its sign, as a signed word of 64 bits holds it. Assumes nothing.
+-- A magnitude with its sign, as a signed word of 64 bits holds it.
 use mathlib.Core.Path.{_≡_, refl, _∙_}
 use Prim.Native.Nat.{ℕ, zero, suc, _^_, _<_}
 use lib.IntN.{pos, negℤ, natAbs, _-ℤ_, +ℤ-idl}

@@ -1,4 +1,4 @@
--- Laws of the walk over a text: how far it is the beginning of a number. Assumes nothing.
+-- Laws of the walk over a text: how far it is the beginning of a number.
 use mathlib.Core.Path.{_≡_, refl, ap, _∙_}
 use mathlib.Core.List.{List, [], _∷_, _++_}
 use mathlib.Core.Bool.{true, false}

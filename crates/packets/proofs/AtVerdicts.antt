@@ -1,11 +1,11 @@
 -- The good rows of the packet questions, at the cells that an import writes, are the import's good rows: row by row, one for each key, and
 -- each plf row with the pcf row of its parameter. So refusal 26 of an extraction at the verdicts means exactly that no good plf row has
--- the name and the SPID: `no-plf-row` here, and `extraction-26` of the whole answer. Assumes nothing.
+-- the name and the SPID: `no-plf-row` here, and `extraction-26` of the whole answer.
 use mathlib.Core.Path.{_≡_, refl, sym, ap, ap₂, subst, _∙_}
 use mathlib.Core.Logic.{_↔_}
 use mathlib.Core.Bool.{true, false}
 use mathlib.Core.List.{List, List·Memᴰ, List·Memᴰ·head}
-use mathlib.Core.Option.{Option, none, some}
+use mathlib.Core.Option.{Option, some, none}
 use Prim.Native.Nat.{ℕ, suc, _+_, _-_, _<_}
 use native.Mathlib.Omega.{arith}
 use lib.Dec.{eqb}
@@ -18,9 +18,8 @@ use Rattle.lines.specs.Lines.{Line, linesOf}
 use Rattle.lines.specs.declared.names.Name.{Name}
 use Rattle.schemas.specs.declared.Table.the-variants.{Plf, Pcf, Ocp}
 use Rattle.rows.specs.Records.{plfRow, pcfRow}
-use Rattle.rows.specs.Width.{widthOf}
-use Rattle.rows.specs.Formed.{formed}
-use Rattle.rows.specs.declared.width.Width.the-variants.{Bits}
+use Rattle.fields.specs.Width.{widthOf}
+use Rattle.formed.specs.Formed.{formed}
 use Rattle.rows.specs.declared.letters.Nature.the-variants.{Raw}
 use Rattle.verdicts.specs.Key.{Key, location, parameter, sameKey}
 use Rattle.verdicts.specs.Facts.{Naming, Facts, raw, factsOf, plfFacts}
@@ -201,7 +200,7 @@ pub record Described (texts : List (List ℕ)) (name : Name) : Type 0 where
   pub found : holder Pcf (goodRows texts (verdicts texts) 3) (parameter name) ≡ some row
   pub natur : pcfRow (row .bytes) .natur ≡ Raw
   pub width : ℕ
-  pub wide : widthOf (pcfRow (row .bytes) .ptc) (pcfRow (row .bytes) .pfc) ≡ Bits width
+  pub wide : widthOf (pcfRow (row .bytes) .ptc) (pcfRow (row .bytes) .pfc) ≡ some width
 
 -- row n of table t is what a plf row's NAME asks for
 record Asked (texts : List (List ℕ)) (name : Name) (t n : ℕ) : Type 0 where

@@ -1,4 +1,4 @@
--- The steps of an extraction. Assumes nothing.
+-- The steps of an extraction.
 use mathlib.Core.Path.{_≡_, ap, ap₂, _∙_}
 use mathlib.Core.List.{List}
 use Prim.Native.Nat.{ℕ}

@@ -1,4 +1,4 @@
--- A search through the rows listed, as the questions ask it. Assumes nothing.
+-- A search through the rows listed, as the questions ask it.
 use mathlib.Core.Path.{_≡_, refl, sym, ap, subst, _∙_}
 use mathlib.Core.List.{List, map}
 use mathlib.Core.Option.{Option, none, some}

@@ -1,24 +1,20 @@
--- Identification fields, case by case. Assumes nothing.
+-- Identification fields, case by case.
 use mathlib.Core.Path.{_≡_, refl, ap, ap₂, sym, _∙_}
 use mathlib.Core.Bool.{true, false, cond}
 use mathlib.Core.List.{List}
-use Prim.Native.Nat.{ℕ, _+_, _*_, _≤_, _<_, _^_}
+use Prim.Native.Nat.{ℕ, _+_, _*_, _≤_, _<_}
 use native.Mathlib.Omega.{arith}
-use lib.Dec.{T, leb}
-use lib.IntN.{ℤ, pos, negsuc, natAbs}
+use lib.Dec.{leb}
 use lib.ListN.{length}
-use lib.Signed.{ltZ, nonNeg, mag}
-use mir.Syntax.{w64}
-use mir.Val.{Fits}
-use borrow.Author.Tests.{ltb-true, leb-true}
-use Rattle.laws.proofs.Cases.{bool-cases, and-left, false≢true}
+use borrow.Author.Tests.{leb-true}
+use Rattle.laws.proofs.Cases.{bool-cases, and-left}
 use Rattle.laws.specs.Said.{Said, refused, free}
 use Rattle.fields.specs.Field.{isWidth, unsignedAt, saidUnsigned}
 use Rattle.fields.specs.declared.field.Unsigned.{Unsigned}
 use Rattle.fields.proofs.FieldLaws.{width-none, width-over, width-yes}
 use Rattle.fields.proofs.PlaceLaws.{inside-no}
 use Rattle.fields.specs.Field.{fieldAt}
-use Rattle.packets.specs.Identifiers.{Identifier, number, leaves, readIdentifier, identifierAt, are, firstLeaves, together, saidField}
+use Rattle.packets.specs.Identifiers.{Identifier, number, leaves, readIdentifier, are, firstLeaves, together, saidField}
 use Rattle.packets.specs.declared.identifiers.Field.{Field}
 use Rattle.packets.specs.declared.identifiers.Field.the-variants as one
 use Rattle.units.specs.declared.ByteOffset.{ByteOffset}
@@ -39,21 +35,6 @@ past-end p byte n h =
     bool-cases (isWidth n)
     (λ t. rw (t, inside-no p (byte * 8) n (least-width n t) (omega arith)))
     (λ t. rw t)
-
--- an offset by its sign
-pub unused : (p : List ℕ) (z : ℤ) (n : ℕ) → ltZ z (pos 0) ≡ true → number 0 ≡ identifierAt p z n
-unfolding identifierAt
-unused p (pos m) n t = absurd (omega (arith, ltb-true m 0 t))
-unused p (negsuc m) n t = refl
-
-pub used : (p : List ℕ) (z : ℤ) (n : ℕ) → ltZ z (pos 0) ≡ false → readIdentifier (natAbs z) (unsignedAt p (natAbs z * 8) n) ≡ identifierAt p z n
-unfolding identifierAt
-used p (pos m) n t = refl
-used p (negsuc m) n t = absurd (false≢true (sym t))
-
-pub offset-fits : (z : ℤ) → mag z < 2 ^ 63 → ltZ z (pos 0) ≡ false → T (nonNeg z) × Fits w64 (natAbs z)
-offset-fits (pos m) h f = (tt, omega arith)
-offset-fits (negsuc m) h f = absurd (false≢true (sym f))
 
 -- the two of a packet
 module _ {x y : Field} {s t : Identifier} (h : saidField x ≡ s) where

@@ -1,4 +1,4 @@
--- The steps of an identification. Assumes nothing.
+-- The steps of an identification.
 use mathlib.Core.Path.{_≡_, refl, sym, ap, ap₂, subst, _∙_}
 use mathlib.Core.Bool.{Bool, true, false, not, cond}
 use mathlib.Core.List.{List}

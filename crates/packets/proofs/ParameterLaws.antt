@@ -1,4 +1,4 @@
--- What the lines of plf and pcf say of a parameter. Assumes nothing.
+-- What the lines of plf and pcf say of a parameter.
 use mathlib.Core.Path.{_≡_, refl, sym, ap, _∙_}
 use mathlib.Core.Bool.{Bool, true, false, cond, _||_}
 use mathlib.Core.List.{List}
@@ -13,18 +13,17 @@ use Rattle.lines.specs.declared.names.Name.{Name}
 use Rattle.schemas.specs.declared.Table.{Table}
 use Rattle.schemas.specs.declared.Table.the-variants.{Pid, Pic, Plf, Pcf, Caf, Cap, Txf, Txp, Ocf, Ocp}
 use Rattle.rows.specs.Records.{pidRow, plfRow, pcfRow}
-use Rattle.rows.specs.Width.{widthOf}
-use Rattle.rows.specs.Contradictions.{isRefused, pcfContradiction, contradiction}
-use Rattle.rows.specs.Formed.{formed}
-use Rattle.rows.specs.declared.width.Width.{Width}
-use Rattle.rows.specs.declared.width.Width.the-variants.{Bits, Refused}
+use Rattle.fields.specs.Width.{widthOf}
+use Rattle.formed.specs.Contradictions.{isRefused, pcfContradiction, contradiction}
+use Rattle.formed.specs.Formed.{formed}
+use mathlib.Core.Option.{Option, some, none}
 use Rattle.rows.specs.declared.records.PidRow.{PidRow}
 use Rattle.rows.specs.declared.records.PcfRow.{PcfRow}
 use Rattle.rows.specs.declared.letters.Valid.{Valid}
 use Rattle.rows.specs.declared.letters.Valid.the-variants.{Yes, No}
 use Rattle.rows.specs.declared.letters.Nature.{Nature}
 use Rattle.rows.specs.declared.letters.Nature.the-variants.{Raw, Dynamic, Expression, HardCoded, Saved, Constant}
-use Rattle.rows.proofs.Meaning.{formed-well}
+use Rattle.formed.proofs.Meaning.{formed-well}
 use Rattle.verdicts.specs.Key.{Key, location, parameter, keyWords, sameKey}
 use Rattle.verdicts.specs.Facts.{raw, factsOf, pidKeys, pidFacts, picFacts, plfFacts, pcfFacts, cafFacts, capFacts, txfFacts, txpFacts, ocfFacts, ocpFacts}
 use Rattle.verdicts.specs.Entries.{carried}
@@ -94,12 +93,12 @@ raw-nature r e = go (r .natur) refl
     go Constant q = let z : false ≡ true = rw q at e in absurd (false≢true z)
 
 -- 01: "Any other pair is reason 8 at column 6": a well-formed pcf row has a width
-bits-of : (w : Width) (m : ℕ) → cond (isRefused w) 6 m ≡ 0 → (n : ℕ) × (w ≡ Bits n)
+bits-of : (w : Option ℕ) (m : ℕ) → cond (isRefused w) 6 m ≡ 0 → (n : ℕ) × (w ≡ some n)
 unfolding isRefused
-bits-of (Bits n) m e = (n, refl)
-bits-of Refused m e = absurd (omega arith)
+bits-of (some n) m e = (n, refl)
+bits-of none m e = absurd (omega arith)
 
-pub has-width : (line : Line) → formed Pcf line ≡ 0 → (n : ℕ) × (widthOf (pcfRow (line .bytes) .ptc) (pcfRow (line .bytes) .pfc) ≡ Bits n)
+pub has-width : (line : Line) → formed Pcf line ≡ 0 → (n : ℕ) × (widthOf (pcfRow (line .bytes) .ptc) (pcfRow (line .bytes) .pfc) ≡ some n)
 unfolding contradiction pcfContradiction
 has-width line e = bits-of (widthOf (pcfRow (line .bytes) .ptc) (pcfRow (line .bytes) .pfc)) _ (formed-well Pcf line e .agreeing)
 

@@ -1,4 +1,4 @@
--- The good rows of a table by their places, and a search that one row alone passes: of any cells. Assumes nothing.
+-- The good rows of a table by their places, and a search that one row alone passes: of any cells.
 use mathlib.Core.Path.{_≡_, refl, sym, ap, _∙_}
 use mathlib.Core.Logic.{_⊎_, inl, inr}
 use mathlib.Core.Bool.{Bool, true, false, cond}

@@ -1,4 +1,4 @@
--- Refusals 1 and 2, by the sizes and by an import, and the good rows of tables that are taken. Assumes nothing.
+-- Refusals 1 and 2, by the sizes and by an import, and the good rows of tables that are taken.
 use mathlib.Core.Path.{_≡_, refl, sym, ap, ap₂, _∙_}
 use mathlib.Core.Bool.{Bool, true, false, cond}
 use mathlib.Core.List.{List, [], _++_}
@@ -19,8 +19,7 @@ use Rattle.verdicts.proofs.EntryLaws.{rows-before-next, length-rows}
 use Rattle.import.specs.Judged as import
 use Rattle.import.specs.declared.Imported.{Imported as Import}
 use Rattle.import.specs.declared.Imported.the-variants.{Done}
-use Rattle.tables.specs.Sizes.{sizesOf}
-use Rattle.tables.specs.declared.Sizes.the-variants.{Fit, TooLong, TooManyRows}
+use Rattle.tables.specs.Sizes.{fit, refusedBy, sizesOf}
 use Rattle.tables.proofs.SizeLaws.{few}
 use Rattle.lookup.specs.GoodRows.{goodRows}
 use Rattle.lookup.specs.Listed.{looked}
@@ -34,20 +33,20 @@ pub record Small (texts : List (List ℕ)) : Type 0 where
 
 module _ {A : Type 0} (refused : (number place : ℕ) → A) (texts : List (List ℕ)) (answer : A) where
   -- by the sizes
-  pub size-long : {t : ℕ} → sizesOf texts ≡ TooLong t → refused 1 t ≡ bySizes refused texts answer
+  pub size-long : {t : ℕ} → sizesOf texts ≡ refusedBy 1 t → refused 1 t ≡ bySizes refused texts answer
   unfolding sizesOf bySizes
   size-long {t} e = go (eqb (tooLong texts) 0) (eqb (tooManyRows texts) 0) _ _ e
     where
-      go : (a b : Bool) (l m : ℕ) → cond a (cond b Fit (TooManyRows m)) (TooLong l) ≡ TooLong t → refused 1 t ≡ cond a (cond b answer (refused 2 m)) (refused 1 l)
+      go : (a b : Bool) (l m : ℕ) → cond a (cond b fit (refusedBy 2 m)) (refusedBy 1 l) ≡ refusedBy 1 t → refused 1 t ≡ cond a (cond b answer (refused 2 m)) (refused 1 l)
       go true true l m e = cc
       go true false l m e = cc
       go false b l m e = cc
 
-  pub size-many : {t : ℕ} → sizesOf texts ≡ TooManyRows t → refused 2 t ≡ bySizes refused texts answer
+  pub size-many : {t : ℕ} → sizesOf texts ≡ refusedBy 2 t → refused 2 t ≡ bySizes refused texts answer
   unfolding sizesOf bySizes
   size-many {t} e = go (eqb (tooLong texts) 0) (eqb (tooManyRows texts) 0) _ _ e
     where
-      go : (a b : Bool) (l m : ℕ) → cond a (cond b Fit (TooManyRows m)) (TooLong l) ≡ TooManyRows t → refused 2 t ≡ cond a (cond b answer (refused 2 m)) (refused 1 l)
+      go : (a b : Bool) (l m : ℕ) → cond a (cond b fit (refusedBy 2 m)) (refusedBy 1 l) ≡ refusedBy 2 t → refused 2 t ≡ cond a (cond b answer (refused 2 m)) (refused 1 l)
       go true true l m e = cc
       go true false l m e = cc
       go false b l m e = cc
@@ -80,11 +79,11 @@ module _ {A : Type 0} (refused : (number place : ℕ) → A) (texts : List (List
   unfolding bySizes
   small-answer s = rw (s .short, s .few)
 
-pub size-fit : (texts : List (List ℕ)) → sizesOf texts ≡ Fit → Small texts
+pub size-fit : (texts : List (List ℕ)) → sizesOf texts ≡ fit → Small texts
 unfolding sizesOf
 size-fit texts e = go (eqb (tooLong texts) 0) (eqb (tooManyRows texts) 0) refl refl e
   where
-    go : (a b : Bool) → eqb (tooLong texts) 0 ≡ a → eqb (tooManyRows texts) 0 ≡ b → cond a (cond b Fit (TooManyRows (tooManyRows texts))) (TooLong (tooLong texts)) ≡ Fit → Small texts
+    go : (a b : Bool) → eqb (tooLong texts) 0 ≡ a → eqb (tooManyRows texts) 0 ≡ b → cond a (cond b fit (refusedBy 2 (tooManyRows texts))) (refusedBy 1 (tooLong texts)) ≡ fit → Small texts
     go true true p q e = record { short = eqb-true _ _ p; few = eqb-true _ _ q }
     go true false p q e = record { short = cc; few = cc }
     go false b p q e = record { short = cc; few = cc }

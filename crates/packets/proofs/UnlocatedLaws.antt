@@ -1,10 +1,10 @@
 -- Refusal 26 of an extraction means exactly what 01 says, "no good plf row for name and SPID": the plf row that has them names a good
--- pcf row, whose PTC and PFC have a width, so that nothing else is refused with 26. Assumes nothing.
+-- pcf row, whose PTC and PFC have a width, so that nothing else is refused with 26.
 use mathlib.Core.Path.{_≡_, refl, sym, ap, ap₂, _∙_}
 use mathlib.Core.Logic.{_↔_}
 use mathlib.Core.Bool.{Bool, true, false, not, cond, _&&_, _||_}
 use mathlib.Core.List.{List}
-use mathlib.Core.Option.{Option, none, some}
+use mathlib.Core.Option.{Option, some, none}
 use Prim.Native.Nat.{ℕ, _+_, _*_, _/_, _%_}
 use native.Mathlib.Omega.{arith}
 use lib.Dec.{eqb, ltb}
@@ -17,8 +17,7 @@ use Rattle.lines.specs.Names.{nameOf}
 use Rattle.lines.specs.declared.names.Name.{Name}
 use Rattle.schemas.specs.declared.Table.the-variants.{Plf, Pcf}
 use Rattle.rows.specs.Records.{plfRow, pcfRow}
-use Rattle.rows.specs.Width.{widthOf}
-use Rattle.rows.specs.declared.width.Width.the-variants.{Bits}
+use Rattle.fields.specs.Width.{widthOf}
 use Rattle.rows.specs.declared.records.PlfRow.{PlfRow}
 use Rattle.rows.specs.declared.records.PcfRow.{PcfRow}
 use Rattle.fields.specs.Place.{inside}
@@ -78,12 +77,12 @@ field-raw-other p ptc n at w =
     (λ _. field-other (complementOf n) p at n y)
     (λ _. field-other pos p at n y))
 
-raw-in-other : (p : List ℕ) (plf : PlfRow) (ptc k n : ℕ) → Wide ptc n → rawNumber (rawIn p plf ptc k (Bits n)) ≡ 26 → ⊥
+raw-in-other : (p : List ℕ) (plf : PlfRow) (ptc k n : ℕ) → Wide ptc n → rawNumber (rawIn p plf ptc k (some n)) ≡ 26 → ⊥
 unfolding rawIn
 raw-in-other p plf ptc k n w =
     cond-cases (λ (r : Raw). rawNumber r ≡ 26 → ⊥) (ltb k (plf .nbocc)) (λ _. field-raw-other p ptc n (startOf plf k) w) (λ _ e. omega arith)
 
-raw-other : (p : List ℕ) (plf : PlfRow) (pcf : PcfRow) (k n : ℕ) → widthOf (pcf .ptc) (pcf .pfc) ≡ Bits n → rawNumber (rawOf p plf pcf k) ≡ 26 → ⊥
+raw-other : (p : List ℕ) (plf : PlfRow) (pcf : PcfRow) (k n : ℕ) → widthOf (pcf .ptc) (pcf .pfc) ≡ some n → rawNumber (rawOf p plf pcf k) ≡ 26 → ⊥
 unfolding rawOf
 raw-other p plf pcf k n e =
     cond-cases (λ (r : Raw). rawNumber r ≡ 26 → ⊥) (ltb 8192 (length p)) (λ _ q. omega arith)
@@ -105,7 +104,7 @@ same-number b (rawString start bytes) = refl
 
 module _ (plf pcf : List Row) (p : List ℕ) (spid : ℕ) (name : Name) (k : ℕ) where
   read-other : (l c : Row) (n : ℕ) → holder Plf plf (location name spid) ≡ some l → holder Pcf pcf (parameter name) ≡ some c
-      → widthOf (pcfRow (c .bytes) .ptc) (pcfRow (c .bytes) .pfc) ≡ Bits n → readNumber (reading plf pcf p spid name k) ≡ 26 → ⊥
+      → widthOf (pcfRow (c .bytes) .ptc) (pcfRow (c .bytes) .pfc) ≡ some n → readNumber (reading plf pcf p spid name k) ≡ 26 → ⊥
   unfolding reading readingWith located both readAt
   read-other l c n f g w e =
       raw-other p (plfRow (l .bytes)) (pcfRow (c .bytes)) k n w

@@ -1,4 +1,4 @@
--- What a packet says of a parameter. Assumes nothing: these are definitions.
+-- What a packet says of a parameter.
 use Prim.Native.Nat.{ℕ}
 use mathlib.Core.Bool.{Bool}
 use mathlib.Core.List.{List}

@@ -1,4 +1,4 @@
--- A row found among rows that are listed. Assumes nothing: these are definitions.
+-- A row found among rows that are listed.
 use Prim.Native.Nat.{ℕ, _≤_, _<_}
 use mathlib.Core.Path.{_≡_}
 use mathlib.Core.List.{List}

@@ -1,4 +1,4 @@
--- Which packet it is. Assumes nothing: these are definitions.
+-- Which packet it is.
 use Prim.Native.Nat.{ℕ}
 use mathlib.Core.List.{List}
 use mathlib.Core.Option.{Option, none, some}

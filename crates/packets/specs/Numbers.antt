@@ -1,4 +1,4 @@
--- The five numbers that choose the pid row. Assumes nothing: these are definitions.
+-- The five numbers that choose the pid row.
 use Prim.Native.Nat.{ℕ}
 use mathlib.Core.Bool.{cond}
 use mathlib.Core.List.{List}

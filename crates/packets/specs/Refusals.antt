@@ -1,4 +1,4 @@
--- 01's number and place of each refusal of a packet question. Assumes nothing: these are definitions.
+-- 01's number and place of each refusal of a packet question.
 use Prim.Native.Nat.{ℕ}
 use mathlib.Core.Bool.{cond}
 use mathlib.Core.List.{List}

@@ -1,6 +1,7 @@
 // PI1 and PI2 of a packet.
 use fields::field::Unsigned;
 use fields::field::read_unsigned;
+use rows::records::IdentificationField;
 use rows::records::PicRow;
 use units::BitOffset;
 use units::ByteOffset;
@@ -24,16 +25,15 @@ pub(crate) enum Fields {
     Leaves(ByteOffset),
 }
 
-// A field from the first bit of the byte at an offset; a negative one means unused.
-fn identifier(p: &[u8], offset: i64, width: u32) -> Field
+// What an identification field of a pic row reads.
+fn identifier(p: &[u8], field: IdentificationField) -> Field
     requires { ⌜ length (now p) ≤ 8192 ⌝ }
-    ensures { λ r. ⌜ saidField r ≡ identifierAt (now (p .entry)) offset width ⌝ }
+    ensures { λ r. ⌜ saidField r ≡ identifierAt (now (p .entry)) field ⌝ }
 {
-    if offset < 0 {
-        return Field::Is(0);
+    match field {
+        IdentificationField::Unused => Field::Is(0),
+        IdentificationField::At(byte, width) => field_at(p, byte, width),
     }
-    let byte = offset as usize;
-    field_at(p, ByteOffset(byte), width)
 }
 
 fn field_at(p: &[u8], byte: ByteOffset, width: u32) -> Field
@@ -69,8 +69,10 @@ pub(crate) fn identifiers(p: &[u8], row: PicRow) -> Fields
     requires { ⌜ length (now p) ≤ 8192 ⌝ }
     ensures { λ r. ⌜ saidFields r ≡ identifiersBy (now (p .entry)) row ⌝ }
 {
-    match identifier(p, row.pi1off, row.pi1wid) {
-        Field::Is(first) => match identifier(p, row.pi2off, row.pi2wid) {
+    let pi1 = row.pi1;
+    let pi2 = row.pi2;
+    match identifier(p, pi1) {
+        Field::Is(first) => match identifier(p, pi2) {
             Field::Is(second) => Fields::Are(first, second),
             Field::Leaves(byte) => Fields::Leaves(byte),
         },

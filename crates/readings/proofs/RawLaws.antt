@@ -1,4 +1,4 @@
--- Laws of raw values: the numbers of a line, the widths of fields, and a field past the packet's end. Assumes nothing.
+-- Laws of raw values: the numbers of a line, the widths of fields, and a field past the packet's end.
 use mathlib.Core.Path.{_≡_, refl, sym, ap, _∙_}
 use mathlib.Core.Logic.{_⊎_, inl, inr}
 use mathlib.Core.Bool.{Bool, true, false, cond, _&&_, _||_}
@@ -21,9 +21,9 @@ use Rattle.laws.proofs.Words.{through-word}
 use Rattle.laws.specs.Said.{value, refused as refusedWith}
 use Rattle.numbers.specs.Number.{numberOf}
 use Rattle.rows.specs.Values.{naturalFrom, naturalOr}
-use Rattle.rows.specs.Width.{within, integerWidth, widthOf}
-use Rattle.rows.specs.declared.width.Width.{Width}
-use Rattle.rows.specs.declared.width.Width.the-variants.{Bits, Refused}
+use Rattle.fields.specs.Width.{bitsOf, within, integerWidth, widthOf}
+use Rattle.fields.specs.declared.width.Width.{Width}
+use Rattle.fields.specs.declared.width.Width.the-variants as width
 use Rattle.rows.specs.Records.{plfRow}
 use Rattle.rows.specs.declared.records.PlfRow.{PlfRow}
 use Rattle.rows.specs.declared.records.PcfRow.{PcfRow}
@@ -73,11 +73,11 @@ pub record In-range (m lowest highest bits n : ℕ) : Type 0 where
   pub high : m ≤ highest
   pub is : n ≡ bits
 
-bits-within : (m lowest highest bits n : ℕ) → within m lowest highest bits ≡ Bits n → In-range m lowest highest bits n
+bits-within : (m lowest highest bits n : ℕ) → within m lowest highest bits ≡ some n → In-range m lowest highest bits n
 unfolding within
 bits-within m lowest highest bits n e = by (leb lowest m) (leb m highest) refl refl e
   where
-    by : (a b : Bool) → leb lowest m ≡ a → leb m highest ≡ b → cond (a && b) (Bits bits) Refused ≡ Bits n → In-range m lowest highest bits n
+    by : (a b : Bool) → leb lowest m ≡ a → leb m highest ≡ b → cond (a && b) (some bits) none ≡ some n → In-range m lowest highest bits n
     by true true f g e = record { low = leb-true lowest m f; high = leb-true m highest g; is = cc }
     by true false f g e = absurd (let z : _≡_ {A = ℕ} 0 1 = cc in omega arith)
     by false b f g e = absurd (let z : _≡_ {A = ℕ} 0 1 = cc in omega arith)
@@ -92,10 +92,10 @@ string-is ptc e = by (eqb ptc 7) (eqb ptc 8) refl refl e
     by false false f g e = absurd (let z : _≡_ {A = ℕ} 0 1 = cc in omega arith)
 
 -- a string has whole bytes
-bytes-of : (pfc n : ℕ) → within pfc 1 255 (8 * pfc) ≡ Bits n → 8 ≤ n
+bytes-of : (pfc n : ℕ) → within pfc 1 255 (8 * pfc) ≡ some n → 8 ≤ n
 bytes-of pfc n e = let r = bits-within pfc 1 255 (8 * pfc) n e in omega (arith, r .low, r .is)
 
-string-wide : (ptc pfc n : ℕ) → (ptc ≡ 7) ⊎ (ptc ≡ 8) → widthOf ptc pfc ≡ Bits n → 8 ≤ n
+string-wide : (ptc pfc n : ℕ) → (ptc ≡ 7) ⊎ (ptc ≡ 8) → widthOf ptc pfc ≡ some n → 8 ≤ n
 unfolding widthOf
 string-wide ptc pfc n (inl s) e = bytes-of pfc n (rw s at e)
 string-wide ptc pfc n (inr s) e = bytes-of pfc n (rw s at e)
@@ -104,36 +104,36 @@ string-wide ptc pfc n (inr s) e = bytes-of pfc n (rw s at e)
 abbrev Narrow : ℕ → Type 0
 Narrow n = (1 ≤ n) × (n ≤ 32)
 
-few-bits : (pfc n : ℕ) → within pfc 1 32 pfc ≡ Bits n → Narrow n
+few-bits : (pfc n : ℕ) → within pfc 1 32 pfc ≡ some n → Narrow n
 few-bits pfc n e = let r = bits-within pfc 1 32 pfc n e in (omega (arith, r .low, r .is), omega (arith, r .high, r .is))
 
-one-bit : (pfc n : ℕ) → within pfc 0 0 1 ≡ Bits n → Narrow n
+one-bit : (pfc n : ℕ) → within pfc 0 0 1 ≡ some n → Narrow n
 one-bit pfc n e = let r = bits-within pfc 0 0 1 n e in (omega (arith, r .is), omega (arith, r .is))
 
-integer-narrow : (pfc n : ℕ) → integerWidth pfc ≡ Bits n → Narrow n
+integer-narrow : (pfc n : ℕ) → integerWidth pfc ≡ some n → Narrow n
 unfolding integerWidth
 integer-narrow pfc n e = by (eqb pfc 13) (eqb pfc 14) e
   where
-    to-12 : within pfc 0 12 (pfc + 4) ≡ Bits n → Narrow n
+    to-12 : within pfc 0 12 (pfc + 4) ≡ some n → Narrow n
     to-12 e = let r = bits-within pfc 0 12 (pfc + 4) n e in (omega (arith, r .is), omega (arith, r .high, r .is))
 
-    by : (a b : Bool) → cond a (Bits 24) (cond b (Bits 32) (within pfc 0 12 (pfc + 4))) ≡ Bits n → Narrow n
+    by : (a b : Bool) → cond a (some 24) (cond b (some 32) (within pfc 0 12 (pfc + 4))) ≡ some n → Narrow n
     by true b e = let m : n ≡ 24 = cc in (omega arith, omega arith)
     by false true e = let m : n ≡ 32 = cc in (omega arith, omega arith)
     by false false e = to-12 e
 
-other-narrow : (ptc pfc n : ℕ) → isString ptc ≡ false → widthOf ptc pfc ≡ Bits n → Narrow n
+other-narrow : (ptc pfc n : ℕ) → isString ptc ≡ false → widthOf ptc pfc ≡ some n → Narrow n
 unfolding widthOf isString
 other-narrow ptc pfc n s e = by (eqb ptc 1) (eqb ptc 2 || eqb ptc 6) (eqb ptc 3 || eqb ptc 4) (eqb ptc 7 || eqb ptc 8) s e
   where
-    by : (a b c d : Bool) → d ≡ false → cond a (within pfc 0 0 1) (cond b (within pfc 1 32 pfc) (cond c (integerWidth pfc) (cond d (within pfc 1 255 (8 * pfc)) Refused))) ≡ Bits n → Narrow n
+    by : (a b c d : Bool) → d ≡ false → cond a (within pfc 0 0 1) (cond b (within pfc 1 32 pfc) (cond c (integerWidth pfc) (cond d (within pfc 1 255 (8 * pfc)) none))) ≡ some n → Narrow n
     by true b c d s e = one-bit pfc n e
     by false true c d s e = few-bits pfc n e
     by false false true d s e = integer-narrow pfc n e
     by false false false true s e = absurd (let z : _≡_ {A = ℕ} 0 1 = cc in omega arith)
     by false false false false s e = absurd (let z : _≡_ {A = ℕ} 0 1 = cc in omega arith)
 
-pub width-wide : (ptc pfc n : ℕ) → widthOf ptc pfc ≡ Bits n → Wide ptc n
+pub width-wide : (ptc pfc n : ℕ) → widthOf ptc pfc ≡ some n → Wide ptc n
 width-wide ptc pfc n e =
     record {
       some =
@@ -242,11 +242,11 @@ module _ (p : List ℕ) (at n : ℕ) (r : Unsigned) (s : saidUnsigned r ≡ unsi
 
 -- an occurrence, by the row that a line decodes to
 module _ (p : List ℕ) (row plf : PlfRow) (ptc k n : ℕ) (d : row ≡ plf) where
-  pub no-occurrence : row .nbocc ≤ k → refused 27 0 ≡ rawIn p plf ptc k (Bits n)
+  pub no-occurrence : row .nbocc ≤ k → refused 27 0 ≡ rawIn p plf ptc k (some n)
   unfolding rawIn
   no-occurrence h = rw (← d, le-ltb _ _ h)
 
-  pub occurrence-is : (at : ℕ) → k < row .nbocc → at ≡ 8 * row .offby .0 + row .offbi .0 + k * row .lgocc .0 → fieldRaw p ptc n at ≡ rawIn p plf ptc k (Bits n)
+  pub occurrence-is : (at : ℕ) → k < row .nbocc → at ≡ 8 * row .offby .0 + row .offbi .0 + k * row .lgocc .0 → fieldRaw p ptc n at ≡ rawIn p plf ptc k (some n)
   unfolding rawIn startOf
   occurrence-is at h e = rw (← d, lt-ltb _ _ h) (ap (fieldRaw p ptc n) e)
 
@@ -256,11 +256,11 @@ module _ (p : List ℕ) (plf : PlfRow) (pcf : PcfRow) (k : ℕ) where
   unfolding rawOf
   packet-too-long h = rw (lt-ltb _ _ h)
 
-  module _ (row : PcfRow) (w : Width) (short : length p ≤ 8192) (d : row ≡ pcf) (e : w ≡ widthOf (row .ptc) (row .pfc)) where
-    pub raw-in-bits : (n : ℕ) → w ≡ Bits n → rawIn p plf (row .ptc) k (Bits n) ≡ rawOf p plf pcf k
-    unfolding rawOf
-    raw-in-bits n b = rw (← d, le-ltb _ _ short) (ap (rawIn p plf (row .ptc) k) (sym b ∙ e))
+  module _ (row : PcfRow) (w : Width) (short : length p ≤ 8192) (d : row ≡ pcf) (e : bitsOf w ≡ widthOf (row .ptc) (row .pfc)) where
+    pub raw-in-bits : (n : ℕ) → w ≡ width.Bits n → rawIn p plf (row .ptc) k (some n) ≡ rawOf p plf pcf k
+    unfolding rawOf bitsOf
+    raw-in-bits n b = rw (← d, le-ltb _ _ short) (ap (rawIn p plf (row .ptc) k) (sym (ap bitsOf b) ∙ e))
 
-    pub raw-refused : w ≡ Refused → refused 26 0 ≡ rawOf p plf pcf k
-    unfolding rawOf rawIn
-    raw-refused b = rw (← d, le-ltb _ _ short) (ap (rawIn p plf (row .ptc) k) (sym b ∙ e))
+    pub raw-refused : w ≡ width.Refused → refused 26 0 ≡ rawOf p plf pcf k
+    unfolding rawOf rawIn bitsOf
+    raw-refused b = rw (← d, le-ltb _ _ short) (ap (rawIn p plf (row .ptc) k) (sym (ap bitsOf b) ∙ e))

@@ -1,4 +1,4 @@
--- Laws of readings: the rows of a parameter, its reading by their lines, and one step of its validity. Assumes nothing.
+-- Laws of readings: the rows of a parameter, its reading by their lines, and one step of its validity.
 use mathlib.Core.Path.{_≡_, refl, sym, ap, ap₂, _∙_, subst}
 use mathlib.Core.Bool.{Bool, true, false, not, _&&_}
 use mathlib.Core.List.{List}

@@ -1,4 +1,4 @@
--- Validity with no count in it: as many rows as there are decide every chain, circles too. Assumes nothing.
+-- Validity with no count in it: as many rows as there are decide every chain, circles too.
 use mathlib.Core.Path.{_≡_, refl, sym, ap, _∙_}
 use mathlib.Core.Bool.{Bool, true, false, not, cond, _&&_}
 use mathlib.Core.List.{List, [], _∷_, List·Memᴰ, List·Memᴰ·head, List·Memᴰ·tail}

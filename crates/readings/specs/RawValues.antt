@@ -1,4 +1,4 @@
--- The raw value of an occurrence of a parameter in a packet. Assumes nothing: these are definitions.
+-- The raw value of an occurrence of a parameter in a packet.
 use Prim.Native.Nat.{ℕ, _+_, _*_, _/_, _≤_}
 use mathlib.Core.Path.{_≡_, refl}
 use mathlib.Core.Bool.{Bool, true, false, cond, _||_}
@@ -14,9 +14,8 @@ use Rattle.fields.specs.Field.{isWidth, fieldAt, unsignedAt}
 use Rattle.fields.specs.Figures.{packet}
 use Rattle.fields.specs.Sign.{signedAt}
 use Rattle.fields.specs.Text.{stringAt}
-use Rattle.rows.specs.Width.{widthOf, integerWidth, within}
-use Rattle.rows.specs.declared.width.Width.{Width}
-use Rattle.rows.specs.declared.width.Width.the-variants.{Bits, Refused}
+use Rattle.fields.specs.Width.{widthOf, integerWidth, within}
+use mathlib.Core.Option.{Option, some, none}
 use Rattle.rows.specs.declared.records.PlfRow.{PlfRow}
 use Rattle.rows.specs.declared.records.PcfRow.{PcfRow}
 use Rattle.readings.specs.declared.raw.RawValue.{RawValue}
@@ -61,9 +60,9 @@ fieldRaw p ptc n at =
     (integerRaw at (cond (eqb ptc 4) (signedAt p at n) (unsignedAt p at n)))
 
 -- 01: "27 … occurrence not below NBOCC". A pair of codes without a width, which no good row has, has no field
-unfoldable pub rawIn : List ℕ → PlfRow → (ptc k : ℕ) → Width → Raw
-rawIn p plf ptc k Refused = refused 26 0
-rawIn p plf ptc k (Bits n) = cond (ltb k (plf .nbocc)) (fieldRaw p ptc n (startOf plf k)) (refused 27 0)
+unfoldable pub rawIn : List ℕ → PlfRow → (ptc k : ℕ) → Option ℕ → Raw
+rawIn p plf ptc k none = refused 26 0
+rawIn p plf ptc k (some n) = cond (ltb k (plf .nbocc)) (fieldRaw p ptc n (startOf plf k)) (refused 27 0)
 
 -- 01: "20 packet under 7 or over 8,192 bytes"; "The least number decides"
 unfoldable pub rawOf : List ℕ → PlfRow → PcfRow → ℕ → Raw

@@ -1,4 +1,4 @@
--- Readings and their validity. Assumes nothing: these are definitions.
+-- Readings and their validity.
 use Prim.Native.Nat.{ℕ, zero, suc}
 use Prim.Native.String.{String}
 use mathlib.Core.Path.{_≡_, refl}
@@ -15,7 +15,7 @@ use Rattle.lines.specs.Names.{nameOf, curveNameOf, sameBytes}
 use Rattle.lines.specs.declared.names.Name.{Name}
 use Rattle.schemas.specs.declared.Table.the-variants.{Plf, Pcf}
 use Rattle.rows.specs.Values.{naturalFrom, naturalOr, integerFrom, integerOr, letterOf, isGiven, optionalName, optionalCurve, categoryOf, natureOf}
-use Rattle.rows.specs.Width.{widthOf, integerWidth, within}
+use Rattle.fields.specs.Width.{widthOf, integerWidth, within}
 use Rattle.rows.specs.Records.{column, plfRow, pcfRow}
 use Rattle.rows.specs.declared.records.PlfRow.{PlfRow}
 use Rattle.rows.specs.declared.records.PcfRow.{PcfRow}

@@ -1,4 +1,4 @@
--- Rows by where their lines start, and what is claimed of rows that arrays list. Assumes nothing: these are definitions.
+-- Rows by where their lines start, and what is claimed of rows that arrays list.
 use Prim.Native.Nat.{ℕ}
 use mathlib.Core.Path.{_≡_, refl}
 use mathlib.Core.Bool.{false, cond}

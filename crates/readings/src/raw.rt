@@ -7,16 +7,16 @@ use fields::sign::Signed;
 use fields::sign::read_signed;
 use fields::text::StringAt;
 use fields::text::string_at;
+use fields::width::Width;
+use fields::width::width_of;
 use rows::decoded::pcf_of;
 use rows::decoded::plf_of;
-use rows::width::Width;
-use rows::width::width_of;
 use units::BitOffset;
 use units::ByteOffset;
 ghost use mathlib.Core.Path.{_≡_};
 ghost use Prim.Native.Nat.{_+_, _*_, _<_, _≤_};
 ghost use lib.ListN.{length};
-ghost use Rattle.rows.specs.declared.width.Width.the-variants.{Bits};
+ghost use mathlib.Core.Option.{some};
 ghost use Rattle.rows.specs.Records.{plfRow, pcfRow};
 ghost use Rattle.fields.specs.Field.{unsignedAt};
 ghost use Rattle.fields.specs.Sign.{signedAt};
@@ -102,7 +102,7 @@ fn field_raw(p: &[u8], ptc: u32, width: u32, start: FieldStart) -> RawValue
 // Occurrence k of a field of `width` bits, by the line of its plf row.
 fn occurrence_raw(p: &[u8], plf: &[u8], ptc: u32, width: u32, k: usize) -> RawValue
     requires { ⌜ (length (now p) ≤ 8192) × Wide ptc width ⌝ }
-    ensures { λ r. ⌜ saidRaw r ≡ rawIn (now (p .entry)) (plfRow (now (plf .entry))) ptc k (Bits width) ⌝ }
+    ensures { λ r. ⌜ saidRaw r ≡ rawIn (now (p .entry)) (plfRow (now (plf .entry))) ptc k (some width) ⌝ }
 {
     let row = plf_of(plf);
     if row.nbocc as usize <= k {

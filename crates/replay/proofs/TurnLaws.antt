@@ -1,4 +1,4 @@
--- Turns, one after the other. Assumes nothing.
+-- Turns, one after the other.
 use mathlib.Core.Path.{_≡_, refl, ap, sym, _∙_}
 use mathlib.Core.List.{List, [], _∷_, _++_}
 use Prim.Native.Nat.{ℕ}

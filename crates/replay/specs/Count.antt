@@ -1,4 +1,4 @@
--- The sequence count in a packet's line. Assumes nothing: these are definitions.
+-- The sequence count in a packet's line.
 use Prim.Native.Nat.{ℕ}
 use mathlib.Core.Path.{_≡_, refl}
 use mathlib.Core.List.{List, [], _∷_}

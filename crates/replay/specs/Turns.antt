@@ -1,4 +1,4 @@
--- What a replay keeps between packets. Assumes nothing: these are definitions.
+-- What a replay keeps between packets.
 use Prim.Native.Nat.{ℕ}
 use mathlib.Core.Path.{_≡_, refl}
 use mathlib.Core.Bool.{true}

@@ -1,4 +1,2 @@
-pub mod FormedLaws
-pub mod Meaning
 pub mod PlaceLaws
 pub mod ValueLaws

@@ -1,20 +1,21 @@
--- What a column says, case by case as the code tells them apart. Assumes nothing.
+-- What a column says, case by case as the code tells them apart.
 use mathlib.Core.Path.{_≡_, refl, sym}
 use mathlib.Core.List.{List, [], _∷_}
 use mathlib.Core.Bool.{true, false}
 use mathlib.Core.Option.{Option, some, none}
-use Prim.Native.Nat.{ℕ, _^_, _≤_}
+use Prim.Native.Nat.{ℕ, _^_, _≤_, _<_}
 use native.Mathlib.Omega.{arith}
 use lib.Dec.{T}
 use lib.IntN.{ℤ, pos, negsuc, natAbs}
 use lib.ListN.{length, getD}
-use lib.Signed.{ltZ, nonNeg}
-use mir.Syntax.{w32}
+use lib.Signed.{ltZ, nonNeg, mag}
+use mir.Syntax.{w32, w64}
 use mir.Val.{Fits}
 use borrow.Author.Tests.{lt-ltb, le-ltb, ltb-true}
 use Rattle.laws.proofs.Cases.{false≢true}
 use Rattle.numbers.proofs.Answers.{Told, Large}
-use Rattle.rows.specs.Values.{naturalFrom, integerFrom, letterOf, isGiven}
+use Rattle.rows.specs.Values.{naturalFrom, integerFrom, letterOf, isGiven, identificationField}
+use Rattle.rows.specs.declared.records.IdentificationField.the-variants.{Unused, At}
 
 module _ (default : ℕ) where
   natural-negative : (v : ℤ) → ltZ v (pos 0) ≡ true → default ≡ naturalFrom default (some v)
@@ -92,3 +93,18 @@ pub given-is : (text : List ℕ) → (length text ≡ 0 → ⊥) → true ≡ is
 unfolding isGiven
 given-is [] h = absurd (h refl)
 given-is (b ∷ bs) h = refl
+
+-- an identification field by the sign of its offset
+pub field-unused : (z : ℤ) (width : ℕ) → ltZ z (pos 0) ≡ true → Unused ≡ identificationField z width
+unfolding identificationField
+field-unused (pos m) width t = absurd (omega (arith, ltb-true m 0 t))
+field-unused (negsuc m) width t = refl
+
+pub field-used : (z : ℤ) (width : ℕ) → ltZ z (pos 0) ≡ false → At (record { 0 = natAbs z }) width ≡ identificationField z width
+unfolding identificationField
+field-used (pos m) width f = refl
+field-used (negsuc m) width f = absurd (false≢true (sym f))
+
+pub offset-fits : (z : ℤ) → mag z < 2 ^ 63 → ltZ z (pos 0) ≡ false → T (nonNeg z) × Fits w64 (natAbs z)
+offset-fits (pos m) h f = (tt, omega arith)
+offset-fits (negsuc m) h f = absurd (false≢true (sym f))

@@ -1,4 +1,4 @@
--- What a line of each table says. Columns are counted from 0 here, so that 01's column k is `column line (k - 1)`.
+-- What a line of each table says, by its columns: `at k` is the text of column k, counted from 0, so that 01's column k is `at (k - 1)`.
 use Prim.Native.Nat.{ℕ}
 use mathlib.Core.List.{List}
 use lib.IntN.{ℤ, pos}
@@ -12,6 +12,7 @@ use Rattle.rows.specs.Values.{
   optionalName,
   optionalCurve,
   optionalApid,
+  identificationAt,
   validOf,
   categoryOf,
   natureOf,
@@ -36,118 +37,143 @@ use Rattle.rows.specs.declared.records.OcpRow.{OcpRow}
 unfoldable pub column : List ℕ → ℕ → List ℕ
 column line k = columnAt (columnsOf line) k
 
-abbrev pub letter : List ℕ → ℕ → ℕ
-letter line k = letterOf (column line k)
-
 abbrev pub placeAt : List ℕ → ℕ → Place
 placeAt line k = getD (placesOf line) k record { start = 0; end = 0 }
 
 -- 01: "PI1_VAL 10 and PI2_VAL 10 0–2,147,483,647 default 0"
-unfoldable pub pidRow : List ℕ → PidRow
-pidRow line =
+abbrev pub pidRowBy : (ℕ → List ℕ) → PidRow
+pidRowBy at =
     record {
-      ptype = naturalOr 0 (column line 0);
-      stype = naturalOr 0 (column line 1);
-      apid = naturalOr 0 (column line 2);
-      pi1 = naturalOr 0 (column line 3);
-      pi2 = naturalOr 0 (column line 4);
-      spid = record { 0 = naturalOr 0 (column line 5) };
-      valid = validOf (letter line 12);
+      ptype = naturalOr 0 (at 0);
+      stype = naturalOr 0 (at 1);
+      apid = naturalOr 0 (at 2);
+      pi1 = naturalOr 0 (at 3);
+      pi2 = naturalOr 0 (at 4);
+      spid = record { 0 = naturalOr 0 (at 5) };
+      valid = validOf (letterOf (at 12));
+    }
+
+unfoldable pub pidRow : List ℕ → PidRow
+pidRow line = pidRowBy (column line)
+
+abbrev pub picRowBy : (ℕ → List ℕ) → PicRow
+picRowBy at =
+    record {
+      ptype = naturalOr 0 (at 0);
+      stype = naturalOr 0 (at 1);
+      pi1 = identificationAt (at 2) (at 3);
+      pi2 = identificationAt (at 4) (at 5);
+      apid = optionalApid (at 6);
     }
 
 unfoldable pub picRow : List ℕ → PicRow
-picRow line =
-    record {
-      ptype = naturalOr 0 (column line 0);
-      stype = naturalOr 0 (column line 1);
-      pi1off = integerOr (pos 0) (column line 2);
-      pi1wid = naturalOr 0 (column line 3);
-      pi2off = integerOr (pos 0) (column line 4);
-      pi2wid = naturalOr 0 (column line 5);
-      apid = optionalApid (column line 6);
-    }
+picRow line = picRowBy (column line)
 
 -- 01: "NBOCC 4 1–9,999 default 1, LGOCC 5 0–32,767 default 0"
-unfoldable pub plfRow : List ℕ → PlfRow
-plfRow line =
+abbrev pub plfRowBy : (ℕ → List ℕ) → PlfRow
+plfRowBy at =
     record {
-      name = nameOf (column line 0);
-      spid = record { 0 = naturalOr 0 (column line 1) };
-      offby = record { 0 = naturalOr 0 (column line 2) };
-      offbi = record { 0 = naturalOr 0 (column line 3) };
-      nbocc = naturalOr 1 (column line 4);
-      lgocc = record { 0 = naturalOr 0 (column line 5) };
+      name = nameOf (at 0);
+      spid = record { 0 = naturalOr 0 (at 1) };
+      offby = record { 0 = naturalOr 0 (at 2) };
+      offbi = record { 0 = naturalOr 0 (at 3) };
+      nbocc = naturalOr 1 (at 4);
+      lgocc = record { 0 = naturalOr 0 (at 5) };
     }
 
+unfoldable pub plfRow : List ℕ → PlfRow
+plfRow line = plfRowBy (column line)
+
 -- 01: "VALPAR 5 −9,999–65,535 default 1"
-unfoldable pub pcfRow : List ℕ → PcfRow
-pcfRow line =
+abbrev pub pcfRowBy : (ℕ → List ℕ) → PcfRow
+pcfRowBy at =
     record {
-      name = nameOf (column line 0);
-      ptc = naturalOr 0 (column line 4);
-      pfc = naturalOr 0 (column line 5);
-      valid = optionalName (column line 7);
-      categ = categoryOf (letter line 9);
-      natur = natureOf (letter line 10);
-      curtx = optionalCurve (column line 11);
-      valpar = integerOr (pos 1) (column line 17);
+      name = nameOf (at 0);
+      ptc = naturalOr 0 (at 4);
+      pfc = naturalOr 0 (at 5);
+      valid = optionalName (at 7);
+      categ = categoryOf (letterOf (at 9));
+      natur = natureOf (letterOf (at 10));
+      curtx = optionalCurve (at 11);
+      valpar = integerOr (pos 1) (at 17);
+    }
+
+unfoldable pub pcfRow : List ℕ → PcfRow
+pcfRow line = pcfRowBy (column line)
+
+abbrev pub cafRowBy : (ℕ → List ℕ) → CafRow
+cafRowBy at =
+    record {
+      numbr = curveNameOf (at 0);
+      engfmt = formatOf (letterOf (at 2));
+      rawfmt = formatOf (letterOf (at 3));
+      ncurve = naturalOr 0 (at 6);
+      inter = offEndsOf (letterOf (at 7));
     }
 
 unfoldable pub cafRow : List ℕ → CafRow
-cafRow line =
+cafRow line = cafRowBy (column line)
+
+abbrev pub capRowBy : (ℕ → List ℕ) → CapRow
+capRowBy at =
     record {
-      numbr = curveNameOf (column line 0);
-      engfmt = formatOf (letter line 2);
-      rawfmt = formatOf (letter line 3);
-      ncurve = naturalOr 0 (column line 6);
-      inter = offEndsOf (letter line 7);
+      numbr = curveNameOf (at 0);
+      xvals = integerOr (pos 0) (at 1);
+      yvals = integerOr (pos 0) (at 2);
     }
 
 unfoldable pub capRow : List ℕ → CapRow
-capRow line =
+capRow line = capRowBy (column line)
+
+abbrev pub txfRowBy : (ℕ → List ℕ) → TxfRow
+txfRowBy at =
     record {
-      numbr = curveNameOf (column line 0);
-      xvals = integerOr (pos 0) (column line 1);
-      yvals = integerOr (pos 0) (column line 2);
+      numbr = curveNameOf (at 0);
+      rawfmt = formatOf (letterOf (at 2));
+      nalias = naturalOr 0 (at 3);
     }
 
 unfoldable pub txfRow : List ℕ → TxfRow
-txfRow line =
+txfRow line = txfRowBy (column line)
+
+abbrev pub txpRowBy : (ℕ → List ℕ) → (start end : ℕ) → TxpRow
+txpRowBy at start end =
     record {
-      numbr = curveNameOf (column line 0);
-      rawfmt = formatOf (letter line 2);
-      nalias = naturalOr 0 (column line 3);
+      numbr = curveNameOf (at 0);
+      from = integerOr (pos 0) (at 1);
+      to = integerOr (pos 0) (at 2);
+      start = start;
+      end = end;
     }
 
 unfoldable pub txpRow : List ℕ → TxpRow
-txpRow line =
+txpRow line = txpRowBy (column line) (placeAt line 3 .start) (placeAt line 3 .end)
+
+abbrev pub ocfRowBy : (ℕ → List ℕ) → OcfRow
+ocfRowBy at =
     record {
-      numbr = curveNameOf (column line 0);
-      from = integerOr (pos 0) (column line 1);
-      to = integerOr (pos 0) (column line 2);
-      start = placeAt line 3 .start;
-      end = placeAt line 3 .end;
+      name = nameOf (at 0);
+      nbchck = naturalOr 0 (at 1);
+      nbool = naturalOr 0 (at 2);
+      inter = limitValueOf (letterOf (at 3));
+      codin = limitCodingOf (letterOf (at 4));
     }
 
 unfoldable pub ocfRow : List ℕ → OcfRow
-ocfRow line =
-    record {
-      name = nameOf (column line 0);
-      nbchck = naturalOr 0 (column line 1);
-      nbool = naturalOr 0 (column line 2);
-      inter = limitValueOf (letter line 3);
-      codin = limitCodingOf (letter line 4);
-    }
+ocfRow line = ocfRowBy (column line)
 
 -- 01: "VALPAR 5 as in pcf"
-unfoldable pub ocpRow : List ℕ → OcpRow
-ocpRow line =
+abbrev pub ocpRowBy : (ℕ → List ℕ) → OcpRow
+ocpRowBy at =
     record {
-      name = nameOf (column line 0);
-      pos = naturalOr 0 (column line 1);
-      check = checkTypeOf (letter line 2);
-      lvalu = integerOr (pos 0) (column line 3);
-      hvalu = integerOr (pos 0) (column line 4);
-      rlchk = optionalName (column line 5);
-      valpar = integerOr (pos 1) (column line 6);
+      name = nameOf (at 0);
+      pos = naturalOr 0 (at 1);
+      check = checkTypeOf (letterOf (at 2));
+      lvalu = integerOr (pos 0) (at 3);
+      hvalu = integerOr (pos 0) (at 4);
+      rlchk = optionalName (at 5);
+      valpar = integerOr (pos 1) (at 6);
     }
+
+unfoldable pub ocpRow : List ℕ → OcpRow
+ocpRow line = ocpRowBy (column line)

@@ -14,6 +14,8 @@ use Rattle.rows.specs.declared.records.OptionalName.{OptionalName}
 use Rattle.rows.specs.declared.records.OptionalCurve.{OptionalCurve}
 use Rattle.rows.specs.declared.records.OptionalApid.{OptionalApid}
 use Rattle.rows.specs.declared.records.OptionalApid.the-variants.{Only, Any}
+use Rattle.rows.specs.declared.records.IdentificationField.{IdentificationField}
+use Rattle.rows.specs.declared.records.IdentificationField.the-variants.{Unused, At}
 use Rattle.rows.specs.declared.letters.Valid.{Valid}
 use Rattle.rows.specs.declared.letters.Valid.the-variants.{Yes, No}
 use Rattle.rows.specs.declared.letters.Category.{Category}
@@ -66,6 +68,15 @@ optionalCurve text = record { given = isGiven text; name = curveNameOf text }
 -- 01: "an empty APID is a key of its own"
 unfoldable pub optionalApid : List ℕ → OptionalApid
 optionalApid text = cond (isGiven text) (Only (naturalOr 0 text)) Any
+
+-- 01: "Offset −1 means unused"
+unfoldable pub identificationField : (offset : ℤ) → (width : ℕ) → IdentificationField
+identificationField (pos byte) width = At (record { 0 = byte }) width
+identificationField (negsuc n) width = Unused
+
+-- the same by the texts of its columns
+abbrev pub identificationAt : List ℕ → List ℕ → IdentificationField
+identificationAt offset width = identificationField (integerOr (pos 0) offset) (naturalOr 0 width)
 
 -- 01: "VALID 1 Y/N default Y"
 unfoldable pub validOf : ℕ → Valid

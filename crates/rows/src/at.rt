@@ -1,13 +1,12 @@
 // What column k, from 0, of a line says, at the places of its columns.
+use crate::records::IdentificationField;
 use crate::records::OptionalApid;
 use crate::records::OptionalCurve;
 use crate::records::OptionalName;
+use crate::values::identification;
 use crate::values::integer_or;
-use crate::values::letter_of;
+use crate::values::is_given;
 use crate::values::natural_or;
-use crate::values::optional_apid;
-use crate::values::optional_curve;
-use crate::values::optional_name;
 use lines::columns::Columns;
 use lines::columns::column;
 use lines::names::CurveName;
@@ -15,71 +14,85 @@ use lines::names::Name;
 use lines::names::curve_name_of;
 use lines::names::name_of;
 ghost use mathlib.Core.Path.{_≡_};
-ghost use Prim.Native.Nat.{_<_};
+ghost use Rattle.lines.specs.Columns.{columnIn};
 ghost use Rattle.lines.specs.Names.{nameOf, curveNameOf};
-ghost use Rattle.rows.specs.Values.{naturalOr, integerOr, letterOf, optionalName, optionalCurve, optionalApid};
-ghost use Rattle.rows.specs.Records.{column};
-ghost use Rattle.lines.specs.Columns.{divided};
-
-fn text_at<'a>(line: &'a [u8], columns: Columns, k: usize) -> &'a [u8]
-    requires { ⌜ (columns ≡ divided (now line)) × (k < 24) ⌝ }
-    ensures { λ r. ⌜ now r ≡ column (now (line .entry)) k ⌝ }
-{
-    column(line, columns, k)
-}
+ghost use Rattle.rows.specs.Values.{naturalOr, integerOr, letterOf, optionalName, optionalCurve, optionalApid, identificationAt};
 
 pub(crate) fn name_at(line: &[u8], columns: Columns, k: usize) -> Name
-    requires { ⌜ (columns ≡ divided (now line)) × (k < 24) ⌝ }
-    ensures { λ r. ⌜ r ≡ nameOf (column (now (line .entry)) k) ⌝ }
+    ensures { λ r. ⌜ r ≡ nameOf (columnIn (now (line .entry)) columns k) ⌝ }
 {
-    name_of(text_at(line, columns, k))
+    name_of(column(line, columns, k))
 }
 
 pub(crate) fn curve_at(line: &[u8], columns: Columns, k: usize) -> CurveName
-    requires { ⌜ (columns ≡ divided (now line)) × (k < 24) ⌝ }
-    ensures { λ r. ⌜ r ≡ curveNameOf (column (now (line .entry)) k) ⌝ }
+    ensures { λ r. ⌜ r ≡ curveNameOf (columnIn (now (line .entry)) columns k) ⌝ }
 {
-    curve_name_of(text_at(line, columns, k))
+    curve_name_of(column(line, columns, k))
 }
 
 pub(crate) fn natural_at(line: &[u8], columns: Columns, k: usize, default: u32) -> u32
-    requires { ⌜ (columns ≡ divided (now line)) × (k < 24) ⌝ }
-    ensures { λ r. ⌜ r ≡ naturalOr default (column (now (line .entry)) k) ⌝ }
+    ensures { λ r. ⌜ r ≡ naturalOr default (columnIn (now (line .entry)) columns k) ⌝ }
 {
-    natural_or(text_at(line, columns, k), default)
+    natural_or(column(line, columns, k), default)
 }
 
 pub(crate) fn integer_at(line: &[u8], columns: Columns, k: usize, default: i64) -> i64
-    requires { ⌜ (columns ≡ divided (now line)) × (k < 24) ⌝ }
-    ensures { λ r. ⌜ r ≡ integerOr default (column (now (line .entry)) k) ⌝ }
+    ensures { λ r. ⌜ r ≡ integerOr default (columnIn (now (line .entry)) columns k) ⌝ }
 {
-    integer_or(text_at(line, columns, k), default)
+    integer_or(column(line, columns, k), default)
 }
 
 pub(crate) fn letter_at(line: &[u8], columns: Columns, k: usize) -> u8
-    requires { ⌜ (columns ≡ divided (now line)) × (k < 24) ⌝ }
-    ensures { λ r. ⌜ r ≡ letterOf (column (now (line .entry)) k) ⌝ }
+    ensures { λ r. ⌜ r ≡ letterOf (columnIn (now (line .entry)) columns k) ⌝ }
 {
-    letter_of(text_at(line, columns, k))
+    let text = column(line, columns, k);
+    if text.len() == 0 {
+        return 0;
+    }
+    text[0]
 }
 
 pub(crate) fn optional_name_at(line: &[u8], columns: Columns, k: usize) -> OptionalName
-    requires { ⌜ (columns ≡ divided (now line)) × (k < 24) ⌝ }
-    ensures { λ r. ⌜ r ≡ optionalName (column (now (line .entry)) k) ⌝ }
+    ensures { λ r. ⌜ r ≡ optionalName (columnIn (now (line .entry)) columns k) ⌝ }
 {
-    optional_name(text_at(line, columns, k))
+    let text = column(line, columns, k);
+    OptionalName {
+        given: is_given(text),
+        name: name_of(text),
+    }
 }
 
 pub(crate) fn optional_curve_at(line: &[u8], columns: Columns, k: usize) -> OptionalCurve
-    requires { ⌜ (columns ≡ divided (now line)) × (k < 24) ⌝ }
-    ensures { λ r. ⌜ r ≡ optionalCurve (column (now (line .entry)) k) ⌝ }
+    ensures { λ r. ⌜ r ≡ optionalCurve (columnIn (now (line .entry)) columns k) ⌝ }
 {
-    optional_curve(text_at(line, columns, k))
+    let text = column(line, columns, k);
+    OptionalCurve {
+        given: is_given(text),
+        name: curve_name_of(text),
+    }
 }
 
 pub(crate) fn optional_apid_at(line: &[u8], columns: Columns, k: usize) -> OptionalApid
-    requires { ⌜ (columns ≡ divided (now line)) × (k < 24) ⌝ }
-    ensures { λ r. ⌜ r ≡ optionalApid (column (now (line .entry)) k) ⌝ }
+    ensures { λ r. ⌜ r ≡ optionalApid (columnIn (now (line .entry)) columns k) ⌝ }
 {
-    optional_apid(text_at(line, columns, k))
+    let text = column(line, columns, k);
+    if is_given(text) {
+        return OptionalApid::Only(natural_or(text, 0));
+    }
+    OptionalApid::Any
+}
+
+// An offset, and its width in another column.
+pub(crate) fn identification_at(
+    line: &[u8],
+    columns: Columns,
+    k: usize,
+    w: usize,
+) -> IdentificationField
+    ensures { λ r. ⌜ r ≡ identificationAt (columnIn (now (line .entry)) columns k) (columnIn (now (line .entry)) columns w) ⌝ }
+{
+    identification(
+        integer_at(line, columns, k, 0),
+        natural_at(line, columns, w, 0),
+    )
 }

@@ -1,5 +1,6 @@
-// The line of each table decoded, at the places of its columns.
+// The line of each table decoded, at the places of its columns as `divide` hands them on.
 use crate::at::curve_at;
+use crate::at::identification_at;
 use crate::at::integer_at;
 use crate::at::letter_at;
 use crate::at::name_at;
@@ -30,12 +31,12 @@ use units::BitOffset;
 use units::ByteOffset;
 use units::Spid;
 ghost use mathlib.Core.Path.{_≡_};
-ghost use Rattle.lines.specs.Columns.{divided};
-ghost use Rattle.rows.specs.Records.{pidRow, picRow, plfRow, pcfRow, cafRow, capRow, txfRow, txpRow, ocfRow, ocpRow};
+ghost use lib.ListN.{getD};
+ghost use Rattle.lines.specs.Columns.{columnIn};
+ghost use Rattle.rows.specs.Records.{pidRowBy, picRowBy, plfRowBy, pcfRowBy, cafRowBy, capRowBy, txfRowBy, txpRowBy, ocfRowBy, ocpRowBy};
 
-pub(crate) fn pid_row(line: &[u8], columns: Columns) -> PidRow
-    requires { ⌜ columns ≡ divided (now line) ⌝ }
-    ensures { λ r. ⌜ r ≡ pidRow (now (line .entry)) ⌝ }
+pub fn pid_row(line: &[u8], columns: Columns) -> PidRow
+    ensures { λ r. ⌜ r ≡ pidRowBy (columnIn (now (line .entry)) columns) ⌝ }
 {
     PidRow {
         ptype: natural_at(line, columns, 0, 0),
@@ -48,24 +49,20 @@ pub(crate) fn pid_row(line: &[u8], columns: Columns) -> PidRow
     }
 }
 
-pub(crate) fn pic_row(line: &[u8], columns: Columns) -> PicRow
-    requires { ⌜ columns ≡ divided (now line) ⌝ }
-    ensures { λ r. ⌜ r ≡ picRow (now (line .entry)) ⌝ }
+pub fn pic_row(line: &[u8], columns: Columns) -> PicRow
+    ensures { λ r. ⌜ r ≡ picRowBy (columnIn (now (line .entry)) columns) ⌝ }
 {
     PicRow {
         ptype: natural_at(line, columns, 0, 0),
         stype: natural_at(line, columns, 1, 0),
-        pi1off: integer_at(line, columns, 2, 0),
-        pi1wid: natural_at(line, columns, 3, 0),
-        pi2off: integer_at(line, columns, 4, 0),
-        pi2wid: natural_at(line, columns, 5, 0),
+        pi1: identification_at(line, columns, 2, 3),
+        pi2: identification_at(line, columns, 4, 5),
         apid: optional_apid_at(line, columns, 6),
     }
 }
 
-pub(crate) fn plf_row(line: &[u8], columns: Columns) -> PlfRow
-    requires { ⌜ columns ≡ divided (now line) ⌝ }
-    ensures { λ r. ⌜ r ≡ plfRow (now (line .entry)) ⌝ }
+pub fn plf_row(line: &[u8], columns: Columns) -> PlfRow
+    ensures { λ r. ⌜ r ≡ plfRowBy (columnIn (now (line .entry)) columns) ⌝ }
 {
     PlfRow {
         name: name_at(line, columns, 0),
@@ -77,9 +74,8 @@ pub(crate) fn plf_row(line: &[u8], columns: Columns) -> PlfRow
     }
 }
 
-pub(crate) fn pcf_row(line: &[u8], columns: Columns) -> PcfRow
-    requires { ⌜ columns ≡ divided (now line) ⌝ }
-    ensures { λ r. ⌜ r ≡ pcfRow (now (line .entry)) ⌝ }
+pub fn pcf_row(line: &[u8], columns: Columns) -> PcfRow
+    ensures { λ r. ⌜ r ≡ pcfRowBy (columnIn (now (line .entry)) columns) ⌝ }
 {
     PcfRow {
         name: name_at(line, columns, 0),
@@ -93,9 +89,8 @@ pub(crate) fn pcf_row(line: &[u8], columns: Columns) -> PcfRow
     }
 }
 
-pub(crate) fn caf_row(line: &[u8], columns: Columns) -> CafRow
-    requires { ⌜ columns ≡ divided (now line) ⌝ }
-    ensures { λ r. ⌜ r ≡ cafRow (now (line .entry)) ⌝ }
+pub fn caf_row(line: &[u8], columns: Columns) -> CafRow
+    ensures { λ r. ⌜ r ≡ cafRowBy (columnIn (now (line .entry)) columns) ⌝ }
 {
     CafRow {
         numbr: curve_at(line, columns, 0),
@@ -106,9 +101,8 @@ pub(crate) fn caf_row(line: &[u8], columns: Columns) -> CafRow
     }
 }
 
-pub(crate) fn cap_row(line: &[u8], columns: Columns) -> CapRow
-    requires { ⌜ columns ≡ divided (now line) ⌝ }
-    ensures { λ r. ⌜ r ≡ capRow (now (line .entry)) ⌝ }
+pub fn cap_row(line: &[u8], columns: Columns) -> CapRow
+    ensures { λ r. ⌜ r ≡ capRowBy (columnIn (now (line .entry)) columns) ⌝ }
 {
     CapRow {
         numbr: curve_at(line, columns, 0),
@@ -117,9 +111,8 @@ pub(crate) fn cap_row(line: &[u8], columns: Columns) -> CapRow
     }
 }
 
-pub(crate) fn txf_row(line: &[u8], columns: Columns) -> TxfRow
-    requires { ⌜ columns ≡ divided (now line) ⌝ }
-    ensures { λ r. ⌜ r ≡ txfRow (now (line .entry)) ⌝ }
+pub fn txf_row(line: &[u8], columns: Columns) -> TxfRow
+    ensures { λ r. ⌜ r ≡ txfRowBy (columnIn (now (line .entry)) columns) ⌝ }
 {
     TxfRow {
         numbr: curve_at(line, columns, 0),
@@ -128,9 +121,8 @@ pub(crate) fn txf_row(line: &[u8], columns: Columns) -> TxfRow
     }
 }
 
-pub(crate) fn txp_row(line: &[u8], columns: Columns) -> TxpRow
-    requires { ⌜ columns ≡ divided (now line) ⌝ }
-    ensures { λ r. ⌜ r ≡ txpRow (now (line .entry)) ⌝ }
+pub fn txp_row(line: &[u8], columns: Columns) -> TxpRow
+    ensures { λ r. ⌜ r ≡ txpRowBy (columnIn (now (line .entry)) columns) (getD (columns .starts) 3 0) (getD (columns .ends) 3 0) ⌝ }
 {
     TxpRow {
         numbr: curve_at(line, columns, 0),
@@ -141,9 +133,8 @@ pub(crate) fn txp_row(line: &[u8], columns: Columns) -> TxpRow
     }
 }
 
-pub(crate) fn ocf_row(line: &[u8], columns: Columns) -> OcfRow
-    requires { ⌜ columns ≡ divided (now line) ⌝ }
-    ensures { λ r. ⌜ r ≡ ocfRow (now (line .entry)) ⌝ }
+pub fn ocf_row(line: &[u8], columns: Columns) -> OcfRow
+    ensures { λ r. ⌜ r ≡ ocfRowBy (columnIn (now (line .entry)) columns) ⌝ }
 {
     OcfRow {
         name: name_at(line, columns, 0),
@@ -154,9 +145,8 @@ pub(crate) fn ocf_row(line: &[u8], columns: Columns) -> OcfRow
     }
 }
 
-pub(crate) fn ocp_row(line: &[u8], columns: Columns) -> OcpRow
-    requires { ⌜ columns ≡ divided (now line) ⌝ }
-    ensures { λ r. ⌜ r ≡ ocpRow (now (line .entry)) ⌝ }
+pub fn ocp_row(line: &[u8], columns: Columns) -> OcpRow
+    ensures { λ r. ⌜ r ≡ ocpRowBy (columnIn (now (line .entry)) columns) ⌝ }
 {
     OcpRow {
         name: name_at(line, columns, 0),

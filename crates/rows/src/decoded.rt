@@ -7,7 +7,6 @@ use crate::decode::pcf_row;
 use crate::decode::pic_row;
 use crate::decode::pid_row;
 use crate::decode::plf_row;
-use crate::decode::txf_row;
 use crate::decode::txp_row;
 use crate::records::CafRow;
 use crate::records::CapRow;
@@ -17,11 +16,10 @@ use crate::records::PcfRow;
 use crate::records::PicRow;
 use crate::records::PidRow;
 use crate::records::PlfRow;
-use crate::records::TxfRow;
 use crate::records::TxpRow;
 use lines::columns::divide;
 ghost use mathlib.Core.Path.{_≡_};
-ghost use Rattle.rows.specs.Records.{pidRow, picRow, plfRow, pcfRow, cafRow, capRow, txfRow, txpRow, ocfRow, ocpRow};
+ghost use Rattle.rows.specs.Records.{pidRow, picRow, plfRow, pcfRow, cafRow, capRow, txpRow, ocfRow, ocpRow};
 
 pub fn pid_of(line: &[u8]) -> PidRow
     ensures { λ r. ⌜ r ≡ pidRow (now (line .entry)) ⌝ }
@@ -57,12 +55,6 @@ pub fn cap_of(line: &[u8]) -> CapRow
     ensures { λ r. ⌜ r ≡ capRow (now (line .entry)) ⌝ }
 {
     cap_row(line, divide(line))
-}
-
-pub fn txf_of(line: &[u8]) -> TxfRow
-    ensures { λ r. ⌜ r ≡ txfRow (now (line .entry)) ⌝ }
-{
-    txf_row(line, divide(line))
 }
 
 pub fn txp_of(line: &[u8]) -> TxpRow

@@ -31,6 +31,12 @@ pub enum OptionalApid {
     Any,
 }
 
+// PI1 or PI2 of a pic row: unused, or from the first bit of a byte on, so many bits wide.
+pub enum IdentificationField {
+    Unused,
+    At(ByteOffset, u32),
+}
+
 pub struct PidRow {
     pub ptype: u32,
     pub stype: u32,
@@ -41,14 +47,11 @@ pub struct PidRow {
     pub valid: Valid,
 }
 
-// An offset of -1 means unused.
 pub struct PicRow {
     pub ptype: u32,
     pub stype: u32,
-    pub pi1off: i64,
-    pub pi1wid: u32,
-    pub pi2off: i64,
-    pub pi2wid: u32,
+    pub pi1: IdentificationField,
+    pub pi2: IdentificationField,
     pub apid: OptionalApid,
 }
 

@@ -1,13 +1,10 @@
-// What a column says: a number after its default, a letter, a name that may be missing.
-use crate::records::OptionalApid;
-use crate::records::OptionalCurve;
-use crate::records::OptionalName;
-use lines::names::curve_name_of;
-use lines::names::name_of;
+// What a text says: a number after its default, whether it was given at all, and a field by its offset and width.
+use crate::records::IdentificationField;
 use numbers::Number;
 use numbers::read_number;
+use units::ByteOffset;
 ghost use mathlib.Core.Path.{_≡_};
-ghost use Rattle.rows.specs.Values.{naturalOr, integerOr, letterOf, isGiven, optionalName, optionalCurve, optionalApid};
+ghost use Rattle.rows.specs.Values.{naturalOr, integerOr, isGiven, identificationField};
 
 pub fn natural_or(text: &[u8], default: u32) -> u32
     ensures { λ r. ⌜ r ≡ naturalOr default (now (text .entry)) ⌝ }
@@ -37,16 +34,7 @@ pub(crate) fn integer_or(text: &[u8], default: i64) -> i64
     }
 }
 
-pub(crate) fn letter_of(text: &[u8]) -> u8
-    ensures { λ r. ⌜ r ≡ letterOf (now (text .entry)) ⌝ }
-{
-    if text.len() == 0 {
-        return 0;
-    }
-    text[0]
-}
-
-fn is_given(text: &[u8]) -> bool
+pub(crate) fn is_given(text: &[u8]) -> bool
     ensures { λ r. ⌜ r ≡ isGiven (now (text .entry)) ⌝ }
 {
     if text.len() == 0 {
@@ -55,29 +43,13 @@ fn is_given(text: &[u8]) -> bool
     true
 }
 
-pub(crate) fn optional_name(text: &[u8]) -> OptionalName
-    ensures { λ r. ⌜ r ≡ optionalName (now (text .entry)) ⌝ }
+// An identification field by its offset, which is negative where it is unused, and its width.
+pub(crate) fn identification(offset: i64, width: u32) -> IdentificationField
+    ensures { λ r. ⌜ r ≡ identificationField offset width ⌝ }
 {
-    OptionalName {
-        given: is_given(text),
-        name: name_of(text),
+    if offset < 0 {
+        return IdentificationField::Unused;
     }
-}
-
-pub(crate) fn optional_curve(text: &[u8]) -> OptionalCurve
-    ensures { λ r. ⌜ r ≡ optionalCurve (now (text .entry)) ⌝ }
-{
-    OptionalCurve {
-        given: is_given(text),
-        name: curve_name_of(text),
-    }
-}
-
-pub(crate) fn optional_apid(text: &[u8]) -> OptionalApid
-    ensures { λ r. ⌜ r ≡ optionalApid (now (text .entry)) ⌝ }
-{
-    if is_given(text) {
-        return OptionalApid::Only(natural_or(text, 0));
-    }
-    OptionalApid::Any
+    let byte = offset as usize;
+    IdentificationField::At(ByteOffset(byte), width)
 }

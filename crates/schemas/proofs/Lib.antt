@@ -1,4 +1,3 @@
-pub mod ForeignLaws
 pub mod Meaning
 pub mod ReasonLaws
 pub mod ShapeLaws

@@ -1,4 +1,4 @@
--- What a row without reasons 1 to 7 is, and a column without reasons 4 to 7. Assumes nothing.
+-- What a row without reasons 1 to 7 is, and a column without reasons 4 to 7.
 use mathlib.Core.Path.{_≡_, refl, sym, _∙_}
 use mathlib.Core.List.{List, [], _∷_}
 use mathlib.Core.Bool.{Bool, true, false, not, cond, _||_, _&&_}
@@ -14,9 +14,9 @@ use borrow.Author.Tests.{eq-eqb, eqb-true, eqb-false, le-ltb, ltb-false, not-fal
 use Rattle.laws.proofs.Cases.{bool-cases, false≢true, and-left, and-right}
 use Rattle.numbers.specs.Number.{numberOf}
 use Rattle.lines.specs.Lines.{Line}
-use Rattle.lines.specs.Columns.{columnsOf, columnAt}
+use Rattle.lines.specs.Columns.{columnsOf, columnAt, foreignIn}
 use Rattle.schemas.specs.Schema.{aNumber, aLetter, Column, text}
-use Rattle.schemas.specs.Reasons.{orElse, foreignIn, isIn, listed, numberReason, kindReason, columnReason, firstReason, shape}
+use Rattle.schemas.specs.Reasons.{orLater, isIn, listed, numberReason, kindReason, columnReason, firstReason, shape}
 
 -- ---- a choice that is 0
 
@@ -30,7 +30,7 @@ neither true b e = absurd (false≢true (sym e))
 neither false b e = (refl, e)
 
 -- no reason, and none later
-no-reason : (r k later : ℕ) → orElse r k later ≡ 0 → (r ≡ 0) × (later ≡ 0)
+no-reason : (r k later : ℕ) → orLater r k later ≡ 0 → (r ≡ 0) × (later ≡ 0)
 no-reason r k later e =
     bool-cases (eqb r 0)
     (λ t. (eqb-true r 0 t, rw t at e))

@@ -1,4 +1,4 @@
--- The walk over a row's columns, and the cases of a row's shape. Assumes nothing.
+-- The walk over a row's columns, and the cases of a row's shape.
 use mathlib.Core.Path.{_≡_, refl, ap, sym, _∙_}
 use mathlib.Core.List.{List, [], _∷_}
 use mathlib.Core.Bool.{true, false}
@@ -8,10 +8,11 @@ use native.Mathlib.Numerals.{add-one}
 use lib.ListN.{length, getD, drop, drop-of-length-le}
 use borrow.Author.Tests.{eq-eqb, ne-eqb, lt-ltb, le-ltb}
 use Rattle.laws.proofs.Lists.{split}
-use Rattle.lines.specs.Columns.{columnsOf}
+use Rattle.lines.specs.declared.columns.Scanned.{Scanned}
+use Rattle.lines.specs.Columns.{columnsOf, divided, foreignIn, scanned}
 use Rattle.schemas.specs.Schema.{Column, text}
-use Rattle.schemas.specs.Reasons.{orElse, columnReason, firstReason, foreignIn, lineOf, shape}
-use Rattle.schemas.specs.Constants.{columnFrom, schemaFrom}
+use Rattle.schemas.specs.Reasons.{verdict, orLater, columnReason, firstReason, lineOf, shape}
+use Rattle.schemas.specs.Constants.{Alike, columnFrom, schemaFrom}
 
 -- ---- a schema by its constants
 
@@ -31,6 +32,17 @@ schema-at (w ∷ ws) (m ∷ ms) [] p q i h = absurd (omega arith)
 schema-at (w ∷ ws) (m ∷ ms) (k ∷ ks) p q zero h = refl
 schema-at (w ∷ ws) (m ∷ ms) (k ∷ ks) p q (suc i) h = schema-at ws ms ks (omega arith) (omega arith) i (omega arith)
 
+-- ---- what the walk over a line tells
+
+module _ (line : List ℕ) {s : Scanned} (e : s ≡ scanned line) where
+  pub scanned-columns : s .columns ≡ divided line
+  unfolding scanned
+  scanned-columns = ap (λ (t : Scanned). t .columns) e
+
+  pub scanned-foreign : s .foreign ≡ foreignIn line
+  unfolding scanned
+  scanned-foreign = ap (λ (t : Scanned). t .foreign) e
+
 -- ---- the columns in turn: k of them have no reason, and what is left gives the verdict of all
 
 pub record Checking (columns : List Column) (texts : List (List ℕ)) (k : ℕ) : Type 0 where
@@ -49,7 +61,7 @@ module _ (ws ms ks : List ℕ) (marked : length ms ≡ length ws) (kinded : leng
       sym (rw (drop-of-length-le (schemaFrom ws ms ks) l)) ∙ c .same
 
   module _ (h : k < length ws) (r : ℕ) (is : r ≡ columnReason (columnFrom (getD ws k 0) (getD ms k 0) (getD ks k 0)) (getD texts k [])) where
-    step : orElse r (k + 1) (firstReason (k + 1 + 1) (drop (k + 1) (schemaFrom ws ms ks)) (drop (k + 1) texts))
+    step : orLater r (k + 1) (firstReason (k + 1 + 1) (drop (k + 1) (schemaFrom ws ms ks)) (drop (k + 1) texts))
         ≡ firstReason 1 (schemaFrom ws ms ks) texts
     unfolding firstReason
     step =
@@ -58,8 +70,8 @@ module _ (ws ms ks : List ℕ) (marked : length ms ≡ length ws) (kinded : leng
         ∙ c .same
 
     -- a reason ends the walk there
-    pub checking-stop : (r ≡ 0 → ⊥) → r * 256 + k + 1 ≡ firstReason 1 (schemaFrom ws ms ks) texts
-    checking-stop z = sym (rw (ne-eqb r 0 z) (omega arith)) ∙ step
+    pub checking-stop : (r ≡ 0 → ⊥) → verdict r (k + 1) ≡ firstReason 1 (schemaFrom ws ms ks) texts
+    checking-stop z = sym (rw (ne-eqb r 0 z)) ∙ step
 
     pub checking-more : r ≡ 0 → Checking (schemaFrom ws ms ks) texts (k + 1)
     checking-more z = record { below = omega (arith, schema-length ws ms ks marked kinded); same = sym (rw (eq-eqb r 0 z)) ∙ step }

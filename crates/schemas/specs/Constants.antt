@@ -1,9 +1,10 @@
 -- The schema of a table as constants keep it: a width, a mark and the number of a kind for each column.
-use Prim.Native.Nat.{ℕ}
+use Prim.Native.Nat.{ℕ, _-_, _≤_}
+use mathlib.Core.Path.{_≡_}
 use mathlib.Core.List.{List, [], _∷_}
 use mathlib.Core.Bool.{Bool, cond}
 use lib.Dec.{eqb, ltb}
-use lib.ListN.{getD}
+use lib.ListN.{length, getD}
 use lib.IntN.{ℤ, pos, negℤ}
 use Rattle.laws.specs.Text.{ascii}
 use Rattle.schemas.specs.Schema.{Kind, anyText, aNumber, aLetter, Column}
@@ -19,23 +20,22 @@ highests =
     pos 0 ∷ pos 255 ∷ pos 65535 ∷ pos 2147483647 ∷ pos 4294967295 ∷ pos 8191 ∷ pos 32 ∷ pos 8191 ∷ pos 7 ∷ pos 9999 ∷ pos 32767 ∷ pos 99 ∷ pos 65535 ∷ pos 100
     ∷ pos 1073741823 ∷ pos 999 ∷ pos 4294967295 ∷ pos 99 ∷ pos 16 ∷ []
 
--- the lists of letters, from kind 19 on
+-- the lists of letters, from kind 128 on
+abbrev pub letterLists : List (List ℕ)
+letterLists =
+    ascii "YN" ∷ ascii "NST" ∷ ascii "RDPHSC" ∷ ascii "PF" ∷ ascii "IUR" ∷ ascii "DHO" ∷ ascii "UC" ∷ ascii "RAI" ∷ ascii "SHDCE" ∷ []
+
 unfoldable pub lettersAt : ℕ → List ℕ
-lettersAt k =
-    cond (eqb k 19) (ascii "YN")
-    (cond (eqb k 20) (ascii "NST")
-    (cond (eqb k 21) (ascii "RDPHSC")
-    (cond (eqb k 22) (ascii "PF")
-    (cond (eqb k 23) (ascii "IUR")
-    (cond (eqb k 24) (ascii "DHO")
-    (cond (eqb k 25) (ascii "UC")
-    (cond (eqb k 26) (ascii "RAI")
-    (cond (eqb k 27) (ascii "SHDCE") []))))))))
+lettersAt k = getD letterLists (k - 128) []
+
+-- the lists one after the other, as a constant keeps them
+unfoldable pub allLetters : List ℕ
+allLetters = ascii "YNNSTRDPHSCPFIURDHOUCRAISHDCE"
 
 unfoldable pub kindAt : ℕ → Kind
 kindAt k =
     cond (eqb k 0) anyText
-    (cond (ltb k 19) (aNumber (getD lowests k (pos 0)) (getD highests k (pos 0)))
+    (cond (ltb k 128) (aNumber (getD lowests k (pos 0)) (getD highests k (pos 0)))
     (aLetter (lettersAt k)))
 
 -- a column by its width, its mark, 1 where it is mandatory, and the number of its kind
@@ -47,3 +47,9 @@ schemaFrom [] ms ks = []
 schemaFrom (w ∷ ws) [] ks = []
 schemaFrom (w ∷ ws) (m ∷ ms) [] = []
 schemaFrom (w ∷ ws) (m ∷ ms) (k ∷ ks) = columnFrom w m k ∷ schemaFrom ws ms ks
+
+-- constants of one table: as many marks and kinds as widths, and no more than there is room for
+pub record Alike (widths marks kinds : List ℕ) : Type 0 where
+  pub few : length widths ≤ 24
+  pub marked : length marks ≡ length widths
+  pub kinded : length kinds ≡ length widths

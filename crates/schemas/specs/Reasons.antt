@@ -4,15 +4,14 @@ use mathlib.Core.Path.{_≡_, refl}
 use mathlib.Core.List.{List, [], _∷_}
 use mathlib.Core.Bool.{Bool, true, false, not, cond, _||_, _&&_}
 use mathlib.Core.Option.{Option, some, none}
-use lib.Dec.{eqb, leb, ltb}
+use lib.Dec.{eqb, ltb}
 use lib.ListN.{length}
 use lib.IntN.{ℤ}
 use lib.Signed.{leZ}
 use Rattle.laws.specs.Lists.{any}
 use Rattle.numbers.specs.Number.{numberOf, meaning, spelt, after, digitOn, digitOf}
 use Rattle.lines.specs.Lines.{Line}
-use Rattle.lines.specs.Columns.{columnsOf, columnsFrom, divided, tab}
-use Rattle.lines.specs.declared.columns.Columns.{Columns}
+use Rattle.lines.specs.Columns.{columnsOf, columnsFrom, divided, printable, allowed, foreignIn}
 use Rattle.schemas.specs.Schema.{Kind, anyText, aNumber, aLetter, Column}
 use Rattle.schemas.specs.Tables.{schema, cap}
 use Rattle.schemas.specs.declared.Table.the-variants.{Cap}
@@ -23,15 +22,8 @@ abbrev pub verdict : ℕ → ℕ → ℕ
 verdict reason column = reason * 256 + column
 
 -- a reason, if there is one, with its column; else what comes after it
-abbrev pub orElse : ℕ → ℕ → ℕ → ℕ
-orElse reason column later = cond (eqb reason 0) later (verdict reason column)
-
--- 01: "Columns are divided by TAB; other bytes are 0x20 to 0x7E"
-unfoldable pub allowed : ℕ → Bool
-allowed b = eqb b tab || (leb 0x20 b && leb b 0x7E)
-
-unfoldable pub foreignIn : List ℕ → Bool
-foreignIn line = any (λ b. not (allowed b)) line
+abbrev pub orLater : ℕ → ℕ → ℕ → ℕ
+orLater reason column later = cond (eqb reason 0) later (verdict reason column)
 
 -- the byte is one of a list
 unfoldable pub isIn : ℕ → List ℕ → Bool
@@ -62,7 +54,7 @@ columnReason c (b ∷ bs) = cond (ltb (c .width) (length (b ∷ bs))) 5 (kindRea
 unfoldable pub firstReason : ℕ → List Column → List (List ℕ) → ℕ
 firstReason k [] texts = 0
 firstReason k (c ∷ cs) [] = 0
-firstReason k (c ∷ cs) (t ∷ texts) = orElse (columnReason c t) k (firstReason (suc k) cs texts)
+firstReason k (c ∷ cs) (t ∷ texts) = orLater (columnReason c t) k (firstReason (suc k) cs texts)
 
 -- 01: "A row is a line ended by LF, at most 512 bytes before it"
 abbrev pub longestRow : ℕ
@@ -79,15 +71,11 @@ shape columns line =
 abbrev pub lineOf : List ℕ → Bool → Line
 lineOf bytes ended = record { bytes = bytes; ended = ended }
 
--- the places of columns kept as two lists, and the number of columns
-abbrev pub placed : List ℕ → List ℕ → ℕ → Columns
-placed starts ends count = record { starts = starts; ends = ends; count = count }
-
 -- the verdict, and the places of the columns, divided once
 unfoldable pub checkedBy : List Column → Line → Checked
 checkedBy columns line = record { verdict = shape columns line; columns = divided (line .bytes) }
 
 -- a cap row: C1, TAB, 5, TAB, 08: "08 is reason 6", at column 3
 pub example : shape (schema Cap) (lineOf (67 ∷ 49 ∷ 9 ∷ 53 ∷ 9 ∷ 48 ∷ 56 ∷ []) true) ≡ verdict 6 3
-unfolding shape schema cap foreignIn allowed columnsOf columnsFrom firstReason columnReason kindReason numberReason numberOf meaning spelt after digitOn digitOf
+unfolding shape schema cap foreignIn allowed printable columnsOf columnsFrom firstReason columnReason kindReason numberReason numberOf meaning spelt after digitOn digitOf
 example = refl

@@ -8,10 +8,10 @@ ghost use Rattle.schemas.specs.Constants.{kindAt, columnFrom};
 // The kind of a column of any text; the numbers' kinds follow it, and from FIRST_LETTERS on the letters'.
 pub(crate) const TEXT: u8 = 0;
 
-const FIRST_LETTERS: u8 = 19;
+const FIRST_LETTERS: u8 = 128;
 
 // The reason of a text that is neither empty nor too wide.
-fn kind_reason(text: &[u8], kind: u8) -> u16
+fn kind_reason(text: &[u8], kind: u8) -> u8
     ensures { λ r. ⌜ r ≡ kindReason (kindAt kind) (now (text .entry)) ⌝ }
 {
     if kind == TEXT {
@@ -24,7 +24,7 @@ fn kind_reason(text: &[u8], kind: u8) -> u16
 }
 
 // The reason of a column with a width, a mark, 1 where it is mandatory, and a kind.
-pub(crate) fn column_reason(text: &[u8], width: u8, mark: u8, kind: u8) -> u16
+pub(crate) fn column_reason(text: &[u8], width: u8, mark: u8, kind: u8) -> u8
     ensures { λ r. ⌜ r ≡ columnReason (columnFrom width mark kind) (now (text .entry)) ⌝ }
 {
     if text.len() == 0 {

@@ -1,34 +1,19 @@
 // The columns of the ten tables, and reasons 1 to 7 of a row's verdict.
 pub mod by_table;
-mod bytes;
 mod column;
 mod letters;
 mod ranges;
 mod tables;
 
-use by_table::check_caf;
-use by_table::check_cap;
-use by_table::check_ocf;
-use by_table::check_ocp;
-use by_table::check_pcf;
-use by_table::check_pic;
-use by_table::check_pid;
-use by_table::check_plf;
-use by_table::check_txf;
-use by_table::check_txp;
-use bytes::is_allowed;
 use column::column_reason;
 use lines::columns::Columns;
-use lines::columns::MOST_COLUMNS;
-use lines::columns::keep_at;
 use lines::columns::part;
+use lines::columns::scan;
 ghost use mathlib.Core.Path.{_≡_};
-ghost use Prim.Native.Nat.{_≤_};
 ghost use lib.ListN.{length};
-ghost use Rattle.lines.specs.Columns.{columnsOf, divided};
-ghost use Rattle.schemas.specs.Tables.{schema};
-ghost use Rattle.schemas.specs.Reasons.{firstReason, foreignIn, shape, lineOf, placed, checkedBy};
-ghost use Rattle.schemas.specs.Constants.{schemaFrom};
+ghost use Rattle.lines.specs.Columns.{columnsOf, divided, foreignIn};
+ghost use Rattle.schemas.specs.Reasons.{verdict, firstReason, shape, lineOf, checkedBy};
+ghost use Rattle.schemas.specs.Constants.{Alike, schemaFrom};
 
 // The tables that the rack carries, in their order.
 pub enum Table {
@@ -53,30 +38,26 @@ pub struct Checked {
     pub columns: Columns,
 }
 
+// Reason and column in one number.
+pub fn verdict_of(reason: u8, column: u8) -> u16
+    ensures { λ r. ⌜ r ≡ verdict reason column ⌝ }
+{
+    (reason as u16) * 256 + (column as u16)
+}
+
 // The first reason of the columns, with its column, or 0.
-fn columns_verdict(
-    line: &[u8],
-    starts: &[usize],
-    ends: &[usize],
-    widths: &[u8],
-    marks: &[u8],
-    kinds: &[u8],
-) -> u16
-    requires { ⌜ placed (now starts) (now ends) (length (now widths)) ≡ divided (now line) ⌝ }
-    requires { ⌜ (length (now starts) ≡ 24) × (length (now ends) ≡ 24) ⌝ }
-    requires { ⌜ (length (now widths) ≤ 24) × (length (now marks) ≡ length (now widths)) × (length (now kinds) ≡ length (now widths)) ⌝ }
+fn columns_verdict(line: &[u8], columns: Columns, widths: &[u8], marks: &[u8], kinds: &[u8]) -> u16
+    requires { ⌜ (columns ≡ divided (now line)) × (columns .count ≡ length (now widths)) ⌝ }
+    requires { ⌜ Alike (now widths) (now marks) (now kinds) ⌝ }
     ensures { λ r. ⌜ r ≡ firstReason 1 (schemaFrom (now (widths .entry)) (now (marks .entry)) (now (kinds .entry))) (columnsOf (now (line .entry))) ⌝ }
 {
     let mut k: usize = 0;
     while k < widths.len() {
-        let reason = column_reason(
-            part(line, starts[k], ends[k]),
-            widths[k],
-            marks[k],
-            kinds[k],
-        );
+        let start = columns.starts[k];
+        let end = columns.ends[k];
+        let reason = column_reason(part(line, start, end), widths[k], marks[k], kinds[k]);
         if reason != 0 {
-            return reason * 256 + (k as u16) + 1;
+            return verdict_of(reason, (k as u8) + 1);
         }
         k += 1;
     }
@@ -88,34 +69,31 @@ fn row_verdict(
     line: &[u8],
     ended: bool,
     foreign: bool,
-    count: usize,
-    starts: &[usize],
-    ends: &[usize],
+    columns: Columns,
     widths: &[u8],
     marks: &[u8],
     kinds: &[u8],
 ) -> u16
-    requires { ⌜ (placed (now starts) (now ends) count ≡ divided (now line)) × (foreign ≡ foreignIn (now line)) ⌝ }
-    requires { ⌜ (length (now starts) ≡ 24) × (length (now ends) ≡ 24) ⌝ }
-    requires { ⌜ (length (now widths) ≤ 24) × (length (now marks) ≡ length (now widths)) × (length (now kinds) ≡ length (now widths)) ⌝ }
+    requires { ⌜ (columns ≡ divided (now line)) × (foreign ≡ foreignIn (now line)) ⌝ }
+    requires { ⌜ Alike (now widths) (now marks) (now kinds) ⌝ }
     ensures { λ r. ⌜ r ≡ shape (schemaFrom (now (widths .entry)) (now (marks .entry)) (now (kinds .entry))) (lineOf (now (line .entry)) ended) ⌝ }
 {
     if ended {
         if LONGEST_ROW < line.len() {
-            return 256;
+            return verdict_of(1, 0);
         }
         if foreign {
-            return 512;
+            return verdict_of(2, 0);
         }
-        if count == widths.len() {
-            return columns_verdict(line, starts, ends, widths, marks, kinds);
+        if columns.count == widths.len() {
+            return columns_verdict(line, columns, widths, marks, kinds);
         }
-        return 768;
+        return verdict_of(3, 0);
     }
-    256
+    verdict_of(1, 0)
 }
 
-// One walk divides the row, as `divide` does, and looks for a byte that may not stand in it.
+// One walk over the row, then its reasons in order.
 pub(crate) fn check_row(
     line: &[u8],
     ended: bool,
@@ -123,67 +101,13 @@ pub(crate) fn check_row(
     marks: &[u8],
     kinds: &[u8],
 ) -> Checked
-    requires { ⌜ (length (now widths) ≤ 24) × (length (now marks) ≡ length (now widths)) × (length (now kinds) ≡ length (now widths)) ⌝ }
+    requires { ⌜ Alike (now widths) (now marks) (now kinds) ⌝ }
     ensures { λ r. ⌜ r ≡ checkedBy (schemaFrom (now (widths .entry)) (now (marks .entry)) (now (kinds .entry))) (lineOf (now (line .entry)) ended) ⌝ }
 {
-    let mut starts: [usize; MOST_COLUMNS] = [0; MOST_COLUMNS];
-    let mut ends: [usize; MOST_COLUMNS] = [0; MOST_COLUMNS];
-    let mut count: usize = 0;
-    let mut start: usize = 0;
-    let mut foreign = false;
-    let mut i: usize = 0;
-    while i < line.len() {
-        let b = line[i];
-        if b == b'\t' {
-            keep_at(&mut starts, count, start);
-            keep_at(&mut ends, count, i);
-            count += 1;
-            i += 1;
-            start = i;
-        } else if is_allowed(b) {
-            i += 1;
-        } else {
-            foreign = true;
-            i += 1;
-        }
-    }
-    keep_at(&mut starts, count, start);
-    keep_at(&mut ends, count, line.len());
-    count += 1;
+    let scanned = scan(line);
+    let columns = scanned.columns;
     Checked {
-        verdict: row_verdict(
-            line,
-            ended,
-            foreign,
-            count,
-            &starts,
-            &ends,
-            widths,
-            marks,
-            kinds,
-        ),
-        columns: Columns {
-            starts,
-            ends,
-            count,
-        },
-    }
-}
-
-// The check of a row of any table.
-pub fn check(table: Table, line: &[u8], ended: bool) -> Checked
-    ensures { λ r. ⌜ r ≡ checkedBy (schema table) (lineOf (now (line .entry)) ended) ⌝ }
-{
-    match table {
-        Table::Pid => check_pid(line, ended),
-        Table::Pic => check_pic(line, ended),
-        Table::Plf => check_plf(line, ended),
-        Table::Pcf => check_pcf(line, ended),
-        Table::Caf => check_caf(line, ended),
-        Table::Cap => check_cap(line, ended),
-        Table::Txf => check_txf(line, ended),
-        Table::Txp => check_txp(line, ended),
-        Table::Ocf => check_ocf(line, ended),
-        Table::Ocp => check_ocp(line, ended),
+        verdict: row_verdict(line, ended, scanned.foreign, columns, widths, marks, kinds),
+        columns,
     }
 }

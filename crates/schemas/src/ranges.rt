@@ -2,14 +2,14 @@
 use numbers::Number;
 use numbers::read_number;
 ghost use mathlib.Core.Path.{_≡_};
-ghost use Prim.Native.Nat.{_<_, _^_};
+ghost use Prim.Native.Nat.{_≤_, _<_, _^_};
 ghost use lib.IntN.{pos, natAbs};
 ghost use lib.ListN.{getD};
 ghost use Rattle.numbers.specs.Number.{numberOf};
 ghost use Rattle.schemas.specs.Reasons.{numberReason};
 ghost use Rattle.schemas.specs.Constants.{lowests, highests};
 
-// The kinds of columns of a number, by their range.
+// The kinds of columns of a number, by their range: from 1 on, and below the letters' first.
 pub(crate) const TO_255: u8 = 1;
 
 pub(crate) const TO_65535: u8 = 2;
@@ -47,7 +47,7 @@ pub(crate) const FROM_1_TO_99: u8 = 17;
 pub(crate) const FROM_1_TO_16: u8 = 18;
 
 // Why a column of a number from `lowest` to `highest` is refused: 6, 7, or 0.
-fn range_reason(text: &[u8], lowest: i64, highest: i64) -> u16
+fn range_reason(text: &[u8], lowest: i64, highest: i64) -> u8
     requires { ⌜ (natAbs lowest < 2 ^ 60) × (natAbs highest < 2 ^ 60) ⌝ }
     ensures { λ r. ⌜ r ≡ numberReason lowest highest (numberOf (now (text .entry))) ⌝ }
 {
@@ -67,8 +67,8 @@ fn range_reason(text: &[u8], lowest: i64, highest: i64) -> u16
 }
 
 // The same by the kind of the column. Each range stands in the code: an array of them would be made anew for each number.
-pub(crate) fn number_reason(text: &[u8], kind: u8) -> u16
-    requires { ⌜ kind < 19 ⌝ }
+pub(crate) fn number_reason(text: &[u8], kind: u8) -> u8
+    requires { ⌜ 1 ≤ kind ⌝ }
     ensures { λ r. ⌜ r ≡ numberReason (getD lowests kind (pos 0)) (getD highests kind (pos 0)) (numberOf (now (text .entry))) ⌝ }
 {
     match kind {

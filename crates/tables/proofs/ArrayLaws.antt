@@ -1,4 +1,4 @@
--- An array of slices, as its bytes. Assumes nothing.
+-- An array of slices, as its bytes.
 use mathlib.Core.Path.{_≡_, sym, _∙_}
 use mathlib.Core.List.{List, [], map}
 use Prim.Native.Nat.{ℕ}

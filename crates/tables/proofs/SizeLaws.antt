@@ -1,4 +1,4 @@
--- The search for a table that is too large, and the count of rows. Assumes nothing.
+-- The search for a table that is too large, and the count of rows.
 use mathlib.Core.Path.{_≡_, refl, sym, _∙_}
 use mathlib.Core.List.{List, [], _∷_}
 use mathlib.Core.Bool.{Bool, true, false, cond}
@@ -12,8 +12,7 @@ use Rattle.laws.proofs.Cases.{cond-cases}
 use Rattle.laws.proofs.Lists.{split}
 use Rattle.lines.specs.Lines.{Line, lineFeed, onFirst, lead, linesOf, whole}
 use Rattle.verdicts.specs.Answer.{firstTable, tooLong, tooManyRows}
-use Rattle.tables.specs.Sizes.{sizesOf}
-use Rattle.tables.specs.declared.Sizes.the-variants.{Fit, TooLong, TooManyRows}
+use Rattle.tables.specs.Sizes.{fit, refusedBy, sizesOf}
 
 -- a search over the tables, from table t on
 module _ (test : List ℕ → Bool) (texts : List (List ℕ)) (t : ℕ) where
@@ -60,15 +59,15 @@ module _ (texts : List (List ℕ)) (t : ℕ) (h : t < length texts) where
 
 -- refusals 1 and 2 by the searches
 module _ (texts : List (List ℕ)) where
-  pub sizes-long : {n : ℕ} → n ≡ tooLong texts → (n ≡ 0 → ⊥) → TooLong n ≡ sizesOf texts
+  pub sizes-long : {n : ℕ} → n ≡ tooLong texts → (n ≡ 0 → ⊥) → refusedBy 1 n ≡ sizesOf texts
   unfolding sizesOf
   sizes-long {n} e h = rw (← e, ne-eqb n 0 h)
 
-  pub sizes-many : {n m : ℕ} → n ≡ tooLong texts → n ≡ 0 → m ≡ tooManyRows texts → (m ≡ 0 → ⊥) → TooManyRows m ≡ sizesOf texts
+  pub sizes-many : {n m : ℕ} → n ≡ tooLong texts → n ≡ 0 → m ≡ tooManyRows texts → (m ≡ 0 → ⊥) → refusedBy 2 m ≡ sizesOf texts
   unfolding sizesOf
   sizes-many {n} {m} e z p h = rw (← e, ← p, eq-eqb n 0 z, ne-eqb m 0 h)
 
-  pub sizes-fit : {n m : ℕ} → n ≡ tooLong texts → n ≡ 0 → m ≡ tooManyRows texts → m ≡ 0 → Fit ≡ sizesOf texts
+  pub sizes-fit : {n m : ℕ} → n ≡ tooLong texts → n ≡ 0 → m ≡ tooManyRows texts → m ≡ 0 → fit ≡ sizesOf texts
   unfolding sizesOf
   sizes-fit {n} {m} e z p h = rw (← e, ← p, eq-eqb n 0 z, eq-eqb m 0 h)
 

@@ -10,7 +10,7 @@ ghost use Rattle.lines.specs.Lines.{lineFeed, linesOf, whole};
 ghost use Rattle.schemas.specs.declared.Table.the-variants.{Ocp};
 ghost use Rattle.verdicts.specs.Entries.{carried};
 ghost use Rattle.verdicts.specs.Answer.{tooLong, tooManyRows};
-ghost use Rattle.tables.specs.Sizes.{sizesOf, totalRows};
+ghost use Rattle.tables.specs.Sizes.{saidSizes, sizesOf};
 
 pub const TABLES: usize = 10;
 
@@ -120,7 +120,7 @@ fn too_many_rows(tables: [&[u8]; TABLES]) -> usize
 
 // Refusals 1 and 2 of any call with tables.
 pub fn check_sizes(tables: [&[u8]; TABLES]) -> Sizes
-    ensures { λ r. ⌜ r ≡ sizesOf (map now (tables .entry)) ⌝ }
+    ensures { λ r. ⌜ saidSizes r ≡ sizesOf (map now (tables .entry)) ⌝ }
 {
     let long = too_long(tables);
     if long != 0 {

@@ -1,4 +1,4 @@
--- Curves, texts and categories, case by case. Assumes nothing.
+-- Curves, texts and categories, case by case.
 use mathlib.Core.Path.{_≡_, refl, ap, subst, _∙_}
 use mathlib.Core.Bool.{Bool, true, false, cond}
 use mathlib.Core.List.{List, [], _∷_, map}

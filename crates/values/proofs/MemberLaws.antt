@@ -1,4 +1,4 @@
--- The rows of a name, picked one after the other. Assumes nothing.
+-- The rows of a name, picked one after the other.
 use mathlib.Core.Path.{_≡_, refl, sym, ap, _∙_}
 use mathlib.Core.Bool.{Bool, true, false}
 use mathlib.Core.List.{List, [], _∷_, _++_, map}

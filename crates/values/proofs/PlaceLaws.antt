@@ -1,4 +1,4 @@
--- Where a column stands in its line, and a line in its table. Assumes nothing.
+-- Where a column stands in its line, and a line in its table.
 use mathlib.Core.Path.{_≡_, refl, sym, ap, _∙_}
 use mathlib.Core.List.{List, [], _∷_, _++_}
 use Prim.Native.Nat.{ℕ, zero, suc, _+_, _-_, _≤_}

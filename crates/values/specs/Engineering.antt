@@ -1,4 +1,4 @@
--- Engineering values. Assumes nothing: these are definitions.
+-- Engineering values.
 use Prim.Native.Nat.{ℕ, _+_, _-_}
 use mathlib.Core.Bool.{cond}
 use mathlib.Core.Path.{_≡_, refl}

@@ -1,4 +1,4 @@
--- The rows of a curve or of a set of texts. Assumes nothing: these are definitions.
+-- The rows of a curve or of a set of texts.
 use Prim.Native.Nat.{ℕ, _<_}
 use mathlib.Core.Path.{_≡_}
 use mathlib.Core.Bool.{Bool}

@@ -1,20 +1,20 @@
--- Laws of texts with escapes and of hexadecimal digits, as a walk meets them. Assumes nothing.
+-- Laws of texts with escapes and of hexadecimal digits, as a walk meets them.
 use mathlib.Core.Path.{_≡_, refl, sym, ap, _∙_}
-use mathlib.Core.Bool.{true, false, cond}
+use mathlib.Core.Bool.{true, false}
 use mathlib.Core.List.{List, [], _∷_, _++_, append-assoc, append-nil}
 use mathlib.Core.Option.{Option, some, none}
-use Prim.Native.Nat.{ℕ, zero, suc, _+_, _-_, _<_, _≤_}
+use Prim.Native.Nat.{ℕ, suc, _+_, _-_, _<_, _≤_}
 use native.Mathlib.Omega.{arith}
 use native.Mathlib.Nat.{add-zero, sub-zero}
 use native.Mathlib.Numerals.{add-one}
-use lib.Dec.{eqb, ltb}
+use lib.Dec.{ltb}
 use lib.ListN.{length, getD, take, drop, set, drop-of-length-le, length-drop, length-append, length-take}
 use lib.Seq.{take-suc-set, getD-drop, drop-drop}
 use borrow.Author.Tests.{eq-eqb, ne-eqb, lt-ltb, le-ltb, ltb-true, ltb-false}
 use Rattle.laws.proofs.Lists.{split}
 use Rattle.laws.proofs.Cases.{bool-cases, false≢true}
 use Rattle.lines.specs.Columns.{partOf}
-use Rattle.vectors.specs.Escapes.{byteOf, byteAt, before, beforeByte, plain, unescaped, hexBytes, within, isOpen, ended, rowBytes}
+use Rattle.vectors.specs.Escapes.{byteAt, before, beforeByte, plain, unescaped, hexBytes, within, isOpen, ended, rowBytes}
 
 -- bytes that are read, and what is still to be read
 unfoldable pub joined : List ℕ → Option (List ℕ) → Option (List ℕ)

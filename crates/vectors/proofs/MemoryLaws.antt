@@ -1,16 +1,15 @@
--- Laws of the memory of a vector file. Assumes nothing.
-use mathlib.Core.Path.{_≡_, refl, sym, ap, _∙_}
-use mathlib.Core.Bool.{Bool, true, false, cond}
-use mathlib.Core.List.{List, [], _∷_}
+-- Laws of the memory of a vector file.
+use mathlib.Core.Path.{_≡_}
+use mathlib.Core.Bool.{true}
+use mathlib.Core.List.{List, []}
 use Prim.Native.Nat.{ℕ, suc, _+_, _*_, _<_, _≤_}
 use native.Mathlib.Omega.{arith}
-use lib.Dec.{ltb}
 use lib.ListN.{length, getD, drop, set, drop-of-length-le}
 use lib.Seq.{sets}
 use borrow.Author.Tests.{lt-ltb, le-ltb}
 use Rattle.laws.proofs.Lists.{split}
 use Rattle.lines.specs.Columns.{partOf}
-use Rattle.vectors.specs.Memory.{Memory, Kept, unread, areaIn, cleared, added}
+use Rattle.vectors.specs.Memory.{Memory, unread, areaIn, cleared, added}
 
 -- Bytes put one after the other
 

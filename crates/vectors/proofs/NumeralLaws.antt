@@ -1,5 +1,5 @@
--- Laws of the numbers that a question names, one for each case. Assumes nothing.
-use mathlib.Core.Path.{_≡_, refl}
+-- Laws of the numbers that a question names, one for each case.
+use mathlib.Core.Path.{_≡_}
 use mathlib.Core.Bool.{true, false}
 use Prim.Native.Nat.{ℕ, _<_, _≤_}
 use lib.IntN.{ℤ, pos, natAbs}
@@ -10,7 +10,6 @@ use Rattle.numbers.specs.declared.Number.the-variants.{Value, NotNumber, Beyond
 use Rattle.vectors.specs.Numerals.{naturalOf, atMost, integerOf}
 use Rattle.vectors.specs.declared.operands.Natural.{Natural}
 use Rattle.vectors.specs.declared.operands.Natural.the-variants as natural
-use Rattle.vectors.specs.declared.operands.Integer.{Integer}
 use Rattle.vectors.specs.declared.operands.Integer.the-variants as integer
 
 module _ (most : ℕ) (o : Natural) where

@@ -1,10 +1,9 @@
--- Laws of questions, one for each case. Assumes nothing.
+-- Laws of questions, one for each case.
 use mathlib.Core.Path.{_≡_, refl, sym, ap, _∙_}
-use mathlib.Core.Bool.{Bool, true, false, cond}
+use mathlib.Core.Bool.{true, false}
 use mathlib.Core.List.{List, [], _∷_, _++_}
 use Prim.Native.Nat.{ℕ, zero, suc, _/_, _%_, _<_, _≤_}
-use lib.Dec.{eqb, leb}
-use lib.IntN.{ℤ}
+use lib.Dec.{leb}
 use lib.ListN.{length}
 use borrow.Author.Tests.{eq-eqb, ne-eqb, leb-true}
 use native.Mathlib.Omega.{arith}
@@ -24,10 +23,9 @@ use Rattle.vectors.specs.Questions.{questionBytesIn, occurrenceIn, byNat
 use Rattle.packets.specs.Identification.{identifyOf}
 use mathlib.Core.Bool.{not}
 use mathlib.Core.List.{map}
-use mathlib.Core.Option.{Option, some, none}
+use mathlib.Core.Option.{some, none}
 use native.Mathlib.Nat.{sub-zero}
 use Prim.Native.Nat.{_+_}
-use lib.Dec.{ltb}
 use lib.ListN.{take, drop, set}
 use denote.Ref.{RefT, now}
 use borrow.Author.Tests.{not-true, not-false, lt-ltb, le-ltb}

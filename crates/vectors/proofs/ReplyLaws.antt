@@ -1,5 +1,5 @@
--- Laws of answers. Assumes nothing.
-use mathlib.Core.Path.{_≡_, refl}
+-- Laws of answers.
+use mathlib.Core.Path.{_≡_}
 use mathlib.Core.Bool.{false}
 use Prim.Native.Nat.{ℕ}
 use native.Mathlib.Omega.{arith}

@@ -1,24 +1,23 @@
--- Laws of the lines that set something, one for each case. Assumes nothing.
-use mathlib.Core.Path.{_≡_, refl, sym, ap, _∙_}
-use mathlib.Core.Bool.{Bool, true, false, cond}
-use mathlib.Core.List.{List, [], _∷_, _++_}
+-- Laws of the lines that set something, one for each case.
+use mathlib.Core.Path.{_≡_, sym, ap, _∙_}
+use mathlib.Core.Bool.{Bool, true, false}
+use mathlib.Core.List.{List, []}
 use mathlib.Core.Option.{Option, some, none}
 use Prim.Native.Nat.{ℕ, _<_, _≤_}
 use native.Mathlib.Nat.{sub-zero}
 use lib.Dec.{eqb, ltb}
-use lib.ListN.{length, getD, take, drop}
+use lib.ListN.{length, getD, take}
 use borrow.Author.Tests.{eq-eqb, ne-eqb, lt-ltb, le-ltb}
 use Rattle.laws.proofs.Cases.{bool-cases}
 use Rattle.lines.specs.Columns.{columnsOf, columnAt, partOf}
 use Rattle.limit_state.specs.declared.state.LimitState.{LimitState}
-use Rattle.vectors.specs.declared.set.SetLine.{SetLine}
 use Rattle.vectors.specs.declared.operands.Natural.{Natural}
 use Rattle.vectors.specs.declared.operands.Natural.the-variants as natural
 use Rattle.vectors.specs.Escapes.{byteOf}
 use Rattle.vectors.specs.Words.{settingOf}
 use Rattle.vectors.specs.Numerals.{naturalIn, atMost}
 use Rattle.vectors.specs.Memory.{Memory, Kept, unread, added, cleared, allCleared}
-use Rattle.vectors.specs.Settings.{byBytes, byteIn, runBytes, addRun, addFill, clearNamed, setArea, setPacket, addPacket, fill, addRow, stateOf, stateIn, setState}
+use Rattle.vectors.specs.Settings.{byBytes, byteIn, runBytes, addRun, addFill, clearNamed, setArea, setPacket, addPacket, fill, addRow, stateIn, setState}
 
 -- the first n bytes of a buffer, as a part of it
 pub read-part : (n : ℕ) (out : List ℕ) {o : Option (List ℕ)} → some (take n out) ≡ o → o ≡ some (partOf out 0 n)

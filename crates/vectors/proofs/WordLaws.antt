@@ -1,14 +1,12 @@
--- Laws of the first word of a line and of a word's place in a list. Assumes nothing.
-use mathlib.Core.Path.{_≡_, refl, sym, ap, _∙_}
-use mathlib.Core.Bool.{Bool, true, false, cond}
-use mathlib.Core.List.{List, [], _∷_}
+-- Laws of the first word of a line and of a word's place in a list.
+use mathlib.Core.Path.{_≡_, ap, _∙_}
+use mathlib.Core.Bool.{true, false}
+use mathlib.Core.List.{List, []}
 use Prim.Native.Nat.{ℕ, suc, _+_, _-_, _<_, _≤_}
 use native.Mathlib.Omega.{arith}
-use lib.Dec.{eqb}
-use lib.ListN.{length, getD, take, drop, drop-of-length-le}
+use lib.ListN.{length, getD, drop, drop-of-length-le}
 use borrow.Author.Tests.{eq-eqb, ne-eqb}
 use Rattle.laws.proofs.Lists.{split}
-use Rattle.laws.proofs.Cases.{cond-cases}
 use native.Mathlib.Nat.{sub-zero}
 use Rattle.lines.specs.Columns.{partOf}
 use Rattle.lines.proofs.ColumnLaws.{part-rest}

@@ -1,7 +1,7 @@
--- Answers as they are held: a template and numbers. Assumes nothing: these are definitions.
+-- Answers as they are held: a template and numbers.
 use Prim.Native.Nat.{ℕ}
 use mathlib.Core.Bool.{Bool, true, false}
-use mathlib.Core.List.{List, [], _∷_, _++_}
+use mathlib.Core.List.{List, [], _∷_}
 use lib.ListN.{length, replicate}
 use Rattle.laws.specs.Text.{ascii}
 use Rattle.lines.specs.Names.{padded}

@@ -1,4 +1,4 @@
--- The bytes that a part of a line stands for. Assumes nothing: these are definitions.
+-- The bytes that a part of a line stands for.
 use Prim.Native.Nat.{ℕ, _+_, _-_, _*_, _≤_}
 use mathlib.Core.Path.{_≡_, refl}
 use mathlib.Core.Bool.{Bool, cond}

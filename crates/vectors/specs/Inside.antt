@@ -1,12 +1,11 @@
--- The questions of what can be seen only inside, by their text. Assumes nothing: these are definitions.
-use Prim.Native.Nat.{ℕ, _^_, _-_}
-use mathlib.Core.Bool.{Bool, true, false, cond}
-use mathlib.Core.List.{List, [], _∷_}
+-- The questions of what can be seen only inside, by their text.
+use Prim.Native.Nat.{ℕ}
+use mathlib.Core.Bool.{true, false, cond}
+use mathlib.Core.List.{List}
 use lib.Dec.{eqb}
-use lib.IntN.{ℤ}
 use lib.ListN.{length}
 use Rattle.lines.specs.Columns.{columnsOf, columnAt}
-use Rattle.rows.specs.Width.{widthOf}
+use Rattle.fields.specs.Width.{widthOf}
 use Rattle.fields.specs.Field.{unsignedAt}
 use Rattle.fields.specs.Sign.{signedAt}
 use Rattle.fields.specs.Text.{stringAt}

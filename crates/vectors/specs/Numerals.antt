@@ -1,4 +1,4 @@
--- The numbers that a question or a setting names. Assumes nothing: these are definitions.
+-- The numbers that a question or a setting names.
 use Prim.Native.Nat.{ℕ}
 use mathlib.Core.Bool.{cond}
 use mathlib.Core.List.{List}

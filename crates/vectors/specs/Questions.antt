@@ -1,6 +1,6 @@
--- Questions asked of tables and a packet, and whether the line under them is the answer. Assumes nothing: these are definitions.
+-- Questions asked of tables and a packet, and whether the line under them is the answer.
 use Prim.Native.Nat.{ℕ, _+_}
-use mathlib.Core.Bool.{Bool, true, false, cond}
+use mathlib.Core.Bool.{cond}
 use mathlib.Core.List.{List, [], _∷_, _++_}
 use mathlib.Core.Option.{Option, some, none}
 use lib.Dec.{eqb, ltb}
@@ -9,7 +9,7 @@ use Rattle.laws.specs.Text.{ascii}
 use Rattle.lines.specs.Columns.{columnsOf, columnAt}
 use Rattle.lines.specs.Names.{sameBytes}
 use Rattle.numbers.specs.Number.{numberOf, answerOf}
-use Rattle.verdicts.specs.Answer.{Imported, importOf, cellsAfter}
+use Rattle.verdicts.specs.Answer.{importOf, cellsAfter}
 use Rattle.packets.specs.Identification.{identifyOf}
 use Rattle.packets.specs.Extraction.{extractOf}
 use Rattle.values.specs.Engineering.{engineerOf}

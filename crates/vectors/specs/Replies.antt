@@ -1,17 +1,15 @@
--- The answer to each question, by what the library says. Assumes nothing: these are definitions.
+-- The answer to each question, by what the library says.
 use Prim.Native.Nat.{ℕ, _/_, _%_}
-use mathlib.Core.Path.{_≡_, refl}
-use mathlib.Core.Bool.{Bool, true, false, cond}
+use mathlib.Core.Bool.{false, cond}
 use mathlib.Core.List.{List, [], _∷_}
+use mathlib.Core.Option.{Option, some, none}
 use lib.Dec.{eqb}
-use lib.IntN.{ℤ, pos, negsuc, natAbs}
+use lib.IntN.{ℤ, pos, natAbs}
 use lib.Signed.{ltZ}
 use Rattle.laws.specs.Text.{ascii}
 use Rattle.laws.specs.Said.{Said, value, refused, free}
 use Rattle.numbers.specs.declared.Number.{Number}
 use Rattle.numbers.specs.declared.Number.the-variants.{Value, NotNumber, Beyond}
-use Rattle.rows.specs.declared.width.Width.{Width}
-use Rattle.rows.specs.declared.width.Width.the-variants.{Bits, Refused}
 use Rattle.verdicts.specs.Answer as import
 use Rattle.packets.specs.Identification as identify
 use Rattle.readings.specs.Readings as extract
@@ -68,9 +66,9 @@ numberAnswer (Value v) = integerAnswer v
 numberAnswer NotNumber = wordsAnswer (ascii "no number")
 numberAnswer Beyond = wordsAnswer (ascii "beyond")
 
-unfoldable pub widthAnswer : Width → Answer
-widthAnswer (Bits bits) = saying (ascii "# bits") false (one bits)
-widthAnswer Refused = wordsAnswer (ascii "none")
+unfoldable pub widthAnswer : Option ℕ → Answer
+widthAnswer (some bits) = saying (ascii "# bits") false (one bits)
+widthAnswer none = wordsAnswer (ascii "none")
 
 unfoldable pub fieldAnswer : Said → Answer
 fieldAnswer (value z) = integerAnswer z

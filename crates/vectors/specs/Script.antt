@@ -1,12 +1,11 @@
 -- What a vector file means: line by line, how many questions of each kind are asked, how many answers differ, and how many lines can't be read.
--- Assumes nothing: these are definitions.
-use Prim.Native.Nat.{ℕ, suc, _+_}
+use Prim.Native.Nat.{ℕ, _+_}
 use mathlib.Core.Path.{_≡_, refl}
-use mathlib.Core.Bool.{Bool, true, false, cond}
-use mathlib.Core.List.{List, [], _∷_, map}
+use mathlib.Core.Bool.{true, false, cond}
+use mathlib.Core.List.{List, [], _∷_}
 use mathlib.Core.Option.{Option, some, none}
 use lib.Dec.{eqb, ltb}
-use lib.ListN.{length, getD, set, replicate}
+use lib.ListN.{getD, set, replicate}
 use Rattle.laws.specs.Text.{ascii, char}
 use Rattle.lines.specs.Lines.{Line, linesOf, lead, onFirst}
 use Rattle.limit_state.specs.declared.state.LimitState.{LimitState}

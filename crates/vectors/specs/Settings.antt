@@ -1,6 +1,6 @@
--- The lines that set tables, the packet and the limit state. Assumes nothing: these are definitions.
+-- The lines that set tables, the packet and the limit state.
 use Prim.Native.Nat.{ℕ}
-use mathlib.Core.Bool.{Bool, true, false, cond}
+use mathlib.Core.Bool.{true, false, cond}
 use mathlib.Core.List.{List, [], _∷_, _++_}
 use mathlib.Core.Option.{Option, some, none}
 use lib.Dec.{eqb, ltb}

@@ -1,4 +1,4 @@
--- An answer as bytes, and what it is to find bytes in a line. Assumes nothing: these are definitions.
+-- An answer as bytes, and what it is to find bytes in a line.
 use Prim.Native.Nat.{ℕ, zero, suc, _+_, _/_, _%_}
 use mathlib.Core.Path.{_≡_, refl}
 use mathlib.Core.Bool.{Bool, true, false, cond}
@@ -8,7 +8,6 @@ use lib.ListN.{length, getD, take}
 use Rattle.io.specs.Digits.{digits}
 use Rattle.laws.specs.Text.{ascii, char}
 use Rattle.fields.specs.Text.{partAt}
-use Rattle.lines.specs.Names.{padded}
 use Rattle.vectors.specs.declared.answer.Answer.{Answer}
 use Rattle.vectors.specs.Answers.{composed, saying, refusing}
 

@@ -1,4 +1,4 @@
--- The first word of a line, and which word of a list it is. Assumes nothing: these are definitions.
+-- The first word of a line, and which word of a list it is.
 use Prim.Native.Nat.{ℕ, suc, _+_}
 use mathlib.Core.Path.{_≡_, refl}
 use mathlib.Core.Bool.{cond}

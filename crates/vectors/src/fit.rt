@@ -1,6 +1,5 @@
 // Bytes expected at a place of a line, each of which moves the place on.
 ghost use mathlib.Core.Path.{_≡_};
-ghost use Prim.Native.Nat.{_≤_};
 ghost use Rattle.vectors.specs.Spoken.{matched, matchedAll};
 
 // One byte more, or past the line's end where the line has another.

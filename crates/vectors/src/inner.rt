@@ -19,10 +19,10 @@ use fields::sign::Signed;
 use fields::sign::read_signed;
 use fields::text::StringAt;
 use fields::text::string_at;
+use fields::width::Width;
+use fields::width::width_of;
 use numbers::Number;
 use numbers::read_number;
-use rows::width::Width;
-use rows::width::width_of;
 use units::BitOffset;
 ghost use mathlib.Core.Path.{_≡_};
 ghost use Prim.Native.Nat.{_≤_};
@@ -32,6 +32,7 @@ ghost use Rattle.fields.specs.Field.{saidUnsigned};
 ghost use Rattle.fields.specs.Sign.{saidSigned};
 ghost use Rattle.fields.specs.Text.{saidString};
 ghost use Rattle.curves.specs.Line.{saidOnLine};
+ghost use Rattle.fields.specs.Width.{bitsOf};
 ghost use Rattle.vectors.specs.Replies.{wordsAnswer, numberAnswer, widthAnswer, fieldAnswer, stringAnswer, lineAnswer};
 ghost use Rattle.vectors.specs.Inside.{pairIn, widthReply, unsignedReply, signedReply, stringReply, lineReply};
 
@@ -53,7 +54,7 @@ pub(crate) fn ask_number(text: &[u8]) -> Answer
 }
 
 fn say_width(width: Width) -> Answer
-    ensures { λ r. ⌜ r ≡ widthAnswer width ⌝ }
+    ensures { λ r. ⌜ r ≡ widthAnswer (bitsOf width) ⌝ }
 {
     match width {
         Width::Bits(bits) => says(b"# bits", false, one(bits as u64)),

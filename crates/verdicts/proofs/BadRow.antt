@@ -1,4 +1,4 @@
--- DEMAND 3: a bad row costs only the rows that lean on it. Assumes nothing.
+-- DEMAND 3: a bad row costs only the rows that lean on it.
 --
 -- For all tables, any line of any table that a line feed ends, and any new bytes without a line feed in its place (`Edit`): every
 -- other row from which the line is reached by no steps, neither in the old tables nor in the new (`Apart`), keeps its verdict. So

@@ -1,4 +1,4 @@
--- The cells that import writes: how many, which is whose, and how many are 0. Assumes nothing.
+-- The cells that import writes: how many, which is whose, and how many are 0.
 use mathlib.Core.Path.{_≡_, refl, ap, _∙_}
 use mathlib.Core.Bool.{Bool, true, false, cond}
 use mathlib.Core.List.{List, _++_}

@@ -1,4 +1,4 @@
--- A row is on a circle just if its VALID chain returns to it: the number of steps in the definition is large enough. Assumes nothing.
+-- A row is on a circle just if its VALID chain returns to it: the number of steps in the definition is large enough.
 use mathlib.Core.Path.{_≡_, refl, _∙_}
 use mathlib.Core.Logic.{_↔_}
 use mathlib.Core.Bool.{Bool, true, false, _||_}

@@ -1,4 +1,4 @@
--- What replacing a line leaves as it was: all rows but the line, and their places. Assumes nothing.
+-- What replacing a line leaves as it was: all rows but the line, and their places.
 use mathlib.Core.Path.{_≡_, refl, sym, ap, _∙_}
 use mathlib.Core.Bool.{true}
 use mathlib.Core.List.{List, [], _∷_, _++_}

@@ -1,4 +1,4 @@
--- Which rows there are, how many, and which stands where. Assumes nothing.
+-- Which rows there are, how many, and which stands where.
 use mathlib.Core.Path.{_≡_, refl, sym, ap, _∙_}
 use mathlib.Core.Logic.{_⊎_, inl, inr}
 use mathlib.Core.Bool.{true}
@@ -15,7 +15,7 @@ use Rattle.laws.proofs.Lists.{at-mem}
 use Rattle.lines.specs.Lines.{Line, linesOf}
 use Rattle.schemas.specs.declared.Table.{Table}
 use Rattle.schemas.specs.declared.Table.the-variants.{Ocp}
-use Rattle.rows.specs.Formed.{formed}
+use Rattle.formed.specs.Formed.{formed}
 use Rattle.verdicts.specs.Entries.{Reading, readingOf, own, Entry, entry, carried, entriesOf, entriesFrom, allRows}
 use Rattle.verdicts.specs.Steps.{twin}
 use Rattle.verdicts.specs.Places.{textAt, noLine, IsRow, entryAt, rowsBefore, place}

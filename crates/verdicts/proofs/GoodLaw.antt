@@ -1,4 +1,4 @@
--- A row's verdict is 0 just if the row is good. Assumes nothing.
+-- A row's verdict is 0 just if the row is good.
 use mathlib.Core.Path.{_≡_, sym, _∙_}
 use mathlib.Core.Logic.{_↔_}
 use mathlib.Core.Bool.{Bool, cond, _&&_}

@@ -1,4 +1,4 @@
--- Keys that pass the test of being the same are equal. Assumes nothing.
+-- Keys that pass the test of being the same are equal.
 use mathlib.Core.Path.{_≡_, refl, sym, ap, _∙_}
 use mathlib.Core.Bool.{true, cond}
 use mathlib.Core.List.{List}

@@ -1,4 +1,4 @@
--- A row without reasons 1 to 9 holds its keys alone. Assumes nothing.
+-- A row without reasons 1 to 9 holds its keys alone.
 use mathlib.Core.Path.{_≡_, sym, _∙_}
 use mathlib.Core.Bool.{true, false, not}
 use mathlib.Core.List.{List, List·Memᴰ}

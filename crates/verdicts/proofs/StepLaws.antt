@@ -1,4 +1,4 @@
--- What makes a step, and that rows with reasons 1 to 8 neither reach nor are reached. Assumes nothing.
+-- What makes a step, and that rows with reasons 1 to 8 neither reach nor are reached.
 use mathlib.Core.Path.{_≡_, sym, _∙_}
 use mathlib.Core.Bool.{true, false, _&&_, _||_}
 use mathlib.Core.List.{List, List·Memᴰ}

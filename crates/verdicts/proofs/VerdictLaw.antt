@@ -1,4 +1,4 @@
--- A verdict is what the rows' own verdicts make it: the number of names in its definition is large enough. Assumes nothing.
+-- A verdict is what the rows' own verdicts make it: the number of names in its definition is large enough.
 use mathlib.Core.Path.{_≡_, ap}
 use mathlib.Core.Bool.{Bool, true, cond}
 use mathlib.Core.List.{List, map}

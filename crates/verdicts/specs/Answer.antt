@@ -9,7 +9,7 @@ use Rattle.lines.specs.Lines.{linesOf}
 use Rattle.verdicts.specs.Entries.{allRows}
 use Rattle.verdicts.specs.Verdicts.{verdicts}
 
--- the paper's number of a refusal and its place, or 0 and the counts of rows and of good rows
+-- the specification's number of a refusal and its place; or the counts of rows and of good rows
 pub data Imported : Type 0 where
   refused : (number place : ℕ) → Imported
   taken : (rows good : ℕ) → Imported

@@ -6,7 +6,7 @@ use lib.Dec.{eqb}
 use Rattle.lines.specs.Lines.{Line, linesOf}
 use Rattle.schemas.specs.declared.Table.{Table}
 use Rattle.schemas.specs.declared.Table.the-variants.{Pid, Pic, Plf, Pcf, Caf, Cap, Txf, Txp, Ocf, Ocp}
-use Rattle.rows.specs.Formed.{formed}
+use Rattle.formed.specs.Formed.{formed}
 use Rattle.verdicts.specs.Facts.{Facts, factsOf}
 
 -- a row's own columns give a verdict of reasons 1 to 8, or else facts

@@ -5,7 +5,7 @@ use mathlib.Core.List.{List, [], _∷_, _++_}
 use Rattle.schemas.specs.declared.Table.{Table}
 use Rattle.schemas.specs.declared.Table.the-variants.{Pid, Pic, Plf, Pcf, Caf, Cap, Txf, Txp, Ocf, Ocp}
 use Rattle.rows.specs.Records.{pidRow, picRow, plfRow, pcfRow, cafRow, capRow, txfRow, txpRow, ocfRow, ocpRow}
-use Rattle.rows.specs.Contradictions.{isWhole}
+use Rattle.formed.specs.Contradictions.{isWhole}
 use Rattle.rows.specs.declared.records.OptionalName.{OptionalName}
 use Rattle.rows.specs.declared.records.OptionalCurve.{OptionalCurve}
 use Rattle.rows.specs.declared.records.PidRow.{PidRow}
@@ -121,7 +121,7 @@ pcfMeets r numeric = isWhole (r .ptc) && isNumeric (r .categ)
 pcfMeets r calibrated = r .curtx .given
 
 -- 01: "S needs CURTX, naming a txf row; N may name a caf row"; T has none
-abbrev curtxKey : Category → OptionalCurve → Key
+abbrev pub curtxKey : Category → OptionalCurve → Key
 curtxKey Numeric c = curve (c .name)
 curtxKey Status c = texts (c .name)
 curtxKey Text c = curve (c .name)
@@ -184,7 +184,7 @@ txpFacts r =
     }
 
 -- 01: "C needs CURTX in that pcf row (reason 11, column 4)"
-abbrev ofEngineering : LimitValue → Naming → List Naming
+abbrev pub ofEngineering : LimitValue → Naming → List Naming
 ofEngineering LV.Raw naming = []
 ofEngineering LV.Engineering naming = naming ∷ []
 

@@ -6,15 +6,15 @@ use mathlib.Core.Bool.{true, false}
 use mathlib.Core.List.{List, [], _∷_, _++_, map}
 use Rattle.laws.specs.Text.{ascii}
 use Rattle.numbers.specs.Number.{digitOf, digitOn, after, spelt, meaning, numberOf}
-use Rattle.lines.specs.Columns.{tab, columnsFrom, columnsOf}
+use Rattle.lines.specs.Columns.{tab, columnsFrom, columnsOf, printable, allowed, foreignIn}
 use Rattle.lines.specs.Lines.{lineFeed, onFirst, lead, linesOf}
 use Rattle.lines.specs.Names.{nameOf, curveNameOf, sameBytes}
 use Rattle.schemas.specs.Tables.{caf, cap, schema}
-use Rattle.schemas.specs.Reasons.{allowed, foreignIn, isIn, listed, numberReason, kindReason, columnReason, firstReason, shape}
+use Rattle.schemas.specs.Reasons.{isIn, listed, numberReason, kindReason, columnReason, firstReason, shape}
 use Rattle.rows.specs.Values.{naturalFrom, naturalOr, integerFrom, integerOr, letterOf, formatOf, offEndsOf}
 use Rattle.rows.specs.Records.{column, cafRow, capRow}
-use Rattle.rows.specs.Contradictions.{isReal, cafContradiction, contradiction}
-use Rattle.rows.specs.Formed.{orContradiction, formed}
+use Rattle.formed.specs.Contradictions.{isReal, cafContradiction, contradiction}
+use Rattle.formed.specs.Formed.{orContradiction, formed}
 use Rattle.verdicts.specs.Key.{curve, parameter, keyWords, sameKey}
 use Rattle.verdicts.specs.Facts.{Naming, anyRow, whole, factsOf, cafFacts, capFacts}
 use Rattle.verdicts.specs.Entries.{Entry, bad, fine, readingOf, entriesOf, entriesFrom, allRows}
@@ -50,7 +50,7 @@ pub record FromBytes : Type 0 where
 pub fromBytes : FromBytes
 unfolding
     digitOf digitOn after spelt meaning numberOf columnsFrom columnsOf onFirst lead linesOf nameOf curveNameOf sameBytes
-    caf cap schema allowed foreignIn isIn listed numberReason kindReason columnReason firstReason shape naturalFrom naturalOr integerFrom integerOr letterOf formatOf offEndsOf
+    caf cap schema printable allowed foreignIn isIn listed numberReason kindReason columnReason firstReason shape naturalFrom naturalOr integerFrom integerOr letterOf formatOf offEndsOf
     column cafRow capRow isReal cafContradiction contradiction orContradiction formed keyWords sameKey factsOf cafFacts capFacts readingOf entriesOf entriesFrom allRows
     twin holds belongs rivals shared sound tally countCell follows next leads circle asked nameCell judge within verdict verdicts
     firstTable tooLong tooManyRows zeros importOf

@@ -1,13 +1,31 @@
-use mathlib.Core.Path.{refl, sym, _∙_}
-use borrow.Author.Needs.{needs}
+-- By what keeping the rows answers.
+use mathlib.Core.Path.{refl, sym}
+use native.Mathlib.Omega.{arith}
+use lib.ListN.{replicate, length-replicate}
+use Rattle.kept.specs.FirstPass.{arrays}
+use Prim.Native.Nat.{ℕ}
 use Rattle.verdicts.specs.Answer.{cellsAfter}
 use Rattle.import.specs.Judged.{said}
-use Rattle.import.proofs.AnswerLaws.{answer-long, answer-many, sizes-taken}
+use Rattle.import.proofs.AnswerLaws.{answer-long, answer-many}
+use Rattle.import.proofs.ImportLaws.{answer-by, kept-long, kept-many, kept-room, kept-done, has-places}
+use borrow.Author.Needs.{needs}
 use Rattle.import.proofs.import.Statement.{statement}
 use Rattle.import.proofs.import.Tie as tie
 
-check-sizes-requires : tie.Need-check-sizes-requires
-check-sizes-requires c κs = search needs
+slice-aggregate-keep : tie.Need-slice-aggregate-keep
+slice-aggregate-keep c = search needs
+
+slice-aggregate-keep-2 : tie.Need-slice-aggregate-keep-2
+slice-aggregate-keep-2 c = search needs
+
+slice-aggregate-keep-3 : tie.Need-slice-aggregate-keep-3
+slice-aggregate-keep-3 c = search needs
+
+slice-aggregate-keep-4 : tie.Need-slice-aggregate-keep-4
+slice-aggregate-keep-4 c = search needs
+
+keep-requires : tie.Need-keep-requires
+keep-requires c κs = search needs
 
 enum-known-table : tie.Need-enum-known-table
 enum-known-table c = search needs
@@ -18,33 +36,59 @@ enum-known-table-2 c = search needs
 enum-told : tie.Need-enum-told
 enum-told c = search needs
 
-import-fitting-requires : tie.Need-import-fitting-requires
-import-fitting-requires c κs = sizes-taken _ 0 (sym (c .before .before .before .check-sizes .ensures) ∙ c .before .enum-told .given .1)
+enum-known-rows : tie.Need-enum-known-rows
+enum-known-rows c = search needs
+
+slice-aggregate-import-kept : tie.Need-slice-aggregate-import-kept
+slice-aggregate-import-kept c = search needs
+
+slice-aggregate-import-kept-2 : tie.Need-slice-aggregate-import-kept-2
+slice-aggregate-import-kept-2 c = search needs
+
+import-kept-requires : tie.Need-import-kept-requires
+import-kept-requires c κs =
+    let k = kept-done _ _ _ _ (c .before .before .before .before .before .before .before .before .before .before .keep .ensures) _ _ (c .before .before .before .before .rows .given .1) in
+    (omega (arith, k .sizes .halves, length-replicate {A = ℕ} 114688 0), omega (arith, k .sizes .bytes, length-replicate {A = ℕ} 71680 0))
 
 returns : tie.Need-returns
 unfolding said cellsAfter
-returns c = (sym (answer-long _ _ (sym (c .before .before .before .check-sizes .ensures) ∙ c .before .table .given .1)), refl)
+returns c = (sym (answer-long _ _ (kept-long _ _ _ _ (c .before .before .before .before .before .before .before .keep .ensures) _ (c .before .table .given .1))), refl)
 
 returns-2 : tie.Need-returns-2
 unfolding said cellsAfter
-returns-2 c = (sym (answer-many _ _ (sym (c .before .before .before .check-sizes .ensures) ∙ c .before .table2 .given .1)), refl)
+returns-2 c = (sym (answer-many _ _ (kept-many _ _ _ _ (c .before .before .before .before .before .before .before .keep .ensures) _ (c .before .table2 .given .1))), refl)
+
+returns-3 : tie.Need-returns-3
+returns-3 c =
+    absurd (kept-room _ _ _ _ (c .before .before .before .before .before .before .keep .ensures)
+    (has-places (arrays (replicate 114688 0) (replicate 73728 0) 0 (replicate 114688 0) (replicate 71680 0)) (sym (length-replicate {A = ℕ} 114688 0)) (sym (length-replicate {A = ℕ} 73728 0)) (sym (length-replicate {A = ℕ} 114688 0)) (sym (length-replicate {A = ℕ} 71680 0)))
+    (c .enum-told .given .1))
 
 same-length : tie.Need-same-length
 same-length c = search needs
 
-returns-3 : tie.Need-returns-3
-returns-3 c = search needs
+returns-4 : tie.Need-returns-4
+returns-4 c =
+    answer-by _ _ _ _ _ (kept-done _ _ _ _ (c .before .before .before .before .before .before .before .before .before .before .before .before .before .keep .ensures) _ _ (c .before .before .before .before .before .before .before .rows .given .1)) _ _ _ (c .before .before .import-kept .ensures)
 
 pub import-spec : {M : Type 1} → statement M
 import-spec =
     tie.close
     (tie.spec
-    check-sizes-requires
+    slice-aggregate-keep
+    slice-aggregate-keep-2
+    slice-aggregate-keep-3
+    slice-aggregate-keep-4
+    keep-requires
     enum-known-table
     enum-known-table-2
     enum-told
-    import-fitting-requires
+    enum-known-rows
+    slice-aggregate-import-kept
+    slice-aggregate-import-kept-2
+    import-kept-requires
     returns
     returns-2
+    returns-3
     same-length
-    returns-3)
+    returns-4)

@@ -1,4 +1,4 @@
--- `numbers::after_hex_mark` meets its contract: a mark alone is no number, and after it stand digits of base 16. Assumes nothing.
+-- `numbers::after_hex_mark` meets its contract: a mark alone is no number, and after it stand digits of base 16.
 use mathlib.Core.Path.{sym, _∙_}
 use Rattle.numbers.specs.Number.{hexMark, meaning, answerOf}
 use Rattle.numbers.proofs.Firsts.{no-first, first-alike, hex-digit}

@@ -1,4 +1,4 @@
--- `numbers::after_minus` meets its contract: 0 stands alone, and any other character must be a decimal digit. Assumes nothing.
+-- `numbers::after_minus` meets its contract: 0 stands alone, and any other character must be a decimal digit.
 use native.Mathlib.Omega.{arith}
 use mathlib.Core.Path.{sym, _∙_}
 use Rattle.numbers.specs.Number.{minus, meaning, answerOf}

@@ -1,4 +1,4 @@
--- `numbers::digit` meets its contract: the tests that led to each return say which case of `digitOf` holds. Assumes nothing.
+-- `numbers::digit` meets its contract: the tests that led to each return say which case of `digitOf` holds.
 use Rattle.numbers.proofs.Digits.{inside, under, over}
 use native.Mathlib.Omega.{arith}
 use Rattle.numbers.specs.Number.{digitOf}

@@ -1,4 +1,4 @@
--- `numbers::read_number` meets its contract: the first character is a minus, a leading 0, or must be a decimal digit. Assumes nothing.
+-- `numbers::read_number` meets its contract: the first character is a minus, a leading 0, or must be a decimal digit.
 use mathlib.Core.Path.{sym, _∙_}
 use Rattle.numbers.specs.Number.{start, meaning, numberOf, answerOf}
 use Rattle.numbers.proofs.Firsts.{no-first, first-then, first-alike, start-minus, start-zero, start-digit}

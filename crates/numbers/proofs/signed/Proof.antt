@@ -1,4 +1,4 @@
--- `numbers::signed` meets its contract: a magnitude below 2 ^ 60 fits a signed word with either sign. Assumes nothing.
+-- `numbers::signed` meets its contract: a magnitude below 2 ^ 60 fits a signed word with either sign.
 use native.Mathlib.Omega.{arith}
 use mathlib.Core.Path.{sym, ap, _∙_}
 use Rattle.numbers.specs.declared.Number.the-variants.{Value}

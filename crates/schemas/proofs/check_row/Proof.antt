@@ -1,153 +1,19 @@
--- The invariant: with the columns to come, those stored are all, and a foreign byte was found, or is to come, exactly where the line has one.
-use Prim.Native.Nat.{_+_, _-_, _≤_, _<_}
-use mathlib.Core.Path.{_≡_, refl, sym, _∙_}
-use native.Mathlib.Omega.{arith}
-use lib.ListN.{length, getD}
-use Rattle.lines.specs.Columns.{withColumn}
-use Rattle.lines.proofs.ColumnLaws.{Walk, walk-start, walk-tab, walk-other, walk-end}
-use Rattle.schemas.specs.Reasons.{placed, checkedBy}
-use Rattle.schemas.proofs.ForeignLaws.{Searched, foreign-tab, foreign-more, foreign-here, foreign-end}
+-- What the walk tells, and the verdict of it.
+use Rattle.schemas.specs.Reasons.{checkedBy}
+use Rattle.schemas.proofs.ShapeLaws.{scanned-columns, scanned-foreign}
 use borrow.Author.Needs.{needs}
 use Rattle.schemas.proofs.check_row.Statement.{statement}
 use Rattle.schemas.proofs.check_row.Tie as tie
 
-abbrev Inv-loop : tie.InvT-loop
-Inv-loop line ended widths marks kinds starts₀ ends₀ count₀ start₀ foreign₀ i₀ starts ends count start foreign i = Walk line (placed starts ends count) start i × (length starts ≡ 24) × (length ends ≡ 24) × Searched line i foreign
+scan-requires : tie.Need-scan-requires
+scan-requires c κs = search needs
 
-abbrev μ-loop : tie.MeasureT-loop
-μ-loop line ended widths marks kinds starts₀ ends₀ count₀ start₀ foreign₀ i₀ starts ends count start foreign i = length line - i
+row-verdict-requires : tie.Need-row-verdict-requires
+row-verdict-requires c κs = let e = c .before .scan .ensures in ((scanned-columns _ e, scanned-foreign _ e), search needs)
 
-loop-holds : tie.Need-loop-holds Inv-loop μ-loop
-loop-holds c = (walk-start _, omega arith, omega arith, refl)
-
-shared-slice-read-b : tie.Need-shared-slice-read-b Inv-loop μ-loop
-shared-slice-read-b c = omega arith
-
-slice-aggregate-keep-at : tie.Need-slice-aggregate-keep-at Inv-loop μ-loop
-slice-aggregate-keep-at c = search needs
-
-keep-at-requires : tie.Need-keep-at-requires Inv-loop μ-loop
-keep-at-requires c κs = tt
-
-slice-aggregate-keep-at-2 : tie.Need-slice-aggregate-keep-at-2 Inv-loop μ-loop
-slice-aggregate-keep-at-2 c = search needs
-
-keep-at-requires-2 : tie.Need-keep-at-requires-2 Inv-loop μ-loop
-keep-at-requires-2 c κs = tt
-
-add-count : tie.Need-add-count Inv-loop μ-loop
-add-count c = omega arith
-
-add-i : tie.Need-add-i Inv-loop μ-loop
-add-i c = omega arith
-
-loop-less : tie.Need-loop-less Inv-loop μ-loop
-loop-less c = omega arith
-
-loop-again : tie.Need-loop-again Inv-loop μ-loop
-unfolding withColumn
-loop-again c = let l = c .before .before .before .before .before .before .before .before .before .loop in
-    let a = c .before .before .before .before .before .before .before .before .before .before .before .before .before .before .args .line .now in
-    let h : l .i < length a = search needs in
-    let t : getD a (l .i) 0 ≡ 9 = search needs in
-    let s = c .before .before .before .before .keep-at .ensures in
-    let e = c .before .keep-at2 .ensures in
-    (walk-tab _ _ _ _ (l .inv .0) h t (λ j. record { starts = s j; ends = e j; count = l .count + 1 }), search needs, search needs, foreign-tab a (l .i) (l .foreign) (l .inv .3) h t)
-
-is-allowed-requires : tie.Need-is-allowed-requires Inv-loop μ-loop
-is-allowed-requires c κs = tt
-
-add-i-2 : tie.Need-add-i-2 Inv-loop μ-loop
-add-i-2 c = omega arith
-
-loop-less-2 : tie.Need-loop-less-2 Inv-loop μ-loop
-loop-less-2 c = omega arith
-
-loop-again-2 : tie.Need-loop-again-2 Inv-loop μ-loop
-loop-again-2 c = let l = c .before .before .before .before .before .loop in
-    let a = c .before .before .before .before .before .before .before .before .before .before .args .line .now in
-    let h : l .i < length a = search needs in
-    (walk-other _ _ _ _ (l .inv .0) h (c .before .before .if1 .left), l .inv .1, l .inv .2, foreign-more a (l .i) (l .foreign) (l .inv .3) h (sym (c .before .is-allowed .ensures) ∙ c .if2 .taken))
-
-add-i-3 : tie.Need-add-i-3 Inv-loop μ-loop
-add-i-3 c = omega arith
-
-loop-less-3 : tie.Need-loop-less-3 Inv-loop μ-loop
-loop-less-3 c = omega arith
-
-loop-again-3 : tie.Need-loop-again-3 Inv-loop μ-loop
-loop-again-3 c = let l = c .before .before .before .before .before .loop in
-    let a = c .before .before .before .before .before .before .before .before .before .before .args .line .now in
-    let h : l .i < length a = search needs in
-    (walk-other _ _ _ _ (l .inv .0) h (c .before .before .if1 .left), l .inv .1, l .inv .2, foreign-here a (l .i) (l .foreign) (l .inv .3) h (sym (c .before .is-allowed .ensures) ∙ c .if2 .left))
-
-slice-aggregate-keep-at-3 : tie.Need-slice-aggregate-keep-at-3 Inv-loop μ-loop
-slice-aggregate-keep-at-3 c = search needs
-
-keep-at-requires-3 : tie.Need-keep-at-requires-3 Inv-loop μ-loop
-keep-at-requires-3 c κs = tt
-
-slice-aggregate-keep-at-4 : tie.Need-slice-aggregate-keep-at-4 Inv-loop μ-loop
-slice-aggregate-keep-at-4 c = search needs
-
-keep-at-requires-4 : tie.Need-keep-at-requires-4 Inv-loop μ-loop
-keep-at-requires-4 c κs = tt
-
-add-count-2 : tie.Need-add-count-2 Inv-loop μ-loop
-add-count-2 c = omega arith
-
-slice-aggregate-row-verdict : tie.Need-slice-aggregate-row-verdict Inv-loop μ-loop
-slice-aggregate-row-verdict c = search needs
-
-slice-aggregate-row-verdict-2 : tie.Need-slice-aggregate-row-verdict-2 Inv-loop μ-loop
-slice-aggregate-row-verdict-2 c = search needs
-
-row-verdict-requires : tie.Need-row-verdict-requires Inv-loop μ-loop
-unfolding withColumn
-row-verdict-requires c κs = let l = c .before .before .before .before .before .before .before .before .before .loop in
-    let a = c .before .before .before .before .before .before .before .before .before .before .before .before .before .before .args .line .now in
-    let s = c .before .before .before .before .before .before .keep-at3 .ensures in
-    let e = c .before .before .before .keep-at4 .ensures in
-    let h : length a ≤ l .i = search needs in
-    (((λ j. record { starts = s j; ends = e j; count = l .count + 1 }) ∙ walk-end _ _ _ _ (l .inv .0) h, foreign-end a (l .i) (l .foreign) (l .inv .3) h), ((search needs, search needs), c .before .before .before .before .before .before .before .before .before .before .before .before .before .before .pre))
-
-returns : tie.Need-returns Inv-loop μ-loop
-unfolding withColumn checkedBy
-returns c = let l = c .before .before .before .before .before .before .before .before .before .before .loop in
-    let s = c .before .before .before .before .before .before .before .keep-at3 .ensures in
-    let e = c .before .before .before .before .keep-at4 .ensures in
-    let d = (λ j. record { starts = s j; ends = e j; count = l .count + 1 }) ∙ walk-end _ _ _ _ (l .inv .0) (search needs) in
-    λ i. record { verdict = c .row-verdict .ensures i; columns = d i }
+returns : tie.Need-returns
+unfolding checkedBy
+returns c = let e = c .before .before .scan .ensures in λ i. record { verdict = c .row-verdict .ensures i; columns = scanned-columns _ e i }
 
 pub check-row-spec : {M : Type 1} → statement M
-check-row-spec =
-    tie.close
-    (tie.spec
-    Inv-loop
-    μ-loop
-    loop-holds
-    shared-slice-read-b
-    slice-aggregate-keep-at
-    keep-at-requires
-    slice-aggregate-keep-at-2
-    keep-at-requires-2
-    add-count
-    add-i
-    loop-less
-    loop-again
-    is-allowed-requires
-    add-i-2
-    loop-less-2
-    loop-again-2
-    add-i-3
-    loop-less-3
-    loop-again-3
-    slice-aggregate-keep-at-3
-    keep-at-requires-3
-    slice-aggregate-keep-at-4
-    keep-at-requires-4
-    add-count-2
-    slice-aggregate-row-verdict
-    slice-aggregate-row-verdict-2
-    row-verdict-requires
-    returns)
+check-row-spec = tie.close (tie.spec scan-requires row-verdict-requires returns)

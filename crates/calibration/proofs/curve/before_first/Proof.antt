@@ -1,4 +1,4 @@
--- `calibration::curve::before_first` meets its contract. Assumes nothing.
+-- `calibration::curve::before_first` meets its contract.
 use Rattle.calibration.proofs.CurveLaws.{before-first}
 use mathlib.Core.Path.{ap, _∙_}
 use Rattle.laws.proofs.Words.{through-word, kept}

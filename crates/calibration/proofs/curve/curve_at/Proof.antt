@@ -1,4 +1,4 @@
--- `calibration::curve::curve_at` meets its contract, by the two points next to the raw value. Assumes nothing.
+-- `calibration::curve::curve_at` meets its contract, by the two points next to the raw value.
 use mathlib.Core.Path.{_≡_, sym, _∙_}
 use Rattle.calibration.specs.Nearest.{notAbove, above}
 use Rattle.calibration.specs.Curve.{through, fromLast, beforeFirst, placed, curveAt, said}

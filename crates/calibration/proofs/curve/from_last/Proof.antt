@@ -1,4 +1,4 @@
--- `calibration::curve::from_last` meets its contract: past the last point, and at it. Assumes nothing.
+-- `calibration::curve::from_last` meets its contract: past the last point, and at it.
 use mathlib.Core.Path.{_≡_, sym, ap, ap₂, _∙_}
 use lib.IntN.{pos}
 use lib.ListN.{getD}

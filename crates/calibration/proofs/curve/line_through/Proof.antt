@@ -1,4 +1,4 @@
--- `calibration::curve::line_through` meets its contract. Assumes nothing.
+-- `calibration::curve::line_through` meets its contract.
 use mathlib.Core.Path.{_∙_}
 use Rattle.laws.proofs.Words.{through-word}
 use Rattle.calibration.specs.Curve.{said}

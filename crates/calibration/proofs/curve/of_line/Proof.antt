@@ -1,4 +1,4 @@
--- `calibration::curve::of_line` meets its contract. Assumes nothing.
+-- `calibration::curve::of_line` meets its contract.
 use mathlib.Core.Path.{ap}
 use mir.Facts.{toZ-ofZ}
 use mir.Syntax.{w64}

@@ -1,4 +1,4 @@
--- `calibration::curve::off_end` meets its contract. Assumes nothing.
+-- `calibration::curve::off_end` meets its contract.
 use Rattle.calibration.specs.Curve.{through, offEnd, said}
 use Rattle.calibration.proofs.WordLaws.{of-word}
 use borrow.Author.Needs.{needs}

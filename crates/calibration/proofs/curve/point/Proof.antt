@@ -1,4 +1,4 @@
--- `calibration::curve::point` meets its contract. Assumes nothing.
+-- `calibration::curve::point` meets its contract.
 use Rattle.laws.proofs.Words.{kept}
 use Rattle.calibration.specs.Curve.{pointAt}
 use borrow.Author.Needs.{needs}

@@ -1,4 +1,4 @@
--- `calibration::ints::item` meets its contract: past the end the element is 0. Assumes nothing.
+-- `calibration::ints::item` meets its contract: past the end the element is 0.
 use lib.IntN.{pos}
 use lib.ListN.{List·getD-eq-default}
 use mathlib.Core.Path.{sym}

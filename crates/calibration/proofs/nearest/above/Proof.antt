@@ -1,4 +1,4 @@
--- `calibration::nearest::above` meets its contract. Assumes nothing.
+-- `calibration::nearest::above` meets its contract.
 use Rattle.calibration.specs.Nearest.{above}
 use Rattle.calibration.proofs.WordLaws.{of-word}
 use borrow.Author.Needs.{needs}

@@ -1,4 +1,4 @@
--- `calibration::nearest::below` meets its contract. Assumes nothing.
+-- `calibration::nearest::below` meets its contract.
 use Rattle.calibration.specs.Nearest.{below}
 use Rattle.calibration.proofs.WordLaws.{of-word}
 use borrow.Author.Needs.{needs}

@@ -1,4 +1,4 @@
--- `calibration::nearest::choose` meets its contract: by the element's side, and by which of two is nearer. Assumes nothing.
+-- `calibration::nearest::choose` meets its contract: by the element's side, and by which of two is nearer.
 use mathlib.Core.Path.{_≡_, sym, ap₂, _∙_}
 use mathlib.Core.Bool.{Bool, true, false, cond}
 use lib.IntN.{pos}

@@ -1,4 +1,4 @@
--- `calibration::nearest::is_nearer` meets its contract, side by side. Assumes nothing.
+-- `calibration::nearest::is_nearer` meets its contract, side by side.
 use Rattle.calibration.proofs.WordLaws.{of-words}
 use lib.Signed.{ltZ}
 use Rattle.calibration.specs.Nearest.{nearer}

@@ -1,4 +1,4 @@
--- `calibration::nearest::nearest` meets its contract: so far the nearest of the first n is found. Assumes nothing.
+-- `calibration::nearest::nearest` meets its contract: so far the nearest of the first n is found.
 use mathlib.Core.Path.{_≡_, refl, ap₂, _∙_}
 use Prim.Native.Nat.{ℕ, _-_, _≤_}
 use native.Mathlib.Omega.{arith}

@@ -1,4 +1,4 @@
--- `calibration::nearest::not_above` meets its contract. Assumes nothing.
+-- `calibration::nearest::not_above` meets its contract.
 use Rattle.calibration.specs.Nearest.{notAbove}
 use Rattle.calibration.proofs.WordLaws.{of-word}
 use borrow.Author.Needs.{needs}

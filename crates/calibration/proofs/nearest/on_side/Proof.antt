@@ -1,4 +1,4 @@
--- `calibration::nearest::on_side` meets its contract, side by side. Assumes nothing.
+-- `calibration::nearest::on_side` meets its contract, side by side.
 use lib.Signed.{ltZ, leZ}
 use Rattle.calibration.specs.Nearest.{passes}
 use Rattle.calibration.proofs.WordLaws.{of-words}

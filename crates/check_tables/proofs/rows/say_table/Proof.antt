@@ -17,6 +17,9 @@ loop-holds c = omega arith
 wrapping-add-usize-requires : tie.Need-wrapping-add-usize-requires Inv-loop μ-loop
 wrapping-add-usize-requires c κs = search needs
 
+wrapping-add-usize-requires-2 : tie.Need-wrapping-add-usize-requires-2 Inv-loop μ-loop
+wrapping-add-usize-requires-2 c κs = search needs
+
 cell-at-requires : tie.Need-cell-at-requires Inv-loop μ-loop
 cell-at-requires c κs = search needs
 
@@ -43,6 +46,7 @@ say-table-spec =
     μ-loop
     loop-holds
     wrapping-add-usize-requires
+    wrapping-add-usize-requires-2
     cell-at-requires
     say-cell-requires
     add-row

@@ -1,4 +1,4 @@
--- `curves::ints::is_negative` meets its contract. Assumes nothing.
+-- `curves::ints::is_negative` meets its contract.
 use mir.Syntax.{w64}
 use mir.ValLaws.{toZ-ofZ}
 use Rattle.curves.proofs.IntLaws.{below-zero}

@@ -1,4 +1,4 @@
--- `curves::ints::lies_within` meets its contract. Assumes nothing.
+-- `curves::ints::lies_within` meets its contract.
 use mathlib.Core.Path.{_≡_, sym, _∙_}
 use lib.Signed.{leZ}
 use mir.Syntax.{w64}

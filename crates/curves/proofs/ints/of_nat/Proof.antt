@@ -1,4 +1,4 @@
--- `curves::ints::of_nat` meets its contract. Assumes nothing.
+-- `curves::ints::of_nat` meets its contract.
 use mir.Syntax.{w64}
 use mir.ValLaws.{toZ-pos}
 use borrow.Author.Needs.{needs}

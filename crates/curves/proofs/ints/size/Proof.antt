@@ -1,4 +1,4 @@
--- `curves::ints::size` meets its contract. Assumes nothing.
+-- `curves::ints::size` meets its contract.
 use mathlib.Core.Path.{_≡_, sym, ap, _∙_}
 use Prim.Native.Nat.{_+_, _-_, _^_, _<_}
 use native.Mathlib.Omega.{arith}

@@ -1,4 +1,4 @@
--- `curves::line::above` meets its contract. Assumes nothing.
+-- `curves::line::above` meets its contract.
 use mathlib.Core.Path.{ap, ap₂, _∙_}
 use lib.IntN.{_+ℤ_}
 use mir.Syntax.{w64}

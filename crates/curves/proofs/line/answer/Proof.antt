@@ -1,4 +1,4 @@
--- `curves::line::answer` meets its contract. Assumes nothing.
+-- `curves::line::answer` meets its contract.
 use mathlib.Core.Path.{_≡_, sym, _∙_}
 use lib.IntN.{pos, negsuc}
 use mir.Syntax.{w64}

@@ -1,4 +1,4 @@
--- `curves::line::below` meets its contract. Assumes nothing.
+-- `curves::line::below` meets its contract.
 use mathlib.Core.Path.{ap, ap₂, _∙_}
 use lib.IntN.{_-ℤ_}
 use mir.Syntax.{w64}

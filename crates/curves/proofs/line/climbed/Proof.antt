@@ -1,4 +1,4 @@
--- `curves::line::climbed` meets its contract: by the signs of the rise and the distance. Assumes nothing.
+-- `curves::line::climbed` meets its contract: by the signs of the rise and the distance.
 use mathlib.Core.Path.{_≡_, sym, ap, ap₂, _∙_}
 use mathlib.Core.Bool.{not}
 use Prim.Native.Nat.{_*_}

@@ -1,4 +1,4 @@
--- `curves::line::drawn` meets its contract: the three differences, of small magnitude. Assumes nothing.
+-- `curves::line::drawn` meets its contract: the three differences, of small magnitude.
 use mathlib.Core.Path.{_≡_, ap, ap₂, _∙_}
 use native.Mathlib.Omega.{arith}
 use lib.IntN.{natAbs, _+ℤ_, _-ℤ_, _*ℤ_}

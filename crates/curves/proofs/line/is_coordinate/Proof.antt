@@ -1,4 +1,4 @@
--- `curves::line::is_coordinate` meets its contract. Assumes nothing.
+-- `curves::line::is_coordinate` meets its contract.
 use mathlib.Core.Path.{_∙_}
 use mir.Syntax.{w64}
 use mir.ValLaws.{toZ-ofZ}

@@ -1,4 +1,4 @@
--- `curves::line::is_point` meets its contract. Assumes nothing.
+-- `curves::line::is_point` meets its contract.
 use mathlib.Core.Path.{_≡_, sym, _∙_}
 use mir.Syntax.{w64}
 use mir.Val.{SFits}

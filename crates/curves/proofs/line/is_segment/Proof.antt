@@ -1,4 +1,4 @@
--- `curves::line::is_segment` meets its contract. Assumes nothing.
+-- `curves::line::is_segment` meets its contract.
 use mathlib.Core.Path.{sym, _∙_}
 use mir.Syntax.{w64}
 use mir.Val.{SFits}

@@ -1,4 +1,4 @@
--- `curves::line::on_line` meets its contract. Assumes nothing.
+-- `curves::line::on_line` meets its contract.
 use lib.IntN.{ℤ}
 use mathlib.Core.Path.{_≡_, sym, ap, _∙_}
 use mir.Syntax.{w64}

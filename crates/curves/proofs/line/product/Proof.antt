@@ -1,4 +1,4 @@
--- `curves::line::product` meets its contract. Assumes nothing.
+-- `curves::line::product` meets its contract.
 use native.Mathlib.Omega.{arith}
 use Rattle.curves.proofs.LineLaws.{product-fits}
 use borrow.Author.Needs.{needs}

@@ -1,4 +1,4 @@
--- `fields::bits::part` meets its contract: a shift of 1 by at most 8 loses nothing. Assumes nothing.
+-- `fields::bits::part` meets its contract: a shift of 1 by at most 8 loses nothing.
 use native.Mathlib.Omega.{arith}
 use lib.Pow.{pow-pos}
 use Rattle.fields.proofs.BitLaws.{one-shl}

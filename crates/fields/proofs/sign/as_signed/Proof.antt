@@ -1,4 +1,4 @@
--- `fields::sign::as_signed` meets its contract: by the first bit. Assumes nothing.
+-- `fields::sign::as_signed` meets its contract: by the first bit.
 use mathlib.Core.Path.{_≡_, _∙_}
 use Prim.Native.Nat.{ℕ, _-_, _*_, _%_, _^_, _≤_}
 use native.Mathlib.Omega.{arith}

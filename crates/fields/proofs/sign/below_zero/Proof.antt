@@ -1,4 +1,4 @@
--- `fields::sign::below_zero` meets its contract. Assumes nothing.
+-- `fields::sign::below_zero` meets its contract.
 use mir.Syntax.{w64}
 use mir.ValLaws.{toZ-pos}
 use Rattle.laws.proofs.Words.{through-word}

@@ -1,4 +1,4 @@
--- `fields::sign::read_signed` meets its contract: by what the unsigned reading says of the field. Assumes nothing.
+-- `fields::sign::read_signed` meets its contract: by what the unsigned reading says of the field.
 use native.Mathlib.Omega.{arith}
 use lib.IntN.{pos}
 use Rattle.laws.proofs.Words.{kept}

@@ -1,4 +1,4 @@
--- `fields::sign::twos_complement` meets its contract. Assumes nothing.
+-- `fields::sign::twos_complement` meets its contract.
 use mathlib.Core.Path.{ap, _∙_}
 use native.Mathlib.Omega.{arith}
 use Rattle.laws.proofs.Words.{kept}

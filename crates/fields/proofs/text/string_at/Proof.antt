@@ -1,4 +1,4 @@
--- `fields::text::string_at` meets its contract. Assumes nothing.
+-- `fields::text::string_at` meets its contract.
 use native.Mathlib.Omega.{arith}
 use Rattle.fields.specs.Text.{saidString}
 use Rattle.fields.proofs.TextLaws.{string-none, string-outside, string-off-byte, string-inside}

@@ -1,4 +1,4 @@
--- `fields::text::string_part` meets its contract. Assumes nothing.
+-- `fields::text::string_part` meets its contract.
 use native.Mathlib.Omega.{arith}
 use Rattle.fields.proofs.TextLaws.{part-out, part-to}
 use borrow.Author.Needs.{needs}

@@ -1,4 +1,4 @@
--- `limits::checks::is_violated` meets its contract: below LVALU, and above HVALU. Assumes nothing.
+-- `limits::checks::is_violated` meets its contract: below LVALU, and above HVALU.
 use mathlib.Core.Path.{_≡_, sym, ap₂, _∙_}
 use lib.Signed.{ltZ}
 use mir.Facts.{toZ-ofZ}

@@ -1,4 +1,4 @@
--- `limits::severity::after_reading` meets its contract, severity by severity. Assumes nothing.
+-- `limits::severity::after_reading` meets its contract, severity by severity.
 use Rattle.limit_state.specs.Severity.{afterReading}
 use borrow.Author.Needs.{needs}
 use Rattle.limit_state.proofs.severity.after_reading.Statement.{statement}

@@ -1,4 +1,4 @@
--- `limits::severity::raise` meets its contract. Assumes nothing.
+-- `limits::severity::raise` meets its contract.
 use native.Mathlib.Omega.{arith}
 use Rattle.limit_state.specs.Severity.{raised}
 use borrow.Author.Needs.{needs}

@@ -1,4 +1,4 @@
--- `limits::severity::violate` meets its contract, from NBCHCK on and before it. Assumes nothing.
+-- `limits::severity::violate` meets its contract, from NBCHCK on and before it.
 use Prim.Native.Nat.{_≤_, _<_}
 use native.Mathlib.Omega.{arith}
 use borrow.Author.Tests.{le-leb, lt-leb}

@@ -1,4 +1,4 @@
--- `limits::state::has_number` meets its contract, test by test. Assumes nothing.
+-- `limits::state::has_number` meets its contract, test by test.
 use borrow.Author.Tests.{eq-eqb, ne-eqb}
 use Rattle.limit_state.specs.State.{hasNumber}
 use Rattle.limit_state.proofs.state.has_number.Statement.{statement}

@@ -1,4 +1,4 @@
--- `limits::state::is_newer` meets its contract. Assumes nothing.
+-- `limits::state::is_newer` meets its contract.
 use borrow.Author.Tests.{lt-leb, le-leb}
 use Rattle.limit_state.specs.State.{isNewer, ahead}
 use borrow.Author.Needs.{needs}

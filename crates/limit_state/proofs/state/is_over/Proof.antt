@@ -1,4 +1,4 @@
--- `limits::state::is_over` meets its contract, test by test. Assumes nothing.
+-- `limits::state::is_over` meets its contract, test by test.
 use borrow.Author.Tests.{lt-ltb, le-ltb}
 use Rattle.limit_state.specs.State.{isOver}
 use Rattle.limit_state.proofs.state.is_over.Statement.{statement}

@@ -1,4 +1,4 @@
--- `limits::state::is_state` meets its contract, by the laws of a state. Assumes nothing.
+-- `limits::state::is_state` meets its contract, by the laws of a state.
 use mathlib.Core.Path.{sym, _∙_}
 use Rattle.limit_state.proofs.StateLaws.{over-no-state, fresh-state, used-state}
 use borrow.Author.Needs.{needs}

@@ -1,4 +1,4 @@
--- The invariant: the occurrences left answer what all answer from the start. Assumes nothing.
+-- The invariant: the occurrences left answer what all answer from the start.
 use mathlib.Core.Path.{_≡_, refl, ap, sym, _∙_}
 use mathlib.Core.Logic.{⊎-elim}
 use mathlib.Core.List.{[], _∷_}

@@ -1,4 +1,4 @@
--- By what the scale says of the value. Assumes nothing.
+-- By what the scale says of the value.
 use mathlib.Core.Path.{_≡_, ap, _∙_}
 use mir.Facts.{toZ-ofZ}
 use mir.Val.{SFits, toZ, ofZ}

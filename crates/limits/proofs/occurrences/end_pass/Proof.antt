@@ -1,4 +1,4 @@
--- 30 before 31. Assumes nothing.
+-- 30 before 31.
 use mathlib.Core.Path.{ap₂}
 use mathlib.Core.Bool.{false}
 use Prim.Native.Nat.{ℕ}

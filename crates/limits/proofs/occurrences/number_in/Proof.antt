@@ -1,4 +1,4 @@
--- Each kind of raw value. Assumes nothing.
+-- Each kind of raw value.
 use mathlib.Core.Path.{_≡_, ap, _∙_}
 use mathlib.Core.List.{[], _∷_}
 use lib.IntN.{ℤ}

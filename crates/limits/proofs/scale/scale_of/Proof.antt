@@ -1,4 +1,4 @@
--- By INTER, by CURTX, and by the ends of its curve. Assumes nothing.
+-- By INTER, by CURTX, and by the ends of its curve.
 use mathlib.Core.Path.{sym, _∙_}
 use borrow.Author.Needs.{needs}
 use borrow.Author.Tests.{not-true, not-false}

@@ -1,4 +1,4 @@
--- By the scale. Assumes nothing.
+-- By the scale.
 use mir.Facts.{toZ-ofZ}
 use borrow.Author.Needs.{needs}
 use Rattle.calibration.specs.Curve as curve

@@ -1,5 +1,6 @@
 -- By the sizes of the tables.
-use mathlib.Core.Path.{sym, _∙_}
+use mathlib.Core.Path.{ap, sym, _∙_}
+use Rattle.tables.specs.Sizes.{saidSizes}
 use borrow.Author.Needs.{needs}
 use Rattle.packets.specs.Refusals.{numberOf, placeOf}
 use Rattle.packets.proofs.TakenLaws.{size-long, size-many, size-fit, small-answer}
@@ -22,21 +23,21 @@ enum-told c = search needs
 
 step-fitting-requires : tie.Need-step-fitting-requires
 step-fitting-requires c κs =
-    let k = size-fit _ (sym (c .before .before .check-sizes .ensures) ∙ c .enum-told .given .1) in
+    let k = size-fit _ (sym (c .before .before .check-sizes .ensures) ∙ ap saidSizes (c .enum-told .given .1)) in
     (k .short, k .few)
 
 returns : tie.Need-returns
 unfolding said numberOf placeOf limitStepBy
-returns c = size-long refused _ _ (sym (c .before .before .before .check-sizes .ensures) ∙ c .before .table .given .1)
+returns c = size-long refused _ _ (sym (c .before .before .before .check-sizes .ensures) ∙ ap saidSizes (c .before .table .given .1))
 
 returns-2 : tie.Need-returns-2
 unfolding said numberOf placeOf limitStepBy
-returns-2 c = size-many refused _ _ (sym (c .before .before .before .check-sizes .ensures) ∙ c .before .table2 .given .1)
+returns-2 c = size-many refused _ _ (sym (c .before .before .before .check-sizes .ensures) ∙ ap saidSizes (c .before .table2 .given .1))
 
 returns-3 : tie.Need-returns-3
 unfolding limitStepBy
 returns-3 c =
-    c .step-fitting .ensures ∙ small-answer refused _ _ (size-fit _ (sym (c .before .before .before .check-sizes .ensures) ∙ c .before .enum-told .given .1))
+    c .step-fitting .ensures ∙ small-answer refused _ _ (size-fit _ (sym (c .before .before .before .check-sizes .ensures) ∙ ap saidSizes (c .before .enum-told .given .1)))
 
 pub limit-step-by-spec : {M : Type 1} → statement M
 limit-step-by-spec =

@@ -1,4 +1,4 @@
--- `lines::columns::column` meets its contract. Assumes nothing.
+-- `lines::columns::column` meets its contract.
 use mathlib.Core.Path.{_≡_, sym}
 use native.Mathlib.Omega.{arith}
 use lib.ListN.{length}

@@ -1,4 +1,4 @@
--- `lines::columns::keep_at` meets its contract: past the room, to set is to change nothing. Assumes nothing.
+-- `lines::columns::keep_at` meets its contract: past the room, to set is to change nothing.
 use mathlib.Core.Path.{sym}
 use native.Mathlib.Omega.{arith}
 use lib.Seq.{set-out}

@@ -1,4 +1,4 @@
--- `lines::columns::part` meets its contract. Assumes nothing.
+-- `lines::columns::part` meets its contract.
 use mathlib.Core.Path.{sym, _∙_}
 use native.Mathlib.Omega.{arith}
 use Rattle.laws.proofs.Lists.{rest}

@@ -1,4 +1,4 @@
--- `lines::names::same_bytes` meets its contract. The invariant: what is left is the same where the whole is. Assumes nothing.
+-- `lines::names::same_bytes` meets its contract. The invariant: what is left is the same where the whole is.
 use mathlib.Core.Path.{_≡_, refl, sym, _∙_}
 use Prim.Native.Nat.{_-_, _≤_}
 use native.Mathlib.Omega.{arith}

@@ -1,4 +1,4 @@
--- `lines::names::same_curve_name` meets its contract. Assumes nothing.
+-- `lines::names::same_curve_name` meets its contract.
 use Rattle.lines.specs.Names.{sameCurveName}
 use borrow.Author.Needs.{needs}
 use Rattle.lines.proofs.names.same_curve_name.Statement.{statement}

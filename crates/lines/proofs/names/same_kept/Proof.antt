@@ -1,4 +1,4 @@
--- `lines::names::same_kept` meets its contract. Assumes nothing.
+-- `lines::names::same_kept` meets its contract.
 use native.Mathlib.Omega.{arith}
 use borrow.Author.Tests.{eq-eqb, ne-eqb}
 use borrow.Author.Needs.{needs}

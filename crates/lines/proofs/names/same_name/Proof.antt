@@ -1,4 +1,4 @@
--- `lines::names::same_name` meets its contract. Assumes nothing.
+-- `lines::names::same_name` meets its contract.
 use Rattle.lines.specs.Names.{sameName}
 use borrow.Author.Needs.{needs}
 use Rattle.lines.proofs.names.same_name.Statement.{statement}

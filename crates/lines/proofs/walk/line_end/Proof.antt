@@ -1,4 +1,4 @@
--- `lines::walk::line_end` meets its contract. The invariant: from here the line ends where it ends from its start. Assumes nothing.
+-- `lines::walk::line_end` meets its contract. The invariant: from here the line ends where it ends from its start.
 use mathlib.Core.Path.{_≡_, refl}
 use Prim.Native.Nat.{_+_, _-_}
 use native.Mathlib.Omega.{arith}

@@ -1,4 +1,4 @@
--- `lines::walk::next_line` meets its contract. Assumes nothing.
+-- `lines::walk::next_line` meets its contract.
 use borrow.Author.Tests.{lt-ltb, le-ltb}
 use Rattle.lines.specs.Lines.{nextLine}
 use borrow.Author.Needs.{needs}

@@ -1,4 +1,4 @@
--- The invariant: the cells of the tables that are passed are skipped. Assumes nothing.
+-- The invariant: the cells of the tables that are passed are skipped.
 use Prim.Native.Nat.{_-_}
 use native.Mathlib.Omega.{arith}
 use mathlib.Core.List.{map}

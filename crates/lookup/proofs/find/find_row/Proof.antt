@@ -1,4 +1,4 @@
--- The invariant: the first place that passes is the first from i on. Assumes nothing.
+-- The invariant: the first place that passes is the first from i on.
 use Prim.Native.Nat.{_-_, _≤_}
 use native.Mathlib.Omega.{arith}
 use mathlib.Core.Path.{_≡_, sym, _∙_}

@@ -1,4 +1,4 @@
--- The line ends where the next line feed stands, or the table. Assumes nothing.
+-- The line ends where the next line feed stands, or the table.
 use native.Mathlib.Omega.{arith}
 use Rattle.lines.proofs.LineLaws.{Bounds, next-bounds}
 use Rattle.lookup.proofs.FindLaws.{line-none, line-part}

@@ -1,4 +1,4 @@
--- By the space of the key, the row of its table is read and compared. Assumes nothing.
+-- By the space of the key, the row of its table is read and compared.
 use Rattle.lookup.proofs.HoldLaws.{holds-packet, holds-identification, holds-any, holds-location, holds-parameter, holds-limits}
 use borrow.Author.Needs.{needs}
 use Rattle.lookup.proofs.holds.holds_key.Statement.{statement}

@@ -1,4 +1,4 @@
--- The numbers, and then the APID that is given. Assumes nothing.
+-- The numbers, and then the APID that is given.
 use Rattle.lookup.proofs.HoldLaws.{other-type, other-subtype, same-apid, not-any}
 use borrow.Author.Needs.{needs}
 use Rattle.lookup.proofs.holds.is_identification.Statement.{statement}

@@ -1,4 +1,4 @@
--- The numbers, and then that no APID is given. Assumes nothing.
+-- The numbers, and then that no APID is given.
 use Rattle.lookup.proofs.HoldLaws.{other-type, other-subtype, not-only, same-any}
 use borrow.Author.Needs.{needs}
 use Rattle.lookup.proofs.holds.is_identification_of_any.Statement.{statement}

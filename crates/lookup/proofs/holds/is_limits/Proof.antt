@@ -1,4 +1,4 @@
--- The key of a parameter's limits is its name. Assumes nothing.
+-- The key of a parameter's limits is its name.
 use Rattle.lookup.proofs.HoldLaws.{same-limits}
 use borrow.Author.Needs.{needs}
 use Rattle.lookup.proofs.holds.is_limits.Statement.{statement}

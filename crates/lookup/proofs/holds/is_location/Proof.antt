@@ -1,4 +1,4 @@
--- The SPID, and then the name. Assumes nothing.
+-- The SPID, and then the name.
 use Rattle.lookup.proofs.HoldLaws.{other-spid, same-location}
 use borrow.Author.Needs.{needs}
 use Rattle.lookup.proofs.holds.is_location.Statement.{statement}

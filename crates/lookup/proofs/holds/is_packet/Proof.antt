@@ -1,4 +1,4 @@
--- Only a row with VALID Y has a packet's key. Assumes nothing.
+-- Only a row with VALID Y has a packet's key.
 use Rattle.lookup.proofs.HoldLaws.{valid-row, invalid-row}
 use borrow.Author.Needs.{needs}
 use Rattle.lookup.proofs.holds.is_packet.Statement.{statement}

@@ -1,4 +1,4 @@
--- A parameter's key is its name. Assumes nothing.
+-- A parameter's key is its name.
 use Rattle.lookup.proofs.HoldLaws.{same-parameter}
 use borrow.Author.Needs.{needs}
 use Rattle.lookup.proofs.holds.is_parameter.Statement.{statement}

@@ -1,4 +1,4 @@
--- Each number is compared where the ones before it are the same. Assumes nothing.
+-- Each number is compared where the ones before it are the same.
 use Rattle.lookup.proofs.HoldLaws.{other-ptype, other-stype, other-apid, other-pi1, same-pi2}
 use borrow.Author.Needs.{needs}
 use Rattle.lookup.proofs.holds.same_numbers.Statement.{statement}

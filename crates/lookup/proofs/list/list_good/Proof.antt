@@ -1,4 +1,4 @@
--- The invariant: with the rows left, the arrays are as they were with all rows listed. Assumes nothing.
+-- The invariant: with the rows left, the arrays are as they were with all rows listed.
 use Prim.Native.Nat.{_-_}
 use native.Mathlib.Omega.{arith}
 use borrow.Author.Tests.{not-true, not-false}

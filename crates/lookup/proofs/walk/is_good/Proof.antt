@@ -1,4 +1,4 @@
--- A row's cell, where it has one. Assumes nothing.
+-- A row's cell, where it has one.
 use Rattle.lookup.proofs.GoodLaws.{good-cell, good-none}
 use borrow.Author.Needs.{needs}
 use Rattle.lookup.proofs.walk.is_good.Statement.{statement}

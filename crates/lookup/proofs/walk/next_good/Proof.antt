@@ -1,4 +1,4 @@
--- The invariant: the rows that are left here are those left at the start. Assumes nothing.
+-- The invariant: the rows that are left here are those left at the start.
 use Prim.Native.Nat.{_-_}
 use native.Mathlib.Omega.{arith}
 use mathlib.Core.Path.{refl, sym, _∙_}

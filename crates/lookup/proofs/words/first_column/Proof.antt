@@ -1,4 +1,4 @@
--- The invariant: no TAB is passed. Assumes nothing.
+-- The invariant: no TAB is passed.
 use Prim.Native.Nat.{_-_, _≤_}
 use native.Mathlib.Omega.{arith}
 use mathlib.Core.Path.{_≡_, sym}

@@ -1,4 +1,4 @@
--- The word of the curve's name in the first column. Assumes nothing.
+-- The word of the curve's name in the first column.
 use Rattle.lookup.proofs.WordLaws.{curve-bytes, curve-first}
 use borrow.Author.Needs.{needs}
 use Rattle.lookup.proofs.words.first_curve.Statement.{statement}

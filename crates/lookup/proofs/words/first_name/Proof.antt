@@ -1,4 +1,4 @@
--- The word of the name in the first column. Assumes nothing.
+-- The word of the name in the first column.
 use Rattle.lookup.proofs.WordLaws.{name-bytes, name-first}
 use borrow.Author.Needs.{needs}
 use Rattle.lookup.proofs.words.first_name.Statement.{statement}

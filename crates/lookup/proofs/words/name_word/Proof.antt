@@ -1,4 +1,4 @@
--- Eight bytes have 64 bits. Assumes nothing.
+-- Eight bytes have 64 bits.
 use Rattle.lookup.proofs.WordLaws.{word-read, word-inside, word-wide}
 use borrow.Author.Needs.{needs}
 use Rattle.lookup.proofs.words.name_word.Statement.{statement}

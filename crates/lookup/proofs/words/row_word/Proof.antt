@@ -1,4 +1,4 @@
--- By the table of the row. Assumes nothing.
+-- By the table of the row.
 use Rattle.lookup.proofs.WordLaws.{none-pid, none-pic, name-plf, name-pcf, curve-caf, curve-cap, curve-txf, curve-txp, name-ocf, name-ocp}
 use borrow.Author.Needs.{needs}
 use Rattle.lookup.proofs.words.row_word.Statement.{statement}

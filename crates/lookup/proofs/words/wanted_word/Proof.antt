@@ -1,4 +1,4 @@
--- By the space of the key. Assumes nothing.
+-- By the space of the key.
 use Rattle.lookup.proofs.WordLaws.{wanted-packet, wanted-identification, wanted-any, wanted-location, wanted-parameter, wanted-limits}
 use native.Mathlib.Omega.{arith}
 use borrow.Author.Needs.{needs}

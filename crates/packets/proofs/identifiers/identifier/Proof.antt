@@ -1,35 +1,26 @@
--- By the sign of the offset, which passed its word unchanged.
-use mathlib.Core.Path.{_≡_, ap, _∙_}
-use Prim.Native.Nat.{_*_}
-use lib.IntN.{ℤ, natAbs}
-use mir.Syntax.{w64}
-use mir.Val.{toZ, ofZ}
+-- By the field's case.
+use Rattle.packets.specs.Identifiers.{saidField, identifierAt}
 use borrow.Author.Needs.{needs}
-use Rattle.laws.proofs.Words.{through-word}
-use Rattle.packets.specs.Identifiers.{saidField, readIdentifier}
-use Rattle.fields.specs.Field.{unsignedAt}
-use Rattle.packets.proofs.IdentifierLaws.{unused, used, offset-fits}
 use Rattle.packets.proofs.identifiers.identifier.Statement.{statement}
 use Rattle.packets.proofs.identifiers.identifier.Tie as tie
 
-word : (s : tie.Start) → toZ w64 (ofZ w64 (s .args .offset)) ≡ s .args .offset
-word s = through-word _ (s .fits .offset .sfits)
+enum-told : tie.Need-enum-told
+enum-told c = search needs
 
-returns : tie.Need-returns
-unfolding saidField
-returns c = unused _ _ _ (rw (word (c .before .before)) at (c .if1 .taken))
-
-cast-byte : tie.Need-cast-byte
-cast-byte c = let s = c .before .before in rw (word s) (offset-fits (s .args .offset) (s .fits .offset .sfits) (rw (word s) at (c .if1 .left)))
+enum-known-field : tie.Need-enum-known-field
+enum-known-field c = search needs
 
 field-at-requires : tie.Need-field-at-requires
 field-at-requires c κs = search needs
 
+returns : tie.Need-returns
+unfolding saidField identifierAt
+returns c = rw (c .enum-told .given .1)
+
 returns-2 : tie.Need-returns-2
-returns-2 c = let s = c .before .before .before in
-    c .field-at .ensures
-    ∙ ap (λ (z : ℤ). readIdentifier (natAbs z) (unsignedAt (s .args .p .now) (natAbs z * 8) (s .args .width))) (word s)
-    ∙ used (s .args .p .now) (s .args .offset) (s .args .width) (rw (word s) at (c .before .if1 .left))
+unfolding identifierAt
+returns-2 c = rw (c .before .before .field .given .1) (c .field-at .ensures)
 
 pub identifier-spec : {M : Type 1} → statement M
-identifier-spec = tie.close (tie.spec returns cast-byte field-at-requires returns-2)
+identifier-spec =
+    tie.close (tie.spec enum-told enum-known-field field-at-requires returns returns-2)

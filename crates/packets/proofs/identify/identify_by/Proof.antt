@@ -1,5 +1,6 @@
 -- By the sizes of the tables.
-use mathlib.Core.Path.{sym, _∙_}
+use mathlib.Core.Path.{ap, sym, _∙_}
+use Rattle.tables.specs.Sizes.{saidSizes}
 use borrow.Author.Needs.{needs}
 use Rattle.packets.specs.Refusals.{numberOf, placeOf}
 use Rattle.packets.specs.Identification.{said, refused, identifyBy}
@@ -20,20 +21,20 @@ enum-told : tie.Need-enum-told
 enum-told c = search needs
 
 identify-fitting-requires : tie.Need-identify-fitting-requires
-identify-fitting-requires c κs = size-fit _ (sym (c .before .before .check-sizes .ensures) ∙ c .enum-told .given .1) .few
+identify-fitting-requires c κs = size-fit _ (sym (c .before .before .check-sizes .ensures) ∙ ap saidSizes (c .enum-told .given .1)) .few
 
 returns : tie.Need-returns
 unfolding said numberOf placeOf identifyBy
-returns c = size-long refused _ _ (sym (c .before .before .before .check-sizes .ensures) ∙ c .before .table .given .1)
+returns c = size-long refused _ _ (sym (c .before .before .before .check-sizes .ensures) ∙ ap saidSizes (c .before .table .given .1))
 
 returns-2 : tie.Need-returns-2
 unfolding said numberOf placeOf identifyBy
-returns-2 c = size-many refused _ _ (sym (c .before .before .before .check-sizes .ensures) ∙ c .before .table2 .given .1)
+returns-2 c = size-many refused _ _ (sym (c .before .before .before .check-sizes .ensures) ∙ ap saidSizes (c .before .table2 .given .1))
 
 returns-3 : tie.Need-returns-3
 unfolding identifyBy
 returns-3 c =
-    c .identify-fitting .ensures ∙ small-answer refused _ _ (size-fit _ (sym (c .before .before .before .check-sizes .ensures) ∙ c .before .enum-told .given .1))
+    c .identify-fitting .ensures ∙ small-answer refused _ _ (size-fit _ (sym (c .before .before .before .check-sizes .ensures) ∙ ap saidSizes (c .before .enum-told .given .1)))
 
 pub identify-by-spec : {M : Type 1} → statement M
 identify-by-spec =

@@ -1,7 +1,8 @@
 -- By the packet's length and the width of the pcf row's type.
-use mathlib.Core.Path.{sym, _∙_}
+use mathlib.Core.Path.{ap, sym, _∙_}
 use Rattle.readings.specs.RawValues.{saidRaw}
 use Rattle.readings.proofs.RawLaws.{packet-too-long, raw-in-bits, raw-refused, width-wide}
+use Rattle.fields.specs.Width.{bitsOf}
 use borrow.Author.Needs.{needs}
 use Rattle.readings.proofs.raw.raw_of.Statement.{statement}
 use Rattle.readings.proofs.raw.raw_of.Tie as tie
@@ -20,7 +21,9 @@ enum-known-width : tie.Need-enum-known-width
 enum-known-width c = search needs
 
 occurrence-raw-requires : tie.Need-occurrence-raw-requires
-occurrence-raw-requires c κs = let w = c .before .before .before in (w .before .before .if1 .left, width-wide _ _ _ (sym (w .width-of .ensures) ∙ c .before .width .given .1))
+unfolding bitsOf
+occurrence-raw-requires c κs = let w = c .before .before .before in
+    (w .before .before .if1 .left, width-wide _ _ _ (sym (w .width-of .ensures) ∙ ap bitsOf (c .before .width .given .1)))
 
 enum-told : tie.Need-enum-told
 enum-told c = search needs

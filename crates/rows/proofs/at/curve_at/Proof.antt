@@ -1,16 +1,17 @@
 -- What the column's text says.
-use borrow.Author.Needs.{needs}
+use mathlib.Core.Path.{ap, _∙_}
+use Rattle.lines.specs.Names.{curveNameOf}
 use Rattle.rows.proofs.at.curve_at.Statement.{statement}
 use Rattle.rows.proofs.at.curve_at.Tie as tie
 
-text-at-requires : tie.Need-text-at-requires
-text-at-requires c κs = search needs
+column-requires : tie.Need-column-requires
+column-requires c κs = tt
 
 curve-name-of-requires : tie.Need-curve-name-of-requires
-curve-name-of-requires c κs = search needs
+curve-name-of-requires c κs = tt
 
 returns : tie.Need-returns
-returns c = cc
+returns c = c .curve-name-of .ensures ∙ ap curveNameOf (c .before .column .ensures)
 
 pub curve-at-spec : {M : Type 1} → statement M
-curve-at-spec = tie.close (tie.spec text-at-requires curve-name-of-requires returns)
+curve-at-spec = tie.close (tie.spec column-requires curve-name-of-requires returns)

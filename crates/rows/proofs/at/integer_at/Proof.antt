@@ -2,18 +2,17 @@
 use mir.Facts.{toZ-ofZ}
 use mathlib.Core.Path.{_∙_}
 use Rattle.laws.proofs.Words.{kept}
-use borrow.Author.Needs.{needs}
 use Rattle.rows.proofs.at.integer_at.Statement.{statement}
 use Rattle.rows.proofs.at.integer_at.Tie as tie
 
-text-at-requires : tie.Need-text-at-requires
-text-at-requires c κs = search needs
+column-requires : tie.Need-column-requires
+column-requires c κs = tt
 
 integer-or-requires : tie.Need-integer-or-requires
-integer-or-requires c κs = search needs
+integer-or-requires c κs = tt
 
 returns : tie.Need-returns
-returns c = kept (c .integer-or .ok) (c .integer-or .ensures ∙ rw (toZ-ofZ (c .before .before .before .fits .default), c .before .text-at .ensures))
+returns c = kept (c .integer-or .ok) (c .integer-or .ensures ∙ rw (toZ-ofZ (c .before .before .before .fits .default), c .before .column .ensures))
 
 pub integer-at-spec : {M : Type 1} → statement M
-integer-at-spec = tie.close (tie.spec text-at-requires integer-or-requires returns)
+integer-at-spec = tie.close (tie.spec column-requires integer-or-requires returns)

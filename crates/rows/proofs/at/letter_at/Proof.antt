@@ -1,16 +1,22 @@
--- What the column's text says.
+-- The first byte, or 0.
+use mathlib.Core.Path.{ap, _∙_}
+use Rattle.rows.specs.Values.{letterOf}
+use Rattle.rows.proofs.ValueLaws.{letter-none, letter-first}
 use borrow.Author.Needs.{needs}
 use Rattle.rows.proofs.at.letter_at.Statement.{statement}
 use Rattle.rows.proofs.at.letter_at.Tie as tie
 
-text-at-requires : tie.Need-text-at-requires
-text-at-requires c κs = search needs
-
-letter-of-requires : tie.Need-letter-of-requires
-letter-of-requires c κs = search needs
+column-requires : tie.Need-column-requires
+column-requires c κs = tt
 
 returns : tie.Need-returns
-returns c = cc
+returns c = letter-none _ (c .if1 .taken) ∙ ap letterOf (c .before .column .ensures)
+
+shared-slice-read-result : tie.Need-shared-slice-read-result
+shared-slice-read-result c = search needs
+
+returns-2 : tie.Need-returns-2
+returns-2 c = letter-first _ (c .before .if1 .left) ∙ ap letterOf (c .before .before .column .ensures)
 
 pub letter-at-spec : {M : Type 1} → statement M
-letter-at-spec = tie.close (tie.spec text-at-requires letter-of-requires returns)
+letter-at-spec = tie.close (tie.spec column-requires returns shared-slice-read-result returns-2)

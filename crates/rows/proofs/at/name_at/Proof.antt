@@ -1,16 +1,17 @@
 -- What the column's text says.
-use borrow.Author.Needs.{needs}
+use mathlib.Core.Path.{ap, _∙_}
+use Rattle.lines.specs.Names.{nameOf}
 use Rattle.rows.proofs.at.name_at.Statement.{statement}
 use Rattle.rows.proofs.at.name_at.Tie as tie
 
-text-at-requires : tie.Need-text-at-requires
-text-at-requires c κs = search needs
+column-requires : tie.Need-column-requires
+column-requires c κs = tt
 
 name-of-requires : tie.Need-name-of-requires
-name-of-requires c κs = search needs
+name-of-requires c κs = tt
 
 returns : tie.Need-returns
-returns c = cc
+returns c = c .name-of .ensures ∙ ap nameOf (c .before .column .ensures)
 
 pub name-at-spec : {M : Type 1} → statement M
-name-at-spec = tie.close (tie.spec text-at-requires name-of-requires returns)
+name-at-spec = tie.close (tie.spec column-requires name-of-requires returns)

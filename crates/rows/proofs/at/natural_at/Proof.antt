@@ -1,16 +1,17 @@
 -- What the column's text says.
-use borrow.Author.Needs.{needs}
+use mathlib.Core.Path.{ap, _∙_}
+use Rattle.rows.specs.Values.{naturalOr}
 use Rattle.rows.proofs.at.natural_at.Statement.{statement}
 use Rattle.rows.proofs.at.natural_at.Tie as tie
 
-text-at-requires : tie.Need-text-at-requires
-text-at-requires c κs = search needs
+column-requires : tie.Need-column-requires
+column-requires c κs = tt
 
 natural-or-requires : tie.Need-natural-or-requires
-natural-or-requires c κs = search needs
+natural-or-requires c κs = tt
 
 returns : tie.Need-returns
-returns c = cc
+returns c = c .natural-or .ensures ∙ ap (naturalOr _) (c .before .column .ensures)
 
 pub natural-at-spec : {M : Type 1} → statement M
-natural-at-spec = tie.close (tie.spec text-at-requires natural-or-requires returns)
+natural-at-spec = tie.close (tie.spec column-requires natural-or-requires returns)

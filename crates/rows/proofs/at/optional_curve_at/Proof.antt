@@ -1,16 +1,20 @@
--- What the column's text says.
-use borrow.Author.Needs.{needs}
+-- Both fields are the callees' answers.
+use Rattle.rows.specs.Values.{optionalCurve}
 use Rattle.rows.proofs.at.optional_curve_at.Statement.{statement}
 use Rattle.rows.proofs.at.optional_curve_at.Tie as tie
 
-text-at-requires : tie.Need-text-at-requires
-text-at-requires c κs = search needs
+column-requires : tie.Need-column-requires
+column-requires c κs = tt
 
-optional-curve-requires : tie.Need-optional-curve-requires
-optional-curve-requires c κs = search needs
+is-given-requires : tie.Need-is-given-requires
+is-given-requires c κs = tt
+
+curve-name-of-requires : tie.Need-curve-name-of-requires
+curve-name-of-requires c κs = tt
 
 returns : tie.Need-returns
-returns c = cc
+unfolding optionalCurve
+returns c = rw (c .before .is-given .ensures, c .curve-name-of .ensures, c .before .before .column .ensures)
 
 pub optional-curve-at-spec : {M : Type 1} → statement M
-optional-curve-at-spec = tie.close (tie.spec text-at-requires optional-curve-requires returns)
+optional-curve-at-spec = tie.close (tie.spec column-requires is-given-requires curve-name-of-requires returns)

@@ -1,21 +1,19 @@
 -- Each field is its column's.
 use Rattle.laws.proofs.Words.{kept}
-use Rattle.rows.specs.Records.{capRow}
 use borrow.Author.Needs.{needs}
 use Rattle.rows.proofs.decode.cap_row.Statement.{statement}
 use Rattle.rows.proofs.decode.cap_row.Tie as tie
 
 curve-at-requires : tie.Need-curve-at-requires
-curve-at-requires c κs = search needs
+curve-at-requires c κs = tt
 
 integer-at-requires : tie.Need-integer-at-requires
-integer-at-requires c κs = search needs
+integer-at-requires c κs = tt
 
 integer-at-requires-2 : tie.Need-integer-at-requires-2
-integer-at-requires-2 c κs = search needs
+integer-at-requires-2 c κs = tt
 
 returns : tie.Need-returns
-unfolding capRow
 returns c = λ i. record {
   numbr = c .before .before .curve-at .ensures i;
   xvals = kept (c .before .integer-at .ok) (c .before .integer-at .ensures) i;

@@ -2,37 +2,35 @@
 use Rattle.laws.proofs.Words.{kept}
 use mathlib.Core.Path.{ap, _∙_}
 use Rattle.rows.specs.Values.{checkTypeOf}
-use Rattle.rows.specs.Records.{ocpRow}
 use borrow.Author.Needs.{needs}
 use Rattle.rows.proofs.decode.ocp_row.Statement.{statement}
 use Rattle.rows.proofs.decode.ocp_row.Tie as tie
 
 name-at-requires : tie.Need-name-at-requires
-name-at-requires c κs = search needs
+name-at-requires c κs = tt
 
 natural-at-requires : tie.Need-natural-at-requires
-natural-at-requires c κs = search needs
+natural-at-requires c κs = tt
 
 letter-at-requires : tie.Need-letter-at-requires
-letter-at-requires c κs = search needs
+letter-at-requires c κs = tt
 
 check-type-of-requires : tie.Need-check-type-of-requires
-check-type-of-requires c κs = search needs
+check-type-of-requires c κs = tt
 
 integer-at-requires : tie.Need-integer-at-requires
-integer-at-requires c κs = search needs
+integer-at-requires c κs = tt
 
 integer-at-requires-2 : tie.Need-integer-at-requires-2
-integer-at-requires-2 c κs = search needs
+integer-at-requires-2 c κs = tt
 
 optional-name-at-requires : tie.Need-optional-name-at-requires
-optional-name-at-requires c κs = search needs
+optional-name-at-requires c κs = tt
 
 integer-at-requires-3 : tie.Need-integer-at-requires-3
-integer-at-requires-3 c κs = search needs
+integer-at-requires-3 c κs = tt
 
 returns : tie.Need-returns
-unfolding ocpRow
 returns c = λ i. record {
   name = c .before .before .before .before .before .before .before .name-at .ensures i;
   pos = c .before .before .before .before .before .before .natural-at .ensures i;

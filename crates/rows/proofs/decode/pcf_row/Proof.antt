@@ -2,43 +2,41 @@
 use Rattle.laws.proofs.Words.{kept}
 use mathlib.Core.Path.{ap, _∙_}
 use Rattle.rows.specs.Values.{categoryOf, natureOf}
-use Rattle.rows.specs.Records.{pcfRow}
 use borrow.Author.Needs.{needs}
 use Rattle.rows.proofs.decode.pcf_row.Statement.{statement}
 use Rattle.rows.proofs.decode.pcf_row.Tie as tie
 
 name-at-requires : tie.Need-name-at-requires
-name-at-requires c κs = search needs
+name-at-requires c κs = tt
 
 natural-at-requires : tie.Need-natural-at-requires
-natural-at-requires c κs = search needs
+natural-at-requires c κs = tt
 
 natural-at-requires-2 : tie.Need-natural-at-requires-2
-natural-at-requires-2 c κs = search needs
+natural-at-requires-2 c κs = tt
 
 optional-name-at-requires : tie.Need-optional-name-at-requires
-optional-name-at-requires c κs = search needs
+optional-name-at-requires c κs = tt
 
 letter-at-requires : tie.Need-letter-at-requires
-letter-at-requires c κs = search needs
+letter-at-requires c κs = tt
 
 category-of-requires : tie.Need-category-of-requires
-category-of-requires c κs = search needs
+category-of-requires c κs = tt
 
 letter-at-requires-2 : tie.Need-letter-at-requires-2
-letter-at-requires-2 c κs = search needs
+letter-at-requires-2 c κs = tt
 
 nature-of-requires : tie.Need-nature-of-requires
-nature-of-requires c κs = search needs
+nature-of-requires c κs = tt
 
 optional-curve-at-requires : tie.Need-optional-curve-at-requires
-optional-curve-at-requires c κs = search needs
+optional-curve-at-requires c κs = tt
 
 integer-at-requires : tie.Need-integer-at-requires
-integer-at-requires c κs = search needs
+integer-at-requires c κs = tt
 
 returns : tie.Need-returns
-unfolding pcfRow
 returns c = λ i. record {
   name = c .before .before .before .before .before .before .before .before .before .name-at .ensures i;
   ptc = c .before .before .before .before .before .before .before .before .natural-at .ensures i;

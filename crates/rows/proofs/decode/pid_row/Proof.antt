@@ -1,37 +1,35 @@
 -- Each field is its column's.
 use mathlib.Core.Path.{ap, _∙_}
 use Rattle.rows.specs.Values.{validOf}
-use Rattle.rows.specs.Records.{pidRow}
 use borrow.Author.Needs.{needs}
 use Rattle.rows.proofs.decode.pid_row.Statement.{statement}
 use Rattle.rows.proofs.decode.pid_row.Tie as tie
 
 natural-at-requires : tie.Need-natural-at-requires
-natural-at-requires c κs = search needs
+natural-at-requires c κs = tt
 
 natural-at-requires-2 : tie.Need-natural-at-requires-2
-natural-at-requires-2 c κs = search needs
+natural-at-requires-2 c κs = tt
 
 natural-at-requires-3 : tie.Need-natural-at-requires-3
-natural-at-requires-3 c κs = search needs
+natural-at-requires-3 c κs = tt
 
 natural-at-requires-4 : tie.Need-natural-at-requires-4
-natural-at-requires-4 c κs = search needs
+natural-at-requires-4 c κs = tt
 
 natural-at-requires-5 : tie.Need-natural-at-requires-5
-natural-at-requires-5 c κs = search needs
+natural-at-requires-5 c κs = tt
 
 natural-at-requires-6 : tie.Need-natural-at-requires-6
-natural-at-requires-6 c κs = search needs
+natural-at-requires-6 c κs = tt
 
 letter-at-requires : tie.Need-letter-at-requires
-letter-at-requires c κs = search needs
+letter-at-requires c κs = tt
 
 valid-of-requires : tie.Need-valid-of-requires
-valid-of-requires c κs = search needs
+valid-of-requires c κs = tt
 
 returns : tie.Need-returns
-unfolding pidRow
 returns c = λ i. record {
   ptype = c .before .before .before .before .before .before .before .natural-at .ensures i;
   stype = c .before .before .before .before .before .before .natural-at2 .ensures i;

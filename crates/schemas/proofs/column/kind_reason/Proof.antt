@@ -18,7 +18,7 @@ number-reason-requires c κs = search needs
 returns-2 : tie.Need-returns-2
 unfolding kindReason kindAt
 returns-2 c = let k = c .before .before .before .before .args .kind in
-    rw (ne-eqb k 0 (omega arith), lt-ltb k 19 (omega arith)) (c .number-reason .ensures)
+    rw (ne-eqb k 0 (omega arith), lt-ltb k 128 (omega arith)) (c .number-reason .ensures)
 
 letter-reason-requires : tie.Need-letter-reason-requires
 letter-reason-requires c κs = search needs
@@ -26,7 +26,7 @@ letter-reason-requires c κs = search needs
 returns-3 : tie.Need-returns-3
 unfolding kindReason kindAt
 returns-3 c = let k = c .before .before .before .before .args .kind in
-    rw (ne-eqb k 0 (omega arith), le-ltb k 19 (omega arith)) (c .letter-reason .ensures)
+    rw (ne-eqb k 0 (omega arith), le-ltb k 128 (omega arith)) (c .letter-reason .ensures)
 
 pub kind-reason-spec : {M : Type 1} → statement M
 kind-reason-spec =

@@ -1,8 +1,10 @@
--- Each kind's range is the definition's; the kind left over is 0, whose range is 0 alone.
-use Prim.Native.Nat.{ℕ, _+_, _<_}
+-- Each kind's range is the definition's; a kind past the last has the range 0 alone.
 use mathlib.Core.Path.{_≡_}
 use native.Mathlib.Omega.{arith}
+use lib.IntN.{pos}
+use lib.ListN.{List·getD-eq-default}
 use Rattle.schemas.specs.Constants.{lowests, highests}
+use Rattle.schemas.proofs.ReasonLaws.{above}
 use borrow.Author.Needs.{needs}
 use Rattle.schemas.proofs.ranges.number_reason.Statement.{statement}
 use Rattle.schemas.proofs.ranges.number_reason.Tie as tie
@@ -136,17 +138,29 @@ returns-18 : tie.Need-returns-18
 unfolding lowests highests
 returns-18 c = let e : c .before .before .before .args .kind ≡ 18 = omega arith in rw e (c .range-reason18 .ensures)
 
-below : {k : ℕ} (n : ℕ) → k < n + 1 → (k ≡ n → ⊥) → k < n
-below n h e = omega arith
-
-first : {k : ℕ} → k < 1 → k ≡ 0
-first h = omega arith
-
 returns-19 : tie.Need-returns-19
 unfolding lowests highests
 returns-19 c = let s = c .before .before .before in
     let r = c .before .match .rest in
-    rw (first (below 1 (below 2 (below 3 (below 4 (below 5 (below 6 (below 7 (below 8 (below 9 (below 10 (below 11 (below 12 (below 13 (below 14 (below 15 (below 16 (below 17 (below 18 (s .pre) (r .1)) (r .0 .1)) (r .0 .0 .1)) (r .0 .0 .0 .1)) (r .0 .0 .0 .0 .1)) (r .0 .0 .0 .0 .0 .1)) (r .0 .0 .0 .0 .0 .0 .1)) (r .0 .0 .0 .0 .0 .0 .0 .1)) (r .0 .0 .0 .0 .0 .0 .0 .0 .1)) (r .0 .0 .0 .0 .0 .0 .0 .0 .0 .1)) (r .0 .0 .0 .0 .0 .0 .0 .0 .0 .0 .1)) (r .0 .0 .0 .0 .0 .0 .0 .0 .0 .0 .0 .1)) (r .0 .0 .0 .0 .0 .0 .0 .0 .0 .0 .0 .0 .1)) (r .0 .0 .0 .0 .0 .0 .0 .0 .0 .0 .0 .0 .0 .1)) (r .0 .0 .0 .0 .0 .0 .0 .0 .0 .0 .0 .0 .0 .0 .1)) (r .0 .0 .0 .0 .0 .0 .0 .0 .0 .0 .0 .0 .0 .0 .0 .1)) (r .0 .0 .0 .0 .0 .0 .0 .0 .0 .0 .0 .0 .0 .0 .0 .0 .1)) (r .0 .0 .0 .0 .0 .0 .0 .0 .0 .0 .0 .0 .0 .0 .0 .0 .0 .1))) (c .range-reason19 .ensures)
+    let a1 = above 1 (s .pre) (r .0 .0 .0 .0 .0 .0 .0 .0 .0 .0 .0 .0 .0 .0 .0 .0 .0 .1) in
+    let a2 = above 2 a1 (r .0 .0 .0 .0 .0 .0 .0 .0 .0 .0 .0 .0 .0 .0 .0 .0 .1) in
+    let a3 = above 3 a2 (r .0 .0 .0 .0 .0 .0 .0 .0 .0 .0 .0 .0 .0 .0 .0 .1) in
+    let a4 = above 4 a3 (r .0 .0 .0 .0 .0 .0 .0 .0 .0 .0 .0 .0 .0 .0 .1) in
+    let a5 = above 5 a4 (r .0 .0 .0 .0 .0 .0 .0 .0 .0 .0 .0 .0 .0 .1) in
+    let a6 = above 6 a5 (r .0 .0 .0 .0 .0 .0 .0 .0 .0 .0 .0 .0 .1) in
+    let a7 = above 7 a6 (r .0 .0 .0 .0 .0 .0 .0 .0 .0 .0 .0 .1) in
+    let a8 = above 8 a7 (r .0 .0 .0 .0 .0 .0 .0 .0 .0 .0 .1) in
+    let a9 = above 9 a8 (r .0 .0 .0 .0 .0 .0 .0 .0 .0 .1) in
+    let a10 = above 10 a9 (r .0 .0 .0 .0 .0 .0 .0 .0 .1) in
+    let a11 = above 11 a10 (r .0 .0 .0 .0 .0 .0 .0 .1) in
+    let a12 = above 12 a11 (r .0 .0 .0 .0 .0 .0 .1) in
+    let a13 = above 13 a12 (r .0 .0 .0 .0 .0 .1) in
+    let a14 = above 14 a13 (r .0 .0 .0 .0 .1) in
+    let a15 = above 15 a14 (r .0 .0 .0 .1) in
+    let a16 = above 16 a15 (r .0 .0 .1) in
+    let a17 = above 17 a16 (r .0 .1) in
+    let a18 = above 18 a17 (r .1) in
+    rw (List·getD-eq-default lowests (pos 0) a18, List·getD-eq-default highests (pos 0) a18) (c .range-reason19 .ensures)
 
 pub number-reason-spec : {M : Type 1} → statement M
 number-reason-spec =

@@ -7,19 +7,13 @@ use Rattle.vectors.specs.Answers.{composed}
 use borrow.Author.Needs.{needs}
 use Rattle.vectors.proofs.answer.compose.Statement.{statement}
 use Rattle.vectors.proofs.answer.compose.Tie as tie
-use Rattle.vectors.proofs.answer.compose.Reads as reads
-use Rattle.vectors.proofs.answer.compose.Lts as lts
-use Rattle.vectors.proofs.answer.put.Reads as put-reads
 
--- src/answer.rt:45:15
 slice-aggregate-put : tie.Need-slice-aggregate-put
 slice-aggregate-put c = search needs
 
--- src/answer.rt:45:5
 put-requires : tie.Need-put-requires
 put-requires c κs = search needs
 
--- src/answer.rt:33:1
 returns : tie.Need-returns
 unfolding composed
 returns c = let a = c .before .before .before .before .args in

@@ -3,19 +3,13 @@ use Rattle.vectors.specs.Answers.{refusing}
 use borrow.Author.Needs.{needs}
 use Rattle.vectors.proofs.answer.refused.Statement.{statement}
 use Rattle.vectors.proofs.answer.refused.Tie as tie
-use Rattle.vectors.proofs.answer.refused.Reads as reads
-use Rattle.vectors.proofs.answer.refused.Lts as lts
-use Rattle.vectors.proofs.answer.says.Reads as says-reads
 
--- src/answer.rt:81:10
 slice-aggregate-says : tie.Need-slice-aggregate-says
 slice-aggregate-says c = search needs
 
--- src/answer.rt:81:5
 says-requires : tie.Need-says-requires
 says-requires c κs = search needs
 
--- src/answer.rt:78:1
 returns : tie.Need-returns
 unfolding refusing
 returns c = c .says .ensures

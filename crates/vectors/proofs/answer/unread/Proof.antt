@@ -3,10 +3,7 @@ use mathlib.Core.Path.{refl}
 use Rattle.vectors.specs.Answers.{unreadable}
 use Rattle.vectors.proofs.answer.unread.Statement.{statement}
 use Rattle.vectors.proofs.answer.unread.Tie as tie
-use Rattle.vectors.proofs.answer.unread.Reads as reads
-use Rattle.vectors.proofs.answer.unread.Lts as lts
 
--- src/answer.rt:85:1
 returns : tie.Need-returns
 unfolding unreadable
 returns c = refl

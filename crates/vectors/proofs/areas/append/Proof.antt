@@ -1,7 +1,6 @@
 -- Where there is room.
-use mathlib.Core.Path.{_≡_, refl, sym, ap, _∙_}
+use mathlib.Core.Path.{ap, _∙_}
 use native.Mathlib.Omega.{arith}
-use mathlib.Core.List.{List, []}
 use Prim.Native.Nat.{ℕ, _+_}
 use lib.ListN.{length, set}
 use mathlib.Core.Bool.{true}
@@ -12,73 +11,53 @@ use Rattle.vectors.proofs.SettingLaws.{kept-parts}
 use borrow.Author.Needs.{needs}
 use Rattle.vectors.proofs.areas.append.Statement.{statement}
 use Rattle.vectors.proofs.areas.append.Tie as tie
-use Rattle.vectors.proofs.areas.append.Reads as reads
-use Rattle.vectors.proofs.areas.append.Lts as lts
-use Rattle.lines.proofs.columns.keep_at.Reads as keep-at-reads
-use Rattle.vectors.proofs.areas.number_at.Reads as number-at-reads
-use Rattle.vectors.proofs.areas.put.Reads as put-reads
 
--- src/areas.rt:102:9
 returns : tie.Need-returns
 unfolding unread
 returns c = add-out _ _ _ (omega arith)
 
--- src/areas.rt:104:17
 mul-limit : tie.Need-mul-limit
 mul-limit c = search needs
 
--- src/areas.rt:104:17
 add-limit : tie.Need-add-limit
 add-limit c = search needs
 
--- src/areas.rt:106:9
 returns-2 : tie.Need-returns-2
 unfolding unread
 returns-2 c = add-small _ _ _ (omega arith) (omega arith)
 
--- src/areas.rt:108:9
 number-at-requires : tie.Need-number-at-requires
 number-at-requires c κs = search needs
 
--- src/areas.rt:110:9
 same-length : tie.Need-same-length
 same-length c = search needs
 
--- src/areas.rt:110:9
 returns-3 : tie.Need-returns-3
 unfolding unread
 returns-3 c = add-full _ _ _ (omega arith) (omega arith) (omega arith)
 
--- src/areas.rt:113:9
 same-length-2 : tie.Need-same-length-2
 same-length-2 c = search needs
 
--- src/areas.rt:113:9
 returns-4 : tie.Need-returns-4
 unfolding unread
 returns-4 c = add-full _ _ _ (omega arith) (omega arith) (omega arith)
 
--- src/areas.rt:115:5
 put-requires : tie.Need-put-requires
 put-requires c κs = search needs
 
--- src/areas.rt:116:22
 add-keep-at : tie.Need-add-keep-at
 add-keep-at c = search needs
 
--- src/areas.rt:116:5
 keep-at-requires : tie.Need-keep-at-requires
 keep-at-requires c κs = search needs
 
--- src/areas.rt:98:1
 same-length-3 : tie.Need-same-length-3
 same-length-3 c = search needs
 
--- src/areas.rt:98:1
 same-length-4 : tie.Need-same-length-4
 same-length-4 c = search needs
 
--- src/areas.rt:98:1
 returns-5 : tie.Need-returns-5
 returns-5 c = let a = c .before .before .before .before .before .before .before .before .before .before .before .before .before .before .before .before .before .args in
     let n = c .before .before .before .before .before .before .before .before .before .before .number-at in

@@ -1,26 +1,20 @@
 -- Past the end there is none.
-use mathlib.Core.Path.{_≡_, refl, sym, ap, _∙_}
+use mathlib.Core.Path.{sym}
 use native.Mathlib.Omega.{arith}
 use lib.ListN.{List·getD-eq-default}
 use borrow.Author.Needs.{needs}
 use Rattle.vectors.proofs.areas.number_at.Statement.{statement}
 use Rattle.vectors.proofs.areas.number_at.Tie as tie
-use Rattle.vectors.proofs.areas.number_at.Reads as reads
-use Rattle.vectors.proofs.areas.number_at.Lts as lts
 
--- src/areas.rt:27:16
 mul-result : tie.Need-mul-result
 mul-result c = search needs
 
--- src/areas.rt:27:16
 shared-slice-read-result : tie.Need-shared-slice-read-result
 shared-slice-read-result c = search needs
 
--- src/areas.rt:27:9
 returns : tie.Need-returns
 returns c = search needs
 
--- src/areas.rt:23:1
 returns-2 : tie.Need-returns-2
 returns-2 c = let a = c .before .args in
     sym (List·getD-eq-default (a .numbers .now) 0 {n = a .k} (omega arith))

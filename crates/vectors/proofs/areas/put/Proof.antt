@@ -1,5 +1,5 @@
 -- The invariant: what is left, put from here on, gives what the whole gives.
-use mathlib.Core.Path.{_≡_, refl, sym, ap, _∙_}
+use mathlib.Core.Path.{_≡_, refl, sym, _∙_}
 use native.Mathlib.Omega.{arith}
 use Prim.Native.Nat.{_+_, _-_, _≤_}
 use lib.ListN.{length, drop, length-set}
@@ -8,8 +8,6 @@ use native.Mathlib.Nat.{add-zero}
 use Rattle.vectors.proofs.MemoryLaws.{put-more, put-none}
 use Rattle.vectors.proofs.areas.put.Statement.{statement}
 use Rattle.vectors.proofs.areas.put.Tie as tie
-use Rattle.vectors.proofs.areas.put.Reads as reads
-use Rattle.vectors.proofs.areas.put.Lts as lts
 
 abbrev Inv-loop : tie.InvT-loop
 Inv-loop space₀ at bytes i₀ space i = (i ≤ length bytes) × (length space ≡ length space₀) × (sets space (at + i) (drop i bytes) ≡ sets space₀ at bytes)
@@ -17,41 +15,32 @@ Inv-loop space₀ at bytes i₀ space i = (i ≤ length bytes) × (length space 
 abbrev μ-loop : tie.MeasureT-loop
 μ-loop space₀ at bytes i₀ space i = length bytes - i
 
--- src/areas.rt:65:5
 loop-holds : tie.Need-loop-holds Inv-loop μ-loop
 loop-holds c = (omega arith, refl, rw (add-zero))
 
--- src/areas.rt:66:25
 shared-slice-read-space : tie.Need-shared-slice-read-space Inv-loop μ-loop
 shared-slice-read-space c = omega arith
 
--- src/areas.rt:66:15
 add-space : tie.Need-add-space Inv-loop μ-loop
 add-space c = omega arith
 
--- src/areas.rt:66:9
 slice-write-space : tie.Need-slice-write-space Inv-loop μ-loop
 slice-write-space c = omega arith
 
--- src/areas.rt:67:9
 add-i : tie.Need-add-i Inv-loop μ-loop
 add-i c = omega arith
 
--- src/areas.rt:65:5
 loop-less : tie.Need-loop-less Inv-loop μ-loop
 loop-less c = omega arith
 
--- src/areas.rt:65:5
 loop-again : tie.Need-loop-again Inv-loop μ-loop
 loop-again c = let l = c .before .before .loop in
     let a = c .before .before .before .args in
     (omega arith, simp length-set (l .inv .1), sym (put-more (l .space) (a .at) (a .bytes .now) (l .i) (omega arith)) ∙ l .inv .2)
 
--- src/areas.rt:60:1
 same-length : tie.Need-same-length Inv-loop μ-loop
 same-length c = omega arith
 
--- src/areas.rt:60:1
 returns : tie.Need-returns Inv-loop μ-loop
 returns c = let l = c .before .loop in
     let a = c .before .before .args in

@@ -3,51 +3,37 @@ use Rattle.vectors.specs.Memory.{tablesIn}
 use borrow.Author.Needs.{needs}
 use Rattle.vectors.proofs.areas.tables_in.Statement.{statement}
 use Rattle.vectors.proofs.areas.tables_in.Tie as tie
-use Rattle.vectors.proofs.areas.tables_in.Reads as reads
-use Rattle.vectors.proofs.areas.tables_in.Lts as lts
-use Rattle.vectors.proofs.areas.area_in.Reads as area-in-reads
 
--- src/areas.rt:46:9
 area-in-requires : tie.Need-area-in-requires
 area-in-requires c κs = search needs
 
--- src/areas.rt:47:9
 area-in-requires-2 : tie.Need-area-in-requires-2
 area-in-requires-2 c κs = search needs
 
--- src/areas.rt:48:9
 area-in-requires-3 : tie.Need-area-in-requires-3
 area-in-requires-3 c κs = search needs
 
--- src/areas.rt:49:9
 area-in-requires-4 : tie.Need-area-in-requires-4
 area-in-requires-4 c κs = search needs
 
--- src/areas.rt:50:9
 area-in-requires-5 : tie.Need-area-in-requires-5
 area-in-requires-5 c κs = search needs
 
--- src/areas.rt:51:9
 area-in-requires-6 : tie.Need-area-in-requires-6
 area-in-requires-6 c κs = search needs
 
--- src/areas.rt:52:9
 area-in-requires-7 : tie.Need-area-in-requires-7
 area-in-requires-7 c κs = search needs
 
--- src/areas.rt:53:9
 area-in-requires-8 : tie.Need-area-in-requires-8
 area-in-requires-8 c κs = search needs
 
--- src/areas.rt:54:9
 area-in-requires-9 : tie.Need-area-in-requires-9
 area-in-requires-9 c κs = search needs
 
--- src/areas.rt:55:9
 area-in-requires-10 : tie.Need-area-in-requires-10
 area-in-requires-10 c κs = search needs
 
--- src/areas.rt:42:1
 returns : tie.Need-returns
 unfolding tablesIn
 returns c = cc

@@ -1,100 +1,69 @@
 -- By the question.
-use mathlib.Core.Path.{_≡_, refl, sym, ap, _∙_}
-use native.Mathlib.Omega.{arith}
 use borrow.Author.Tests.{ne-eqb}
 use Rattle.vectors.specs.Questions.{replyTo}
 use borrow.Author.Needs.{needs}
 use Rattle.vectors.proofs.ask.answer_to.Statement.{statement}
 use Rattle.vectors.proofs.ask.answer_to.Tie as tie
-use Rattle.vectors.proofs.ask.answer_to.Reads as reads
-use Rattle.vectors.proofs.ask.answer_to.Lts as lts
-use Rattle.vectors.proofs.ask.ask_engineer.Reads as ask-engineer-reads
-use Rattle.vectors.proofs.ask.ask_extract.Reads as ask-extract-reads
-use Rattle.vectors.proofs.ask.ask_identify.Reads as ask-identify-reads
-use Rattle.vectors.proofs.inner.ask_line.Reads as ask-line-reads
-use Rattle.vectors.proofs.inner.ask_number.Reads as ask-number-reads
-use Rattle.vectors.proofs.inner.ask_signed.Reads as ask-signed-reads
-use Rattle.vectors.proofs.inner.ask_string.Reads as ask-string-reads
-use Rattle.vectors.proofs.inner.ask_unsigned.Reads as ask-unsigned-reads
-use Rattle.vectors.proofs.inner.ask_width.Reads as ask-width-reads
 
--- src/ask.rt:95:14
 ask-identify-requires : tie.Need-ask-identify-requires
 ask-identify-requires c κs = search needs
 
--- src/ask.rt:96:14
 ask-extract-requires : tie.Need-ask-extract-requires
 ask-extract-requires c κs = search needs
 
--- src/ask.rt:97:14
 ask-engineer-requires : tie.Need-ask-engineer-requires
 ask-engineer-requires c κs = search needs
 
--- src/ask.rt:98:14
 ask-number-requires : tie.Need-ask-number-requires
 ask-number-requires c κs = search needs
 
--- src/ask.rt:99:14
 ask-width-requires : tie.Need-ask-width-requires
 ask-width-requires c κs = search needs
 
--- src/ask.rt:100:14
 ask-unsigned-requires : tie.Need-ask-unsigned-requires
 ask-unsigned-requires c κs = search needs
 
--- src/ask.rt:101:14
 ask-signed-requires : tie.Need-ask-signed-requires
 ask-signed-requires c κs = search needs
 
--- src/ask.rt:102:15
 ask-string-requires : tie.Need-ask-string-requires
 ask-string-requires c κs = search needs
 
--- src/ask.rt:103:14
 ask-line-requires : tie.Need-ask-line-requires
 ask-line-requires c κs = search needs
 
--- src/ask.rt:91:1
 returns : tie.Need-returns
 unfolding replyTo
 returns c = rw (c .before .match .keys1) (c .ask-identify .ensures)
 
--- src/ask.rt:91:1
 returns-2 : tie.Need-returns-2
 unfolding replyTo
 returns-2 c = rw (c .before .match .keys2) (c .ask-extract .ensures)
 
--- src/ask.rt:91:1
 returns-3 : tie.Need-returns-3
 unfolding replyTo
 returns-3 c = rw (c .before .match .keys3) (c .ask-engineer .ensures)
 
--- src/ask.rt:91:1
 returns-4 : tie.Need-returns-4
 unfolding replyTo
 returns-4 c = rw (c .before .match .keys4) (c .ask-number .ensures)
 
--- src/ask.rt:91:1
 returns-5 : tie.Need-returns-5
 unfolding replyTo
 returns-5 c = rw (c .before .match .keys5) (c .ask-width .ensures)
 
--- src/ask.rt:91:1
 returns-6 : tie.Need-returns-6
 unfolding replyTo
 returns-6 c = rw (c .before .match .keys6) (c .ask-unsigned .ensures)
 
--- src/ask.rt:91:1
 returns-7 : tie.Need-returns-7
 unfolding replyTo
 returns-7 c = rw (c .before .match .keys7) (c .ask-signed .ensures)
 
--- src/ask.rt:91:1
 returns-8 : tie.Need-returns-8
 unfolding replyTo
 returns-8 c = rw (c .before .match .keys8) (c .ask-string .ensures)
 
--- src/ask.rt:91:1
 returns-9 : tie.Need-returns-9
 unfolding replyTo
 returns-9 c = let r = c .before .match .rest in

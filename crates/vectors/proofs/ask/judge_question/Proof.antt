@@ -1,54 +1,36 @@
 -- By the question.
-use mathlib.Core.Path.{_≡_, refl, sym, ap, _∙_}
-use native.Mathlib.Omega.{arith}
 use borrow.Author.Tests.{eq-eqb, ne-eqb}
 use Rattle.vectors.specs.Questions.{questionVerdict}
 use borrow.Author.Needs.{needs}
 use Rattle.vectors.proofs.ask.judge_question.Statement.{statement}
 use Rattle.vectors.proofs.ask.judge_question.Tie as tie
-use Rattle.vectors.proofs.ask.judge_question.Reads as reads
-use Rattle.vectors.proofs.ask.judge_question.Lts as lts
-use Rattle.tables.proofs.table_at.Reads as table-at-reads
-use Rattle.vectors.proofs.ask.answer_to.Reads as answer-to-reads
-use Rattle.vectors.proofs.compare.compare.Reads as compare-reads
-use Rattle.vectors.proofs.imports.judge_import.Reads as judge-import-reads
-use Rattle.vectors.proofs.imports.judge_row.Reads as judge-row-reads
 
--- src/ask.rt:162:9
 judge-import-requires : tie.Need-judge-import-requires
 judge-import-requires c κs = search needs
 
--- src/ask.rt:162:9
 returns : tie.Need-returns
 unfolding questionVerdict
 returns c = rw (eq-eqb _ 0 (c .before .if1 .taken)) (c .judge-import .ensures)
 
--- src/ask.rt:165:9
 judge-row-requires : tie.Need-judge-row-requires
 judge-row-requires c κs = search needs
 
--- src/ask.rt:165:9
 returns-2 : tie.Need-returns-2
 unfolding questionVerdict
 returns-2 c = rw (ne-eqb _ 0 (c .before .before .if1 .left), eq-eqb _ 1 (c .before .if2 .taken)) (c .judge-row .ensures)
 
--- src/ask.rt:168:9
 answer-to-requires : tie.Need-answer-to-requires
 answer-to-requires c κs = search needs
 
--- src/ask.rt:169:41
 table-at-requires : tie.Need-table-at-requires
 table-at-requires c κs = search needs
 
--- src/ask.rt:169:62
 slice-aggregate-compare : tie.Need-slice-aggregate-compare
 slice-aggregate-compare c = search needs
 
--- src/ask.rt:169:5
 compare-requires : tie.Need-compare-requires
 compare-requires c κs = search needs
 
--- src/ask.rt:150:1
 returns-3 : tie.Need-returns-3
 unfolding questionVerdict
 returns-3 c = rw (ne-eqb _ 0 (c .before .before .before .before .before .if1 .left), ne-eqb _ 1 (c .before .before .before .before .if2 .left)) (cc)

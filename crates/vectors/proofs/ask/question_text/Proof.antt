@@ -1,36 +1,25 @@
 -- By whether it is a row.
-use mathlib.Core.Path.{_≡_, refl, sym, ap, _∙_}
-use native.Mathlib.Omega.{arith}
+use mathlib.Core.Path.{_∙_}
 use Rattle.vectors.proofs.QuestionLaws.{bytes-row, bytes-other}
 use borrow.Author.Needs.{needs}
 use Rattle.vectors.proofs.ask.question_text.Statement.{statement}
 use Rattle.vectors.proofs.ask.question_text.Tie as tie
-use Rattle.vectors.proofs.ask.question_text.Reads as reads
-use Rattle.vectors.proofs.ask.question_text.Lts as lts
-use Rattle.vectors.proofs.bytes_of.unescape.Reads as unescape-reads
-use Rattle.vectors.proofs.bytes_of.unescape_row.Reads as unescape-row-reads
 
--- src/ask.rt:198:9
 unescape-row-requires : tie.Need-unescape-row-requires
 unescape-row-requires c κs = search needs
 
--- src/ask.rt:198:9
 same-length : tie.Need-same-length
 same-length c = search needs
 
--- src/ask.rt:198:9
 returns : tie.Need-returns
 returns c = c .before .before .unescape-row .ensures ∙ bytes-row _ _ _ (c .before .before .before .before .if1 .taken)
 
--- src/ask.rt:200:5
 unescape-requires : tie.Need-unescape-requires
 unescape-requires c κs = search needs
 
--- src/ask.rt:194:1
 same-length-2 : tie.Need-same-length-2
 same-length-2 c = search needs
 
--- src/ask.rt:194:1
 returns-2 : tie.Need-returns-2
 returns-2 c = c .before .before .unescape .ensures .0 ∙ bytes-other _ _ _ (c .before .before .before .before .if1 .left)
 

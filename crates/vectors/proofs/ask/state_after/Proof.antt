@@ -1,6 +1,5 @@
 -- Case by case.
-use mathlib.Core.Path.{_≡_, refl, sym, ap, _∙_}
-use native.Mathlib.Omega.{arith}
+use mathlib.Core.Path.{_≡_, sym, ap}
 use Rattle.limits.specs.Answer.{said}
 use Rattle.limits.specs.Step.{stateAfter}
 use Rattle.limit_state.specs.declared.state.LimitState.{LimitState}
@@ -8,80 +7,62 @@ use Rattle.limits.specs.declared.step.Stepped.{Stepped}
 use borrow.Author.Needs.{needs}
 use Rattle.vectors.proofs.ask.state_after.Statement.{statement}
 use Rattle.vectors.proofs.ask.state_after.Tie as tie
-use Rattle.vectors.proofs.ask.state_after.Reads as reads
-use Rattle.vectors.proofs.ask.state_after.Lts as lts
 
 by : (state : LimitState) {stepped answer : Stepped} → stepped ≡ answer → stateAfter state (said answer) ≡ stateAfter state (said stepped)
 by state e = sym (ap (λ x. stateAfter state (said x)) e)
 
--- src/ask.rt:112:21
 enum-known-stepped : tie.Need-enum-known-stepped
 enum-known-stepped c = search needs
 
--- src/ask.rt:113:30
 enum-told : tie.Need-enum-told
 enum-told c = search needs
 
--- src/ask.rt:114:32
 enum-told-2 : tie.Need-enum-told-2
 enum-told-2 c = search needs
 
--- src/ask.rt:115:30
 enum-told-3 : tie.Need-enum-told-3
 enum-told-3 c = search needs
 
--- src/ask.rt:116:29
 enum-told-4 : tie.Need-enum-told-4
 enum-told-4 c = search needs
 
--- src/ask.rt:117:30
 enum-told-5 : tie.Need-enum-told-5
 enum-told-5 c = search needs
 
--- src/ask.rt:118:31
 enum-told-6 : tie.Need-enum-told-6
 enum-told-6 c = search needs
 
--- src/ask.rt:119:32
 enum-told-7 : tie.Need-enum-told-7
 enum-told-7 c = search needs
 
--- src/ask.rt:108:1
 returns : tie.Need-returns
 unfolding said stateAfter
 returns c = by _ (c .before .stepped .given .1)
 
--- src/ask.rt:108:1
 returns-2 : tie.Need-returns-2
 unfolding said stateAfter
 returns-2 c = by _ (c .enum-told .given .1)
 
--- src/ask.rt:108:1
 returns-3 : tie.Need-returns-3
 unfolding said stateAfter
 returns-3 c = by _ (c .enum-told2 .given .1)
 
--- src/ask.rt:108:1
 returns-4 : tie.Need-returns-4
 unfolding said stateAfter
 returns-4 c = by _ (c .enum-told3 .given .1)
 
--- src/ask.rt:108:1
 returns-5 : tie.Need-returns-5
 unfolding said stateAfter
 returns-5 c = by _ (c .enum-told4 .given .1)
 
--- src/ask.rt:108:1
 returns-6 : tie.Need-returns-6
 unfolding said stateAfter
 returns-6 c = by _ (c .enum-told5 .given .1)
 
--- src/ask.rt:108:1
 returns-7 : tie.Need-returns-7
 unfolding said stateAfter
 returns-7 c = by _ (c .enum-told6 .given .1)
 
--- src/ask.rt:108:1
 returns-8 : tie.Need-returns-8
 unfolding said stateAfter
 returns-8 c = by _ (c .enum-told7 .given .1)

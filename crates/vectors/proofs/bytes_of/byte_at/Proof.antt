@@ -1,5 +1,4 @@
 -- There are two characters, or none are read.
-use mathlib.Core.Path.{_≡_, sym, _∙_}
 use Prim.Native.Nat.{_+_}
 use native.Mathlib.Omega.{arith}
 use lib.ListN.{length}
@@ -8,43 +7,32 @@ use Rattle.vectors.specs.Escapes.{byteAt}
 use borrow.Author.Needs.{needs}
 use Rattle.vectors.proofs.bytes_of.byte_at.Statement.{statement}
 use Rattle.vectors.proofs.bytes_of.byte_at.Tie as tie
-use Rattle.vectors.proofs.bytes_of.byte_at.Reads as reads
-use Rattle.vectors.proofs.bytes_of.byte_at.Lts as lts
-use Rattle.vectors.proofs.bytes_of.byte_of.Reads as byte-of-reads
 
--- src/bytes_of.rt:55:9
 returns : tie.Need-returns
 unfolding byteAt
 returns c = let a = c .before .before .args in
     (rw (le-ltb (a .i + 1) (length (a .raw .now)) (omega arith)), omega arith)
 
--- src/bytes_of.rt:57:21
 add-if2 : tie.Need-add-if2
 add-if2 c = search needs
 
--- src/bytes_of.rt:58:9
 returns-2 : tie.Need-returns-2
 unfolding byteAt
 returns-2 c = let a = c .before .before .before .args in
     (rw (le-ltb (a .i + 1) (length (a .raw .now)) (omega arith)), omega arith)
 
--- src/bytes_of.rt:60:13
 shared-slice-read-byte-of : tie.Need-shared-slice-read-byte-of
 shared-slice-read-byte-of c = search needs
 
--- src/bytes_of.rt:60:25
 add-byte-of : tie.Need-add-byte-of
 add-byte-of c = search needs
 
--- src/bytes_of.rt:60:21
 shared-slice-read-byte-of-2 : tie.Need-shared-slice-read-byte-of-2
 shared-slice-read-byte-of-2 c = search needs
 
--- src/bytes_of.rt:60:5
 byte-of-requires : tie.Need-byte-of-requires
 byte-of-requires c κs = search needs
 
--- src/bytes_of.rt:51:1
 returns-3 : tie.Need-returns-3
 unfolding byteAt
 returns-3 c = let a = c .before .before .before .before .before .before .args in

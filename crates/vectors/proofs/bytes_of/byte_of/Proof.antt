@@ -1,53 +1,39 @@
 -- Each test says which case of `byteOf` holds.
-use mathlib.Core.Path.{_≡_, sym, _∙_}
 use native.Mathlib.Omega.{arith}
 use borrow.Author.Tests.{lt-ltb, le-ltb}
-use Prim.Native.Nat.{_+_, _*_}
 use Rattle.vectors.specs.Escapes.{byteOf}
 use borrow.Author.Needs.{needs}
 use Rattle.vectors.proofs.bytes_of.byte_of.Statement.{statement}
 use Rattle.vectors.proofs.bytes_of.byte_of.Tie as tie
-use Rattle.vectors.proofs.bytes_of.byte_of.Reads as reads
-use Rattle.vectors.proofs.bytes_of.byte_of.Lts as lts
-use Rattle.vectors.proofs.bytes_of.digit.Reads as digit-reads
 
--- src/bytes_of.rt:32:9
 digit-requires : tie.Need-digit-requires
 digit-requires c κs = search needs
 
--- src/bytes_of.rt:33:9
 digit-requires-2 : tie.Need-digit-requires-2
 digit-requires-2 c κs = search needs
 
--- src/bytes_of.rt:35:9
 returns : tie.Need-returns
 unfolding byteOf
 returns c = (rw (← c .before .before .digit .ensures, lt-ltb 15 (c .before .before .digit .result) (c .if1 .taken)), omega arith)
 
--- src/bytes_of.rt:38:9
 returns-2 : tie.Need-returns-2
 unfolding byteOf
 returns-2 c = let d = c .before .before .before .digit in
     let e = c .before .before .digit2 in
     (rw (← d .ensures, ← e .ensures, le-ltb 15 (d .result) (omega arith), lt-ltb 15 (e .result) (c .if2 .taken)), omega arith)
 
--- src/bytes_of.rt:40:5
 cast-result : tie.Need-cast-result
 cast-result c = search needs
 
--- src/bytes_of.rt:40:5
 mul-result : tie.Need-mul-result
 mul-result c = search needs
 
--- src/bytes_of.rt:40:23
 cast-result-2 : tie.Need-cast-result-2
 cast-result-2 c = search needs
 
--- src/bytes_of.rt:40:5
 add-result : tie.Need-add-result
 add-result c = search needs
 
--- src/bytes_of.rt:29:1
 returns-3 : tie.Need-returns-3
 unfolding byteOf
 returns-3 c = let d = c .before .before .before .digit in

@@ -5,14 +5,10 @@ use Rattle.numbers.specs.Number.{digitOf}
 use borrow.Author.Needs.{needs}
 use Rattle.vectors.proofs.bytes_of.digit.Statement.{statement}
 use Rattle.vectors.proofs.bytes_of.digit.Tie as tie
-use Rattle.vectors.proofs.bytes_of.digit.Reads as reads
-use Rattle.vectors.proofs.bytes_of.digit.Lts as lts
 
--- src/bytes_of.rt:22:24
 add-result : tie.Need-add-result
 add-result c = search needs
 
--- src/bytes_of.rt:23:24
 add-result-2 : tie.Need-add-result-2
 add-result-2 c = search needs
 

@@ -7,22 +7,16 @@ use Rattle.vectors.specs.Escapes.{readIn, ended}
 use borrow.Author.Needs.{needs}
 use Rattle.vectors.proofs.bytes_of.end_row.Statement.{statement}
 use Rattle.vectors.proofs.bytes_of.end_row.Tie as tie
-use Rattle.vectors.proofs.bytes_of.end_row.Reads as reads
-use Rattle.vectors.proofs.bytes_of.end_row.Lts as lts
 
--- src/bytes_of.rt:134:5
 slice-write-out : tie.Need-slice-write-out
 slice-write-out c = search needs
 
--- src/bytes_of.rt:135:16
 add-t4 : tie.Need-add-t4
 add-t4 c = search needs
 
--- src/bytes_of.rt:130:1
 same-length : tie.Need-same-length
 same-length c = search needs
 
--- src/bytes_of.rt:130:1
 returns : tie.Need-returns
 unfolding readIn ended
 returns c = rw (add-one) (ap some (take-suc-set (c .args .out .now) (c .args .n) 10 (c .pre)))

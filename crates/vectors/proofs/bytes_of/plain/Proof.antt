@@ -3,15 +3,11 @@ use borrow.Author.Tests.{eq-eqb, ne-eqb}
 use Rattle.vectors.specs.Escapes.{plain}
 use Rattle.vectors.proofs.bytes_of.plain.Statement.{statement}
 use Rattle.vectors.proofs.bytes_of.plain.Tie as tie
-use Rattle.vectors.proofs.bytes_of.plain.Reads as reads
-use Rattle.vectors.proofs.bytes_of.plain.Lts as lts
 
--- src/bytes_of.rt:44:1
 returns : tie.Need-returns
 unfolding plain
 returns c = rw (eq-eqb _ _ (c .if1 .taken))
 
--- src/bytes_of.rt:44:1
 returns-2 : tie.Need-returns-2
 unfolding plain
 returns-2 c = rw (ne-eqb _ _ (c .if1 .left))

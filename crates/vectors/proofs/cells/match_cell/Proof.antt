@@ -1,53 +1,38 @@
 -- A good cell, or its reason and column.
-use mathlib.Core.Path.{sym, _∙_}
+use mathlib.Core.Path.{_∙_}
 use Rattle.vectors.proofs.SpokenLaws.{cell-good, cell-bad}
 use borrow.Author.Needs.{needs}
 use Rattle.vectors.proofs.cells.match_cell.Statement.{statement}
 use Rattle.vectors.proofs.cells.match_cell.Tie as tie
-use Rattle.vectors.proofs.cells.match_cell.Reads as reads
-use Rattle.vectors.proofs.cells.match_cell.Lts as lts
-use Rattle.vectors.proofs.decimal.match_decimal.Reads as match-decimal-reads
-use Rattle.vectors.proofs.fit.match_byte.Reads as match-byte-reads
-use Rattle.vectors.proofs.fit.match_text.Reads as match-text-reads
 
--- src/cells.rt:14:37
 slice-aggregate-match-text : tie.Need-slice-aggregate-match-text
 slice-aggregate-match-text c = search needs
 
--- src/cells.rt:14:9
 match-text-requires : tie.Need-match-text-requires
 match-text-requires c κs = search needs
 
--- src/cells.rt:14:9
 returns : tie.Need-returns
 returns c = let a = c .before .before .before .before .args in
     c .match-text .ensures ∙ cell-good (a .line .now) (a .at) (a .cell) (c .before .before .if1 .taken)
 
--- src/cells.rt:16:9
 match-byte-requires : tie.Need-match-byte-requires
 match-byte-requires c κs = search needs
 
--- src/cells.rt:17:57
 cast-match-decimal : tie.Need-cast-match-decimal
 cast-match-decimal c = search needs
 
--- src/cells.rt:17:9
 match-decimal-requires : tie.Need-match-decimal-requires
 match-decimal-requires c κs = search needs
 
--- src/cells.rt:18:9
 match-byte-requires-2 : tie.Need-match-byte-requires-2
 match-byte-requires-2 c κs = search needs
 
--- src/cells.rt:19:38
 cast-match-decimal-2 : tie.Need-cast-match-decimal-2
 cast-match-decimal-2 c = search needs
 
--- src/cells.rt:19:5
 match-decimal-requires-2 : tie.Need-match-decimal-requires-2
 match-decimal-requires-2 c κs = search needs
 
--- src/cells.rt:10:1
 returns-2 : tie.Need-returns-2
 returns-2 c = let a = c .before .before .before .before .before .before .args in
     rw (c .match-decimal2 .ensures, c .before .match-byte2 .ensures, c .before .before .match-decimal .ensures, c .before .before .before .match-byte .ensures) (cell-bad (a .line .now) (a .at) (a .cell) (c .before .before .before .before .if1 .left))

@@ -3,14 +3,11 @@ use borrow.Author.Needs.{needs}
 use mathlib.Core.Path.{_≡_, refl, sym, _∙_}
 use Prim.Native.Nat.{_-_, _≤_}
 use native.Mathlib.Omega.{arith}
-use lib.ListN.{length, take, drop, length-take}
+use lib.ListN.{take, drop, length-take}
 use Rattle.vectors.specs.Spoken.{matchedAll, cellsText}
 use Rattle.vectors.proofs.SpokenLaws.{cells-more, cells-none}
 use Rattle.vectors.proofs.cells.match_cells.Statement.{statement}
 use Rattle.vectors.proofs.cells.match_cells.Tie as tie
-use Rattle.vectors.proofs.cells.match_cells.Reads as reads
-use Rattle.vectors.proofs.cells.match_cells.Lts as lts
-use Rattle.vectors.proofs.cells.match_cell.Reads as match-cell-reads
 
 abbrev Inv-loop : tie.InvT-loop
 Inv-loop line from cells n at₀ i₀ at i = (i ≤ n) × (matchedAll line at (cellsText (drop i (take n cells))) ≡ matchedAll line from (cellsText (take n cells)))
@@ -18,43 +15,34 @@ Inv-loop line from cells n at₀ i₀ at i = (i ≤ n) × (matchedAll line at (c
 abbrev μ-loop : tie.MeasureT-loop
 μ-loop line from cells n at₀ i₀ at i = n - i
 
--- src/cells.rt:28:5
 loop-holds : tie.Need-loop-holds Inv-loop μ-loop
 loop-holds c = (omega arith, refl)
 
--- src/cells.rt:30:13
 returns : tie.Need-returns Inv-loop μ-loop
 returns c = let l = c .before .before in
     let a = l .before .before .before .args in
     sym (cells-none (a .line .now) (l .loop .at) (a .cells .now) (a .n) (l .loop .i) (omega (arith, length-take (a .n) (a .cells .now)))) ∙ l .loop .inv .1
 
--- src/cells.rt:32:35
 mul-match-cell : tie.Need-mul-match-cell Inv-loop μ-loop
 mul-match-cell c = search needs
 
--- src/cells.rt:32:35
 shared-slice-read-match-cell : tie.Need-shared-slice-read-match-cell Inv-loop μ-loop
 shared-slice-read-match-cell c = omega arith
 
--- src/cells.rt:32:9
 match-cell-requires : tie.Need-match-cell-requires Inv-loop μ-loop
 match-cell-requires c κs = tt
 
--- src/cells.rt:33:9
 add-i : tie.Need-add-i Inv-loop μ-loop
 add-i c = omega arith
 
--- src/cells.rt:28:5
 loop-less : tie.Need-loop-less Inv-loop μ-loop
 loop-less c = omega arith
 
--- src/cells.rt:28:5
 loop-again : tie.Need-loop-again Inv-loop μ-loop
 loop-again c = let l = c .before .before .before .before in
     let a = l .before .before .before .args in
     (omega arith, rw (c .match-cell .ensures) (sym (cells-more (a .line .now) (l .loop .at) (a .cells .now) (a .n) (l .loop .i) (omega arith) (omega arith))) ∙ l .loop .inv .1)
 
--- src/cells.rt:23:1
 returns-2 : tie.Need-returns-2 Inv-loop μ-loop
 returns-2 c = let l = c .before in
     let a = l .before .before .before .args in

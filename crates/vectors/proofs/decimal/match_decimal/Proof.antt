@@ -6,28 +6,19 @@ use Rattle.vectors.proofs.SpokenLaws.{decimal-is}
 use borrow.Author.Needs.{needs}
 use Rattle.vectors.proofs.decimal.match_decimal.Statement.{statement}
 use Rattle.vectors.proofs.decimal.match_decimal.Tie as tie
-use Rattle.vectors.proofs.decimal.match_decimal.Reads as reads
-use Rattle.vectors.proofs.decimal.match_decimal.Lts as lts
-use Rattle.io.proofs.decimal.Reads as decimal-reads
-use Rattle.vectors.proofs.fit.match_text.Reads as match-text-reads
 
--- src/decimal.rt:10:9
 decimal-requires : tie.Need-decimal-requires
 decimal-requires c κs = search needs
 
--- src/decimal.rt:11:26
 array-share-prefix-digits : tie.Need-array-share-prefix-digits
 array-share-prefix-digits c = search needs
 
--- src/decimal.rt:11:26
 slice-aggregate-match-text : tie.Need-slice-aggregate-match-text
 slice-aggregate-match-text c = search needs
 
--- src/decimal.rt:11:5
 match-text-requires : tie.Need-match-text-requires
 match-text-requires c κs = search needs
 
--- src/decimal.rt:6:1
 returns : tie.Need-returns
 returns c = let d = c .before .before .decimal in
     let a = c .before .before .before .before .before .args in

@@ -1,14 +1,11 @@
 -- The loop ends with the cells.
-use mathlib.Core.Path.{_≡_, refl, sym, ap, _∙_}
+use mathlib.Core.Path.{_≡_, refl}
 use native.Mathlib.Omega.{arith}
 use Prim.Native.Nat.{_-_, _≤_}
 use lib.ListN.{length}
 use borrow.Author.Needs.{needs}
 use Rattle.vectors.proofs.difference.say_cells.Statement.{statement}
 use Rattle.vectors.proofs.difference.say_cells.Tie as tie
-use Rattle.vectors.proofs.difference.say_cells.Reads as reads
-use Rattle.vectors.proofs.difference.say_cells.Lts as lts
-use Rattle.vectors.proofs.difference.say_cell.Reads as say-cell-reads
 
 abbrev Inv-loop : tie.InvT-loop
 Inv-loop cells n i₀ i-end i = (i-end ≡ length cells) × (i ≤ i-end)
@@ -16,35 +13,27 @@ Inv-loop cells n i₀ i-end i = (i-end ≡ length cells) × (i ≤ i-end)
 abbrev μ-loop : tie.MeasureT-loop
 μ-loop cells n i₀ i-end i = i-end - i
 
--- src/difference.rt:55:5
 loop-holds : tie.Need-loop-holds Inv-loop μ-loop
 loop-holds c = (refl, omega arith)
 
--- src/difference.rt:57:22
 mul-say-cell : tie.Need-mul-say-cell Inv-loop μ-loop
 mul-say-cell c = search needs
 
--- src/difference.rt:57:22
 shared-slice-read-say-cell : tie.Need-shared-slice-read-say-cell Inv-loop μ-loop
 shared-slice-read-say-cell c = omega arith
 
--- src/difference.rt:57:13
 say-cell-requires : tie.Need-say-cell-requires Inv-loop μ-loop
 say-cell-requires c κs = tt
 
--- src/difference.rt:55:9
 add-i : tie.Need-add-i Inv-loop μ-loop
 add-i c = omega arith
 
--- src/difference.rt:55:5
 loop-less : tie.Need-loop-less Inv-loop μ-loop
 loop-less c = omega arith
 
--- src/difference.rt:55:5
 loop-again : tie.Need-loop-again Inv-loop μ-loop
 loop-again c = (omega arith, omega arith)
 
--- src/difference.rt:54:1
 returns : tie.Need-returns Inv-loop μ-loop
 returns c = tt
 

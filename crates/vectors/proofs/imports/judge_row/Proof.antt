@@ -1,10 +1,9 @@
 -- By the table and the row.
-use mathlib.Core.Path.{_≡_, refl, sym, ap, _∙_}
+use mathlib.Core.Path.{_≡_, ap, _∙_}
 use native.Mathlib.Omega.{arith}
-use Rattle.vectors.proofs.QuestionLaws.{most-is, judged-parts, verdict-unread, verdict-same, verdict-differs, import-whole, import-lent, import-unread, tab-cut, row-no-table, row-no-tab, row-asked, only-is, judged-some, judged-none}
-use mathlib.Core.List.{List, []}
+use Rattle.vectors.proofs.QuestionLaws.{tab-cut, row-no-table, row-no-tab, row-asked, only-is}
 use Prim.Native.Nat.{ℕ, _+_}
-use lib.ListN.{length, set}
+use lib.ListN.{length}
 use mathlib.Core.Path.{_≡_}
 use lib.ListN.{take}
 use Rattle.lines.proofs.ColumnLaws.{part-rest}
@@ -15,65 +14,46 @@ use lib.ListN.{drop}
 use borrow.Author.Needs.{needs}
 use Rattle.vectors.proofs.imports.judge_row.Statement.{statement}
 use Rattle.vectors.proofs.imports.judge_row.Tie as tie
-use Rattle.vectors.proofs.imports.judge_row.Reads as reads
-use Rattle.vectors.proofs.imports.judge_row.Lts as lts
-use Rattle.lines.proofs.columns.part.Reads as part-reads
-use Rattle.vectors.proofs.imports.row_into.Reads as row-into-reads
-use Rattle.vectors.proofs.verb.find_byte.Reads as find-byte-reads
-use Rattle.vectors.proofs.verb.setting_of.Reads as setting-of-reads
 
 place : (s : tie.After-setting-of) → s .setting-of .result ≡ settingOf (take (upto 9 (s .before .before .before .before .before .before .args .text .now)) (s .before .before .before .before .before .before .args .text .now))
 place s = s .setting-of .ensures ∙ ap settingOf (s .before .part .ensures ∙ tab-cut _ _ (s .before .before .find-byte .ensures .0))
 
--- src/imports.rt:129:9
 find-byte-requires : tie.Need-find-byte-requires
 find-byte-requires c κs = search needs
 
--- src/imports.rt:130:24
 part-requires : tie.Need-part-requires
 part-requires c κs = search needs
 
--- src/imports.rt:130:9
 setting-of-requires : tie.Need-setting-of-requires
 setting-of-requires c κs = search needs
 
--- src/imports.rt:132:9
 returns : tie.Need-returns
 returns c = row-no-table _ _ _ (place (c .before)) (omega arith)
 
--- src/imports.rt:135:9
 returns-2 : tie.Need-returns-2
 returns-2 c = row-no-tab _ _ _ (place (c .before .before)) (omega arith) (omega (arith, c .before .before .before .before .find-byte .ensures .0))
 
--- src/imports.rt:137:9
 part-requires-2 : tie.Need-part-requires-2
 part-requires-2 c κs = search needs
 
--- src/imports.rt:139:28
 add-part : tie.Need-add-part
 add-part c = search needs
 
--- src/imports.rt:139:17
 part-requires-3 : tie.Need-part-requires-3
 part-requires-3 c κs = search needs
 
--- src/imports.rt:139:5
 mul-tables : tie.Need-mul-tables
 mul-tables c = search needs
 
--- src/imports.rt:139:5
 array-set-from-tables : tie.Need-array-set-from-tables
 array-set-from-tables c = search needs
 
--- src/imports.rt:141:42
 slice-aggregate-row-into : tie.Need-slice-aggregate-row-into
 slice-aggregate-row-into c = search needs
 
--- src/imports.rt:141:5
 row-into-requires : tie.Need-row-into-requires
 row-into-requires c κs = search needs
 
--- src/imports.rt:126:1
 returns-3 : tie.Need-returns-3
 unfolding blankCells
 returns-3 c = let a = c .before .before .before .before .before .before .before .before .before .before .before .before .before .args in

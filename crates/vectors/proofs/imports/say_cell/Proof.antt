@@ -1,54 +1,37 @@
 -- A good cell, or its reason and column.
-use mathlib.Core.Path.{_≡_, refl, sym, ap, _∙_}
-use native.Mathlib.Omega.{arith}
 use Rattle.vectors.proofs.QuestionLaws.{cell-zero, cell-reason}
 use borrow.Author.Needs.{needs}
 use Rattle.vectors.proofs.imports.say_cell.Statement.{statement}
 use Rattle.vectors.proofs.imports.say_cell.Tie as tie
-use Rattle.vectors.proofs.imports.say_cell.Reads as reads
-use Rattle.vectors.proofs.imports.say_cell.Lts as lts
-use Rattle.vectors.proofs.answer.one.Reads as one-reads
-use Rattle.vectors.proofs.answer.says.Reads as says-reads
-use Rattle.vectors.proofs.answer.two.Reads as two-reads
 
--- src/imports.rt:85:21
 slice-aggregate-says : tie.Need-slice-aggregate-says
 slice-aggregate-says c = search needs
 
--- src/imports.rt:85:37
 one-requires : tie.Need-one-requires
 one-requires c κs = search needs
 
--- src/imports.rt:85:9
 says-requires : tie.Need-says-requires
 says-requires c κs = search needs
 
--- src/imports.rt:85:9
 returns : tie.Need-returns
 returns c = let a = c .before .before .before .before .args .cell in
     simp (c .says .ensures, c .before .one .ensures) (cell-zero a (c .before .before .before .if1 .taken))
 
--- src/imports.rt:87:10
 slice-aggregate-says-2 : tie.Need-slice-aggregate-says-2
 slice-aggregate-says-2 c = search needs
 
--- src/imports.rt:87:29
 cast-two : tie.Need-cast-two
 cast-two c = search needs
 
--- src/imports.rt:87:50
 cast-two-2 : tie.Need-cast-two-2
 cast-two-2 c = search needs
 
--- src/imports.rt:87:25
 two-requires : tie.Need-two-requires
 two-requires c κs = search needs
 
--- src/imports.rt:87:5
 says-requires-2 : tie.Need-says-requires-2
 says-requires-2 c κs = search needs
 
--- src/imports.rt:81:1
 returns-2 : tie.Need-returns-2
 returns-2 c = let a = c .before .before .before .before .args .cell in
     simp (c .says2 .ensures, c .before .two .ensures) (cell-reason a (c .before .before .before .if1 .left))

@@ -1,73 +1,52 @@
 -- Case by case.
-use mathlib.Core.Path.{_≡_, refl, sym, ap, _∙_}
-use native.Mathlib.Omega.{arith}
 use Rattle.import.specs.Judged.{said}
 use Rattle.vectors.specs.Replies.{importedAnswer}
 use borrow.Author.Needs.{needs}
 use Rattle.vectors.proofs.imports.say_imported.Statement.{statement}
 use Rattle.vectors.proofs.imports.say_imported.Tie as tie
-use Rattle.vectors.proofs.imports.say_imported.Reads as reads
-use Rattle.vectors.proofs.imports.say_imported.Lts as lts
-use Rattle.vectors.proofs.answer.compose.Reads as compose-reads
-use Rattle.vectors.proofs.answer.refused.Reads as refused-reads
-use Rattle.vectors.proofs.answer.two.Reads as two-reads
 
--- src/imports.rt:33:24
 enum-known-imported : tie.Need-enum-known-imported
 enum-known-imported c = search needs
 
--- src/imports.rt:34:13
 slice-aggregate-compose : tie.Need-slice-aggregate-compose
 slice-aggregate-compose c = search needs
 
--- src/imports.rt:36:13
 two-requires : tie.Need-two-requires
 two-requires c κs = search needs
 
--- src/imports.rt:33:39
 compose-requires : tie.Need-compose-requires
 compose-requires c κs = search needs
 
--- src/imports.rt:41:27
 enum-known-imported-2 : tie.Need-enum-known-imported-2
 enum-known-imported-2 c = search needs
 
--- src/imports.rt:41:37
 refused-requires : tie.Need-refused-requires
 refused-requires c κs = search needs
 
--- src/imports.rt:42:31
 enum-known-imported-3 : tie.Need-enum-known-imported-3
 enum-known-imported-3 c = search needs
 
--- src/imports.rt:42:41
 refused-requires-2 : tie.Need-refused-requires-2
 refused-requires-2 c κs = search needs
 
--- src/imports.rt:43:34
 enum-told : tie.Need-enum-told
 enum-told c = search needs
 
--- src/imports.rt:43:34
 refused-requires-3 : tie.Need-refused-requires-3
 refused-requires-3 c κs = search needs
 
--- src/imports.rt:29:1
 returns : tie.Need-returns
 unfolding importedAnswer said
 returns c = simp (c .before .before .before .before .imported .given .1, c .compose .ensures, c .before .two .ensures)
 
--- src/imports.rt:29:1
 returns-2 : tie.Need-returns-2
 unfolding importedAnswer said
 returns-2 c = rw (c .before .before .imported2 .given .1) (c .refused .ensures)
 
--- src/imports.rt:29:1
 returns-3 : tie.Need-returns-3
 unfolding importedAnswer said
 returns-3 c = rw (c .before .before .imported3 .given .1) (c .refused2 .ensures)
 
--- src/imports.rt:29:1
 returns-4 : tie.Need-returns-4
 unfolding importedAnswer said
 returns-4 c = rw (c .before .enum-told .given .1) (c .refused3 .ensures)

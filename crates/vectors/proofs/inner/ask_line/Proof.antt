@@ -1,8 +1,6 @@
 -- By the five numbers.
-use mathlib.Core.Path.{_≡_, refl, sym, ap, _∙_}
-use native.Mathlib.Omega.{arith}
+use mathlib.Core.Path.{_≡_, sym, ap, _∙_}
 use borrow.Author.Tests.{eq-eqb, ne-eqb}
-use lib.ListN.{length}
 use mir.Facts.{toZ-ofZ}
 use mir.Val.{SFits, toZ, ofZ}
 use mir.Syntax.{w64}
@@ -11,13 +9,6 @@ use Rattle.vectors.specs.Inside.{lineReply, lineOf}
 use borrow.Author.Needs.{needs}
 use Rattle.vectors.proofs.inner.ask_line.Statement.{statement}
 use Rattle.vectors.proofs.inner.ask_line.Tie as tie
-use Rattle.vectors.proofs.inner.ask_line.Reads as reads
-use Rattle.vectors.proofs.inner.ask_line.Lts as lts
-use Rattle.curves.proofs.line.on_line.Reads as on-line-reads
-use Rattle.vectors.proofs.answer.unread.Reads as unread-reads
-use Rattle.vectors.proofs.inner.say_line.Reads as say-line-reads
-use Rattle.vectors.proofs.operands.column_count.Reads as column-count-reads
-use Rattle.vectors.proofs.operands.integer_at.Reads as integer-at-reads
 
 -- each number passed its word unchanged
 word1 : (k : tie.After-known-told) → toZ w64 (ofZ w64 (k .before .x0 .given .0 .0)) ≡ k .before .x0 .given .0 .0
@@ -45,133 +36,102 @@ word5 k =
     let f : SFits w64 (k .before .x .given .0 .0) = search needs in
     toZ-ofZ f
 
--- src/inner.rt:195:8
 column-count-requires : tie.Need-column-count-requires
 column-count-requires c κs = search needs
 
--- src/inner.rt:196:9
 unread-requires : tie.Need-unread-requires
 unread-requires c κs = search needs
 
--- src/inner.rt:196:9
 returns : tie.Need-returns
 unfolding lineReply
 returns c = c .unread .ensures ∙ rw (ne-eqb _ 5 (λ p. c .before .if1 .taken (c .before .before .column-count .ensures ∙ p)))
 
--- src/inner.rt:198:27
 integer-at-requires : tie.Need-integer-at-requires
 integer-at-requires c κs = search needs
 
--- src/inner.rt:198:21
 enum-known-x0 : tie.Need-enum-known-x0
 enum-known-x0 c = search needs
 
--- src/inner.rt:199:9
 enum-told : tie.Need-enum-told
 enum-told c = search needs
 
--- src/inner.rt:199:9
 unread-requires-2 : tie.Need-unread-requires-2
 unread-requires-2 c κs = search needs
 
--- src/inner.rt:199:9
 returns-2 : tie.Need-returns-2
 unfolding lineReply lineOf
 returns-2 c = c .unread2 .ensures ∙ rw (eq-eqb _ 5 (sym (c .before .before .before .before .before .column-count .ensures) ∙ c .before .before .before .before .if1 .left), sym (c .before .before .before .integer-at .ensures) ∙ c .before .enum-told .given .1)
 
--- src/inner.rt:201:27
 integer-at-requires-2 : tie.Need-integer-at-requires-2
 integer-at-requires-2 c κs = search needs
 
--- src/inner.rt:201:21
 enum-known-y0 : tie.Need-enum-known-y0
 enum-known-y0 c = search needs
 
--- src/inner.rt:202:9
 enum-told-2 : tie.Need-enum-told-2
 enum-told-2 c = search needs
 
--- src/inner.rt:202:9
 unread-requires-3 : tie.Need-unread-requires-3
 unread-requires-3 c κs = search needs
 
--- src/inner.rt:202:9
 returns-3 : tie.Need-returns-3
 unfolding lineReply lineOf
 returns-3 c = c .unread3 .ensures ∙ rw (eq-eqb _ 5 (sym (c .before .before .before .before .before .before .before .before .before .column-count .ensures) ∙ c .before .before .before .before .before .before .before .before .if1 .left), sym (c .before .before .before .before .before .before .before .integer-at .ensures) ∙ c .before .before .before .before .before .x0 .given .1, sym (c .before .before .before .integer-at2 .ensures) ∙ c .before .enum-told2 .given .1)
 
--- src/inner.rt:204:27
 integer-at-requires-3 : tie.Need-integer-at-requires-3
 integer-at-requires-3 c κs = search needs
 
--- src/inner.rt:204:21
 enum-known-x1 : tie.Need-enum-known-x1
 enum-known-x1 c = search needs
 
--- src/inner.rt:205:9
 enum-told-3 : tie.Need-enum-told-3
 enum-told-3 c = search needs
 
--- src/inner.rt:205:9
 unread-requires-4 : tie.Need-unread-requires-4
 unread-requires-4 c κs = search needs
 
--- src/inner.rt:205:9
 returns-4 : tie.Need-returns-4
 unfolding lineReply lineOf
 returns-4 c = c .unread4 .ensures ∙ rw (eq-eqb _ 5 (sym (c .before .before .before .before .before .before .before .before .before .before .before .before .before .column-count .ensures) ∙ c .before .before .before .before .before .before .before .before .before .before .before .before .if1 .left), sym (c .before .before .before .before .before .before .before .before .before .before .before .integer-at .ensures) ∙ c .before .before .before .before .before .before .before .before .before .x0 .given .1, sym (c .before .before .before .before .before .before .before .integer-at2 .ensures) ∙ c .before .before .before .before .before .y0 .given .1, sym (c .before .before .before .integer-at3 .ensures) ∙ c .before .enum-told3 .given .1)
 
--- src/inner.rt:207:27
 integer-at-requires-4 : tie.Need-integer-at-requires-4
 integer-at-requires-4 c κs = search needs
 
--- src/inner.rt:207:21
 enum-known-y1 : tie.Need-enum-known-y1
 enum-known-y1 c = search needs
 
--- src/inner.rt:208:9
 enum-told-4 : tie.Need-enum-told-4
 enum-told-4 c = search needs
 
--- src/inner.rt:208:9
 unread-requires-5 : tie.Need-unread-requires-5
 unread-requires-5 c κs = search needs
 
--- src/inner.rt:208:9
 returns-5 : tie.Need-returns-5
 unfolding lineReply lineOf
 returns-5 c = c .unread5 .ensures ∙ rw (eq-eqb _ 5 (sym (c .before .before .before .before .before .before .before .before .before .before .before .before .before .before .before .before .before .column-count .ensures) ∙ c .before .before .before .before .before .before .before .before .before .before .before .before .before .before .before .before .if1 .left), sym (c .before .before .before .before .before .before .before .before .before .before .before .before .before .before .before .integer-at .ensures) ∙ c .before .before .before .before .before .before .before .before .before .before .before .before .before .x0 .given .1, sym (c .before .before .before .before .before .before .before .before .before .before .before .integer-at2 .ensures) ∙ c .before .before .before .before .before .before .before .before .before .y0 .given .1, sym (c .before .before .before .before .before .before .before .integer-at3 .ensures) ∙ c .before .before .before .before .before .x1 .given .1, sym (c .before .before .before .integer-at4 .ensures) ∙ c .before .enum-told4 .given .1)
 
--- src/inner.rt:210:26
 integer-at-requires-5 : tie.Need-integer-at-requires-5
 integer-at-requires-5 c κs = search needs
 
--- src/inner.rt:210:21
 enum-known-x : tie.Need-enum-known-x
 enum-known-x c = search needs
 
--- src/inner.rt:211:9
 enum-told-5 : tie.Need-enum-told-5
 enum-told-5 c = search needs
 
--- src/inner.rt:211:9
 unread-requires-6 : tie.Need-unread-requires-6
 unread-requires-6 c κs = search needs
 
--- src/inner.rt:211:9
 returns-6 : tie.Need-returns-6
 unfolding lineReply lineOf
 returns-6 c = c .unread6 .ensures ∙ rw (eq-eqb _ 5 (sym (c .before .before .before .before .before .before .before .before .before .before .before .before .before .before .before .before .before .before .before .before .before .column-count .ensures) ∙ c .before .before .before .before .before .before .before .before .before .before .before .before .before .before .before .before .before .before .before .before .if1 .left), sym (c .before .before .before .before .before .before .before .before .before .before .before .before .before .before .before .before .before .before .before .integer-at .ensures) ∙ c .before .before .before .before .before .before .before .before .before .before .before .before .before .before .before .before .before .x0 .given .1, sym (c .before .before .before .before .before .before .before .before .before .before .before .before .before .before .before .integer-at2 .ensures) ∙ c .before .before .before .before .before .before .before .before .before .before .before .before .before .y0 .given .1, sym (c .before .before .before .before .before .before .before .before .before .before .before .integer-at3 .ensures) ∙ c .before .before .before .before .before .before .before .before .before .x1 .given .1, sym (c .before .before .before .before .before .before .before .integer-at4 .ensures) ∙ c .before .before .before .before .before .y1 .given .1, sym (c .before .before .before .integer-at5 .ensures) ∙ c .before .enum-told5 .given .1)
 
--- src/inner.rt:213:14
 on-line-requires : tie.Need-on-line-requires
 on-line-requires c κs = search needs
 
--- src/inner.rt:213:5
 say-line-requires : tie.Need-say-line-requires
 say-line-requires c κs = search needs
 
--- src/inner.rt:192:1
 returns-7 : tie.Need-returns-7
 unfolding lineReply lineOf
 returns-7 c = rw (eq-eqb _ 5 (sym (c .before .before .before .before .before .before .before .before .before .before .before .before .before .before .before .before .before .before .before .before .before .before .before .column-count .ensures) ∙ c .before .before .before .before .before .before .before .before .before .before .before .before .before .before .before .before .before .before .before .before .before .before .if1 .left), sym (c .before .before .before .before .before .before .before .before .before .before .before .before .before .before .before .before .before .before .before .before .before .integer-at .ensures) ∙ c .before .before .before .before .before .before .before .before .before .before .before .before .before .before .before .before .before .before .before .x0 .given .1, sym (c .before .before .before .before .before .before .before .before .before .before .before .before .before .before .before .before .before .integer-at2 .ensures) ∙ c .before .before .before .before .before .before .before .before .before .before .before .before .before .before .before .y0 .given .1, sym (c .before .before .before .before .before .before .before .before .before .before .before .before .before .integer-at3 .ensures) ∙ c .before .before .before .before .before .before .before .before .before .before .before .x1 .given .1, sym (c .before .before .before .before .before .before .before .before .before .integer-at4 .ensures) ∙ c .before .before .before .before .before .before .before .y1 .given .1, sym (c .before .before .before .before .before .integer-at5 .ensures) ∙ c .before .before .before .x .given .1)

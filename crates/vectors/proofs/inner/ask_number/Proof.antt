@@ -1,67 +1,50 @@
 -- Case by case.
-use mathlib.Core.Path.{_≡_, sym, ap, _∙_, refl}
+use mathlib.Core.Path.{ap, _∙_}
 use mir.Facts.{toZ-ofZ}
 use mir.Val.{SFits}
 use mir.Syntax.{w64}
-use Rattle.vectors.specs.Replies.{wordsAnswer, integerAnswer, numberAnswer, widthAnswer, fieldAnswer, stringAnswer, lineAnswer}
+use Rattle.vectors.specs.Replies.{integerAnswer, numberAnswer}
 use borrow.Author.Needs.{needs}
 use Rattle.vectors.proofs.inner.ask_number.Statement.{statement}
 use Rattle.vectors.proofs.inner.ask_number.Tie as tie
-use Rattle.vectors.proofs.inner.ask_number.Reads as reads
-use Rattle.vectors.proofs.inner.ask_number.Lts as lts
-use Rattle.numbers.proofs.read_number.Reads as read-number-reads
-use Rattle.vectors.proofs.inner.say_words.Reads as say-words-reads
-use Rattle.vectors.proofs.packet_questions.say_integer.Reads as say-integer-reads
 
--- src/inner.rt:49:11
 read-number-requires : tie.Need-read-number-requires
 read-number-requires c κs = search needs
 
--- src/inner.rt:50:23
 enum-known-v : tie.Need-enum-known-v
 enum-known-v c = search needs
 
--- src/inner.rt:50:29
 say-integer-requires : tie.Need-say-integer-requires
 say-integer-requires c κs = search needs
 
--- src/inner.rt:51:40
 enum-told : tie.Need-enum-told
 enum-told c = search needs
 
--- src/inner.rt:51:40
 slice-aggregate-say-words : tie.Need-slice-aggregate-say-words
 slice-aggregate-say-words c = search needs
 
--- src/inner.rt:51:30
 say-words-requires : tie.Need-say-words-requires
 say-words-requires c κs = search needs
 
--- src/inner.rt:52:37
 enum-told-2 : tie.Need-enum-told-2
 enum-told-2 c = search needs
 
--- src/inner.rt:52:37
 slice-aggregate-say-words-2 : tie.Need-slice-aggregate-say-words-2
 slice-aggregate-say-words-2 c = search needs
 
--- src/inner.rt:52:27
 say-words-requires-2 : tie.Need-say-words-requires-2
 say-words-requires-2 c κs = search needs
 
--- src/inner.rt:46:1
 returns : tie.Need-returns
 unfolding numberAnswer
 returns c = let v = c .before .before .v .given .0 .0 in
     let f : SFits w64 v = search needs in
     rw (← c .before .before .before .before .read-number .ensures, c .before .before .v .given .1) (c .say-integer .ensures ∙ ap integerAnswer (toZ-ofZ f))
 
--- src/inner.rt:46:1
 returns-2 : tie.Need-returns-2
 unfolding numberAnswer
 returns-2 c = rw (← c .before .before .before .before .read-number .ensures, c .before .before .enum-told .given .1) (c .say-words .ensures)
 
--- src/inner.rt:46:1
 returns-3 : tie.Need-returns-3
 unfolding numberAnswer
 returns-3 c = rw (← c .before .before .before .before .read-number .ensures, c .before .before .enum-told2 .given .1) (c .say-words2 .ensures)

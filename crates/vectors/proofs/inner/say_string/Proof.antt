@@ -1,83 +1,61 @@
 -- Case by case.
-use Rattle.vectors.specs.Replies.{wordsAnswer, integerAnswer, numberAnswer, widthAnswer, fieldAnswer, stringAnswer, lineAnswer}
+use Rattle.vectors.specs.Replies.{stringAnswer}
 use Rattle.fields.specs.Text.{saidString}
 use borrow.Author.Needs.{needs}
 use Rattle.vectors.proofs.inner.say_string.Statement.{statement}
 use Rattle.vectors.proofs.inner.say_string.Tie as tie
-use Rattle.vectors.proofs.inner.say_string.Reads as reads
-use Rattle.vectors.proofs.inner.say_string.Lts as lts
-use Rattle.vectors.proofs.answer.says.Reads as says-reads
-use Rattle.vectors.proofs.answer.two.Reads as two-reads
-use Rattle.vectors.proofs.inner.say_words.Reads as say-words-reads
 
--- src/inner.rt:160:26
 enum-known-found : tie.Need-enum-known-found
 enum-known-found c = search needs
 
--- src/inner.rt:160:40
 slice-aggregate-says : tie.Need-slice-aggregate-says
 slice-aggregate-says c = search needs
 
--- src/inner.rt:160:74
 two-requires : tie.Need-two-requires
 two-requires c κs = search needs
 
--- src/inner.rt:160:35
 says-requires : tie.Need-says-requires
 says-requires c κs = search needs
 
--- src/inner.rt:161:40
 enum-told : tie.Need-enum-told
 enum-told c = search needs
 
--- src/inner.rt:161:40
 slice-aggregate-say-words : tie.Need-slice-aggregate-say-words
 slice-aggregate-say-words c = search needs
 
--- src/inner.rt:161:30
 say-words-requires : tie.Need-say-words-requires
 say-words-requires c κs = search needs
 
--- src/inner.rt:162:40
 enum-told-2 : tie.Need-enum-told-2
 enum-told-2 c = search needs
 
--- src/inner.rt:162:40
 slice-aggregate-say-words-2 : tie.Need-slice-aggregate-say-words-2
 slice-aggregate-say-words-2 c = search needs
 
--- src/inner.rt:162:30
 say-words-requires-2 : tie.Need-say-words-requires-2
 say-words-requires-2 c κs = search needs
 
--- src/inner.rt:163:40
 enum-told-3 : tie.Need-enum-told-3
 enum-told-3 c = search needs
 
--- src/inner.rt:163:40
 slice-aggregate-say-words-3 : tie.Need-slice-aggregate-say-words-3
 slice-aggregate-say-words-3 c = search needs
 
--- src/inner.rt:163:30
 say-words-requires-3 : tie.Need-say-words-requires-3
 say-words-requires-3 c κs = search needs
 
--- src/inner.rt:156:1
 returns : tie.Need-returns
 unfolding stringAnswer saidString
 returns c = simp (c .before .before .before .before .found .given .1, c .says .ensures, c .before .two .ensures)
 
--- src/inner.rt:156:1
 returns-2 : tie.Need-returns-2
 unfolding stringAnswer saidString
 returns-2 c = simp (c .before .before .enum-told .given .1, c .say-words .ensures)
 
--- src/inner.rt:156:1
 returns-3 : tie.Need-returns-3
 unfolding stringAnswer saidString
 returns-3 c = simp (c .before .before .enum-told2 .given .1, c .say-words2 .ensures)
 
--- src/inner.rt:156:1
 returns-4 : tie.Need-returns-4
 unfolding stringAnswer saidString
 returns-4 c = simp (c .before .before .enum-told3 .given .1, c .say-words3 .ensures)

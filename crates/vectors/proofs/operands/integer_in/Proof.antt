@@ -1,48 +1,37 @@
 -- By what the text is.
 use mir.Facts.{toZ-ofZ}
-use mir.Val.{SFits, toZ, ofZ}
+use mir.Val.{SFits}
 use mir.Syntax.{w64}
-use mathlib.Core.Path.{_≡_}
 use Rattle.vectors.proofs.NumeralLaws.{integer-is}
 use Rattle.vectors.specs.declared.operands.Integer.the-variants.{Is}
-use mathlib.Core.Path.{refl, sym, _∙_, ap}
+use mathlib.Core.Path.{sym, _∙_, ap}
 use Rattle.vectors.specs.Numerals.{integerIn, integerOf}
 use borrow.Author.Needs.{needs}
 use Rattle.vectors.proofs.operands.integer_in.Statement.{statement}
 use Rattle.vectors.proofs.operands.integer_in.Tie as tie
-use Rattle.vectors.proofs.operands.integer_in.Reads as reads
-use Rattle.vectors.proofs.operands.integer_in.Lts as lts
-use Rattle.numbers.proofs.read_number.Reads as read-number-reads
 
--- src/operands.rt:54:11
 read-number-requires : tie.Need-read-number-requires
 read-number-requires c κs = search needs
 
--- src/operands.rt:55:23
 enum-known-v : tie.Need-enum-known-v
 enum-known-v c = search needs
 
--- src/operands.rt:56:30
 enum-told : tie.Need-enum-told
 enum-told c = search needs
 
--- src/operands.rt:57:27
 enum-told-2 : tie.Need-enum-told-2
 enum-told-2 c = search needs
 
--- src/operands.rt:51:1
 returns : tie.Need-returns
 unfolding integerIn
 returns c = let v = c .before .v .given .0 .0 in
     let f : SFits w64 v = search needs in
     ap Is (toZ-ofZ f) ∙ integer-is _ v (sym (c .before .before .before .read-number .ensures) ∙ c .before .v .given .1)
 
--- src/operands.rt:51:1
 returns-2 : tie.Need-returns-2
 unfolding integerIn integerOf
 returns-2 c = rw (← c .before .before .read-number .ensures, c .enum-told .given .1)
 
--- src/operands.rt:51:1
 returns-3 : tie.Need-returns-3
 unfolding integerIn integerOf
 returns-3 c = rw (← c .before .before .read-number .ensures, c .enum-told2 .given .1)

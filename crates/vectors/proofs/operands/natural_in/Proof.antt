@@ -12,11 +12,6 @@ use Rattle.vectors.proofs.NumeralLaws.{natural-below, natural-is, natur
 use borrow.Author.Needs.{needs}
 use Rattle.vectors.proofs.operands.natural_in.Statement.{statement}
 use Rattle.vectors.proofs.operands.natural_in.Tie as tie
-use Rattle.vectors.proofs.operands.natural_in.Reads as reads
-use Rattle.vectors.proofs.operands.natural_in.Lts as lts
-use Rattle.curves.proofs.ints.less.Reads as less-reads
-use Rattle.curves.proofs.ints.size.Reads as size-reads
-use Rattle.numbers.proofs.read_number.Reads as read-number-reads
 
 abbrev At : Type 0
 At = tie.After-known-told
@@ -33,48 +28,38 @@ word k =
     let f : SFits w64 (value k) = search needs in
     toZ-ofZ f
 
--- src/operands.rt:23:11
 read-number-requires : tie.Need-read-number-requires
 read-number-requires c κs = search needs
 
--- src/operands.rt:24:23
 enum-known-v : tie.Need-enum-known-v
 enum-known-v c = search needs
 
--- src/operands.rt:25:16
 less-requires : tie.Need-less-requires
 less-requires c κs = search needs
 
--- src/operands.rt:26:17
 returns : tie.Need-returns
 unfolding naturalIn
 returns c = let k = c .before .before in
     natural-below _ (value k) (is k) (rw (word k) at (sym (c .before .less .ensures) ∙ c .if1 .taken))
 
--- src/operands.rt:28:25
 size-requires : tie.Need-size-requires
 size-requires c κs = search needs
 
--- src/operands.rt:30:30
 enum-told : tie.Need-enum-told
 enum-told c = search needs
 
--- src/operands.rt:31:27
 enum-told-2 : tie.Need-enum-told-2
 enum-told-2 c = search needs
 
--- src/operands.rt:20:1
 returns-2 : tie.Need-returns-2
 unfolding naturalIn
 returns-2 c = let k = c .before .before .before in
     ap Is (c .size .ensures ∙ ap natAbs (word k)) ∙ natural-is _ (value k) (is k) (rw (word k) at (sym (c .before .before .less .ensures) ∙ c .before .if1 .left))
 
--- src/operands.rt:20:1
 returns-3 : tie.Need-returns-3
 unfolding naturalIn
 returns-3 c = natural-none _ (sym (c .before .before .read-number .ensures) ∙ c .enum-told .given .1)
 
--- src/operands.rt:20:1
 returns-4 : tie.Need-returns-4
 unfolding naturalIn
 returns-4 c = natural-beyond _ (sym (c .before .before .read-number .ensures) ∙ c .enum-told2 .given .1)

@@ -1,5 +1,5 @@
 -- Case by case.
-use mathlib.Core.Path.{_≡_, sym, ap, _∙_, refl}
+use mathlib.Core.Path.{ap, _∙_}
 use mir.Facts.{toZ-ofZ}
 use mir.Val.{SFits}
 use mir.Syntax.{w64}
@@ -8,112 +8,81 @@ use Rattle.vectors.specs.Replies.{engineeringAnswer, integerAnswer}
 use borrow.Author.Needs.{needs}
 use Rattle.vectors.proofs.packet_questions.say_engineered.Statement.{statement}
 use Rattle.vectors.proofs.packet_questions.say_engineered.Tie as tie
-use Rattle.vectors.proofs.packet_questions.say_engineered.Reads as reads
-use Rattle.vectors.proofs.packet_questions.say_engineered.Lts as lts
-use Rattle.vectors.proofs.answer.refused.Reads as refused-reads
-use Rattle.vectors.proofs.answer.says.Reads as says-reads
-use Rattle.vectors.proofs.answer.two.Reads as two-reads
-use Rattle.vectors.proofs.packet_questions.refused_question.Reads as refused-question-reads
-use Rattle.vectors.proofs.packet_questions.say_integer.Reads as say-integer-reads
-use Rattle.vectors.proofs.packet_questions.say_text.Reads as say-text-reads
 
--- src/packet_questions.rt:110:28
 enum-known-engineered : tie.Need-enum-known-engineered
 enum-known-engineered c = search needs
 
--- src/packet_questions.rt:110:34
 say-integer-requires : tie.Need-say-integer-requires
 say-integer-requires c κs = search needs
 
--- src/packet_questions.rt:111:26
 enum-known-engineered-2 : tie.Need-enum-known-engineered-2
 enum-known-engineered-2 c = search needs
 
--- src/packet_questions.rt:112:13
 slice-aggregate-says : tie.Need-slice-aggregate-says
 slice-aggregate-says c = search needs
 
--- src/packet_questions.rt:114:13
 two-requires : tie.Need-two-requires
 two-requires c κs = search needs
 
--- src/packet_questions.rt:111:42
 says-requires : tie.Need-says-requires
 says-requires c κs = search needs
 
--- src/packet_questions.rt:116:26
 enum-known-engineered-3 : tie.Need-enum-known-engineered-3
 enum-known-engineered-3 c = search needs
 
--- src/packet_questions.rt:116:47
 say-text-requires : tie.Need-say-text-requires
 say-text-requires c κs = search needs
 
--- src/packet_questions.rt:117:33
 enum-told : tie.Need-enum-told
 enum-told c = search needs
 
--- src/packet_questions.rt:117:33
 refused-requires : tie.Need-refused-requires
 refused-requires c κs = search needs
 
--- src/packet_questions.rt:118:35
 enum-told-2 : tie.Need-enum-told-2
 enum-told-2 c = search needs
 
--- src/packet_questions.rt:118:35
 refused-requires-2 : tie.Need-refused-requires-2
 refused-requires-2 c κs = search needs
 
--- src/packet_questions.rt:119:31
 enum-told-3 : tie.Need-enum-told-3
 enum-told-3 c = search needs
 
--- src/packet_questions.rt:119:31
 refused-requires-3 : tie.Need-refused-requires-3
 refused-requires-3 c κs = search needs
 
--- src/packet_questions.rt:120:29
 enum-known-engineered-4 : tie.Need-enum-known-engineered-4
 enum-known-engineered-4 c = search needs
 
--- src/packet_questions.rt:120:41
 refused-question-requires : tie.Need-refused-question-requires
 refused-question-requires c κs = search needs
 
--- src/packet_questions.rt:106:1
 returns : tie.Need-returns
 unfolding engineeringAnswer engineer.said
 returns c = let v = c .before .before .engineered .given .0 .0 in
     let f : SFits w64 v = search needs in
     rw (c .before .before .engineered .given .1) (c .say-integer .ensures ∙ ap integerAnswer (toZ-ofZ f))
 
--- src/packet_questions.rt:106:1
 returns-2 : tie.Need-returns-2
 unfolding engineeringAnswer engineer.said
 returns-2 c = simp (c .before .before .before .before .engineered2 .given .1, c .says .ensures, c .before .two .ensures)
 
--- src/packet_questions.rt:106:1
 returns-3 : tie.Need-returns-3
 unfolding engineer.said
 returns-3 c = rw (c .before .before .engineered3 .given .1) (c .say-text .ensures)
 
--- src/packet_questions.rt:106:1
 returns-4 : tie.Need-returns-4
 unfolding engineeringAnswer engineer.said
 returns-4 c = rw (c .before .enum-told .given .1) (c .refused .ensures)
 
--- src/packet_questions.rt:106:1
 returns-5 : tie.Need-returns-5
 unfolding engineeringAnswer engineer.said
 returns-5 c = rw (c .before .enum-told2 .given .1) (c .refused2 .ensures)
 
--- src/packet_questions.rt:106:1
 returns-6 : tie.Need-returns-6
 unfolding engineeringAnswer engineer.said
 returns-6 c = rw (c .before .enum-told3 .given .1) (c .refused3 .ensures)
 
--- src/packet_questions.rt:106:1
 returns-7 : tie.Need-returns-7
 unfolding engineeringAnswer engineer.said
 returns-7 c = rw (c .before .before .engineered4 .given .1) (c .refused-question .ensures)

@@ -1,5 +1,4 @@
 -- Case by case.
-use mathlib.Core.Path.{_≡_, sym, ap, _∙_, refl}
 use mir.Facts.{toZ-ofZ}
 use mir.Val.{SFits}
 use mir.Syntax.{w64}
@@ -8,49 +7,35 @@ use Rattle.vectors.specs.Replies.{readAnswer}
 use borrow.Author.Needs.{needs}
 use Rattle.vectors.proofs.packet_questions.say_extracted.Statement.{statement}
 use Rattle.vectors.proofs.packet_questions.say_extracted.Tie as tie
-use Rattle.vectors.proofs.packet_questions.say_extracted.Reads as reads
-use Rattle.vectors.proofs.packet_questions.say_extracted.Lts as lts
-use Rattle.vectors.proofs.packet_questions.refused_question.Reads as refused-question-reads
-use Rattle.vectors.proofs.packet_questions.say_part.Reads as say-part-reads
-use Rattle.vectors.proofs.packet_questions.say_reading.Reads as say-reading-reads
 
--- src/packet_questions.rt:86:27
 enum-known-extracted : tie.Need-enum-known-extracted
 enum-known-extracted c = search needs
 
--- src/packet_questions.rt:86:40
 say-reading-requires : tie.Need-say-reading-requires
 say-reading-requires c κs = search needs
 
--- src/packet_questions.rt:87:25
 enum-known-extracted-2 : tie.Need-enum-known-extracted-2
 enum-known-extracted-2 c = search needs
 
--- src/packet_questions.rt:87:48
 say-part-requires : tie.Need-say-part-requires
 say-part-requires c κs = search needs
 
--- src/packet_questions.rt:88:28
 enum-known-extracted-3 : tie.Need-enum-known-extracted-3
 enum-known-extracted-3 c = search needs
 
--- src/packet_questions.rt:88:40
 refused-question-requires : tie.Need-refused-question-requires
 refused-question-requires c κs = search needs
 
--- src/packet_questions.rt:82:1
 returns : tie.Need-returns
 unfolding extract.said
 returns c = let v = c .before .before .extracted .given .0 .0 in
     let f : SFits w64 v = search needs in
     simp (c .before .before .extracted .given .1, c .say-reading .ensures, toZ-ofZ f)
 
--- src/packet_questions.rt:82:1
 returns-2 : tie.Need-returns-2
 unfolding extract.said
 returns-2 c = rw (c .before .before .extracted2 .given .1) (c .say-part .ensures)
 
--- src/packet_questions.rt:82:1
 returns-3 : tie.Need-returns-3
 unfolding readAnswer extract.said
 returns-3 c = rw (c .before .before .extracted3 .given .1) (c .refused-question .ensures)

@@ -4,53 +4,38 @@ use Rattle.vectors.specs.Replies.{identifiedAnswer}
 use borrow.Author.Needs.{needs}
 use Rattle.vectors.proofs.packet_questions.say_identified.Statement.{statement}
 use Rattle.vectors.proofs.packet_questions.say_identified.Tie as tie
-use Rattle.vectors.proofs.packet_questions.say_identified.Reads as reads
-use Rattle.vectors.proofs.packet_questions.say_identified.Lts as lts
-use Rattle.vectors.proofs.answer.says.Reads as says-reads
-use Rattle.vectors.proofs.packet_questions.refused_question.Reads as refused-question-reads
 
--- src/packet_questions.rt:38:24
 enum-known-identified : tie.Need-enum-known-identified
 enum-known-identified c = search needs
 
--- src/packet_questions.rt:39:13
 slice-aggregate-says : tie.Need-slice-aggregate-says
 slice-aggregate-says c = search needs
 
--- src/packet_questions.rt:43:17
 cast-t11 : tie.Need-cast-t11
 cast-t11 c = search needs
 
--- src/packet_questions.rt:44:17
 cast-t12 : tie.Need-cast-t12
 cast-t12 c = search needs
 
--- src/packet_questions.rt:45:17
 cast-t13 : tie.Need-cast-t13
 cast-t13 c = search needs
 
--- src/packet_questions.rt:46:17
 cast-t14 : tie.Need-cast-t14
 cast-t14 c = search needs
 
--- src/packet_questions.rt:38:41
 says-requires : tie.Need-says-requires
 says-requires c κs = search needs
 
--- src/packet_questions.rt:51:29
 enum-known-identified-2 : tie.Need-enum-known-identified-2
 enum-known-identified-2 c = search needs
 
--- src/packet_questions.rt:51:41
 refused-question-requires : tie.Need-refused-question-requires
 refused-question-requires c κs = search needs
 
--- src/packet_questions.rt:34:1
 returns : tie.Need-returns
 unfolding identifiedAnswer identify.said
 returns c = rw (c .before .before .before .before .before .before .before .identified .given .1) (c .says .ensures)
 
--- src/packet_questions.rt:34:1
 returns-2 : tie.Need-returns-2
 unfolding identifiedAnswer identify.said
 returns-2 c = rw (c .before .before .identified2 .given .1) (c .refused-question .ensures)

@@ -1,5 +1,4 @@
 -- A magnitude, and a minus before a negative one.
-use mathlib.Core.Path.{_≡_, sym, ap, _∙_, refl}
 use mir.Facts.{toZ-ofZ}
 use mir.Val.{SFits}
 use mir.Syntax.{w64}
@@ -7,34 +6,22 @@ use Rattle.vectors.specs.Replies.{integerAnswer}
 use borrow.Author.Needs.{needs}
 use Rattle.vectors.proofs.packet_questions.say_integer.Statement.{statement}
 use Rattle.vectors.proofs.packet_questions.say_integer.Tie as tie
-use Rattle.vectors.proofs.packet_questions.say_integer.Reads as reads
-use Rattle.vectors.proofs.packet_questions.say_integer.Lts as lts
-use Rattle.curves.proofs.ints.less.Reads as less-reads
-use Rattle.curves.proofs.ints.size.Reads as size-reads
-use Rattle.vectors.proofs.answer.one.Reads as one-reads
-use Rattle.vectors.proofs.answer.says.Reads as says-reads
 
--- src/packet_questions.rt:59:10
 slice-aggregate-says : tie.Need-slice-aggregate-says
 slice-aggregate-says c = search needs
 
--- src/packet_questions.rt:59:16
 less-requires : tie.Need-less-requires
 less-requires c κs = search needs
 
--- src/packet_questions.rt:59:32
 size-requires : tie.Need-size-requires
 size-requires c κs = search needs
 
--- src/packet_questions.rt:59:28
 one-requires : tie.Need-one-requires
 one-requires c κs = search needs
 
--- src/packet_questions.rt:59:5
 says-requires : tie.Need-says-requires
 says-requires c κs = search needs
 
--- src/packet_questions.rt:56:1
 returns : tie.Need-returns
 unfolding integerAnswer
 returns c = let f : SFits w64 (c .before .before .before .before .before .args .v) = search needs in

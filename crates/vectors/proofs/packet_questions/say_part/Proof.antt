@@ -3,41 +3,29 @@ use Rattle.vectors.specs.Replies.{readAnswer}
 use borrow.Author.Needs.{needs}
 use Rattle.vectors.proofs.packet_questions.say_part.Statement.{statement}
 use Rattle.vectors.proofs.packet_questions.say_part.Tie as tie
-use Rattle.vectors.proofs.packet_questions.say_part.Reads as reads
-use Rattle.vectors.proofs.packet_questions.say_part.Lts as lts
-use Rattle.vectors.proofs.answer.says.Reads as says-reads
-use Rattle.vectors.proofs.answer.two.Reads as two-reads
 
--- src/packet_questions.rt:77:21
 slice-aggregate-says : tie.Need-slice-aggregate-says
 slice-aggregate-says c = search needs
 
--- src/packet_questions.rt:77:62
 two-requires : tie.Need-two-requires
 two-requires c κs = search needs
 
--- src/packet_questions.rt:77:9
 says-requires : tie.Need-says-requires
 says-requires c κs = search needs
 
--- src/packet_questions.rt:77:9
 returns : tie.Need-returns
 unfolding readAnswer
 returns c = simp (c .before .before .before .if1 .taken, c .says .ensures, c .before .two .ensures)
 
--- src/packet_questions.rt:79:10
 slice-aggregate-says-2 : tie.Need-slice-aggregate-says-2
 slice-aggregate-says-2 c = search needs
 
--- src/packet_questions.rt:79:53
 two-requires-2 : tie.Need-two-requires-2
 two-requires-2 c κs = search needs
 
--- src/packet_questions.rt:79:5
 says-requires-2 : tie.Need-says-requires-2
 says-requires-2 c κs = search needs
 
--- src/packet_questions.rt:73:1
 returns-2 : tie.Need-returns-2
 unfolding readAnswer
 returns-2 c = simp (c .before .before .before .if1 .left, c .says2 .ensures, c .before .two2 .ensures)

@@ -1,5 +1,4 @@
 -- By whether it is valid.
-use mathlib.Core.Path.{_≡_, sym, ap, _∙_, refl}
 use mir.Facts.{toZ-ofZ}
 use mir.Val.{SFits}
 use mir.Syntax.{w64}
@@ -7,52 +6,36 @@ use Rattle.vectors.specs.Replies.{readAnswer}
 use borrow.Author.Needs.{needs}
 use Rattle.vectors.proofs.packet_questions.say_reading.Statement.{statement}
 use Rattle.vectors.proofs.packet_questions.say_reading.Tie as tie
-use Rattle.vectors.proofs.packet_questions.say_reading.Reads as reads
-use Rattle.vectors.proofs.packet_questions.say_reading.Lts as lts
-use Rattle.curves.proofs.ints.less.Reads as less-reads
-use Rattle.curves.proofs.ints.size.Reads as size-reads
-use Rattle.vectors.proofs.answer.one.Reads as one-reads
-use Rattle.vectors.proofs.answer.says.Reads as says-reads
 
--- src/packet_questions.rt:65:9
 less-requires : tie.Need-less-requires
 less-requires c κs = search needs
 
--- src/packet_questions.rt:66:9
 size-requires : tie.Need-size-requires
 size-requires c κs = search needs
 
--- src/packet_questions.rt:68:21
 slice-aggregate-says : tie.Need-slice-aggregate-says
 slice-aggregate-says c = search needs
 
--- src/packet_questions.rt:68:44
 one-requires : tie.Need-one-requires
 one-requires c κs = search needs
 
--- src/packet_questions.rt:68:9
 says-requires : tie.Need-says-requires
 says-requires c κs = search needs
 
--- src/packet_questions.rt:68:9
 returns : tie.Need-returns
 unfolding readAnswer
 returns c = let f : SFits w64 (c .before .before .before .before .before .before .args .v) = search needs in
     simp (c .before .before .before .if1 .taken, c .says .ensures, c .before .one .ensures, c .before .before .before .before .size .ensures, c .before .before .before .before .before .less .ensures, toZ-ofZ f)
 
--- src/packet_questions.rt:70:10
 slice-aggregate-says-2 : tie.Need-slice-aggregate-says-2
 slice-aggregate-says-2 c = search needs
 
--- src/packet_questions.rt:70:35
 one-requires-2 : tie.Need-one-requires-2
 one-requires-2 c κs = search needs
 
--- src/packet_questions.rt:70:5
 says-requires-2 : tie.Need-says-requires-2
 says-requires-2 c κs = search needs
 
--- src/packet_questions.rt:62:1
 returns-2 : tie.Need-returns-2
 unfolding readAnswer
 returns-2 c = let f : SFits w64 (c .before .before .before .before .before .before .args .v) = search needs in

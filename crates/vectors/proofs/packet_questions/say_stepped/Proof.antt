@@ -4,132 +4,98 @@ use Rattle.vectors.specs.Replies.{steppingAnswer}
 use borrow.Author.Needs.{needs}
 use Rattle.vectors.proofs.packet_questions.say_stepped.Statement.{statement}
 use Rattle.vectors.proofs.packet_questions.say_stepped.Tie as tie
-use Rattle.vectors.proofs.packet_questions.say_stepped.Reads as reads
-use Rattle.vectors.proofs.packet_questions.say_stepped.Lts as lts
-use Rattle.vectors.proofs.answer.refused.Reads as refused-reads
-use Rattle.vectors.proofs.answer.says.Reads as says-reads
-use Rattle.vectors.proofs.packet_questions.refused_question.Reads as refused-question-reads
 
--- src/packet_questions.rt:128:21
 enum-known-stepped : tie.Need-enum-known-stepped
 enum-known-stepped c = search needs
 
--- src/packet_questions.rt:129:13
 slice-aggregate-says : tie.Need-slice-aggregate-says
 slice-aggregate-says c = search needs
 
--- src/packet_questions.rt:132:17
 cast-t8 : tie.Need-cast-t8
 cast-t8 c = search needs
 
--- src/packet_questions.rt:133:17
 cast-t9 : tie.Need-cast-t9
 cast-t9 c = search needs
 
--- src/packet_questions.rt:134:17
 cast-t10 : tie.Need-cast-t10
 cast-t10 c = search needs
 
--- src/packet_questions.rt:135:17
 cast-t11 : tie.Need-cast-t11
 cast-t11 c = search needs
 
--- src/packet_questions.rt:128:31
 says-requires : tie.Need-says-requires
 says-requires c κs = search needs
 
--- src/packet_questions.rt:141:30
 enum-told : tie.Need-enum-told
 enum-told c = search needs
 
--- src/packet_questions.rt:141:30
 refused-requires : tie.Need-refused-requires
 refused-requires c κs = search needs
 
--- src/packet_questions.rt:142:32
 enum-told-2 : tie.Need-enum-told-2
 enum-told-2 c = search needs
 
--- src/packet_questions.rt:142:32
 refused-requires-2 : tie.Need-refused-requires-2
 refused-requires-2 c κs = search needs
 
--- src/packet_questions.rt:143:30
 enum-told-3 : tie.Need-enum-told-3
 enum-told-3 c = search needs
 
--- src/packet_questions.rt:143:30
 refused-requires-3 : tie.Need-refused-requires-3
 refused-requires-3 c κs = search needs
 
--- src/packet_questions.rt:144:29
 enum-told-4 : tie.Need-enum-told-4
 enum-told-4 c = search needs
 
--- src/packet_questions.rt:144:29
 refused-requires-4 : tie.Need-refused-requires-4
 refused-requires-4 c κs = search needs
 
--- src/packet_questions.rt:145:30
 enum-told-5 : tie.Need-enum-told-5
 enum-told-5 c = search needs
 
--- src/packet_questions.rt:145:30
 refused-requires-5 : tie.Need-refused-requires-5
 refused-requires-5 c κs = search needs
 
--- src/packet_questions.rt:146:31
 enum-told-6 : tie.Need-enum-told-6
 enum-told-6 c = search needs
 
--- src/packet_questions.rt:146:31
 refused-requires-6 : tie.Need-refused-requires-6
 refused-requires-6 c κs = search needs
 
--- src/packet_questions.rt:147:26
 enum-known-stepped-2 : tie.Need-enum-known-stepped-2
 enum-known-stepped-2 c = search needs
 
--- src/packet_questions.rt:147:38
 refused-question-requires : tie.Need-refused-question-requires
 refused-question-requires c κs = search needs
 
--- src/packet_questions.rt:124:1
 returns : tie.Need-returns
 unfolding steppingAnswer step.said
 returns c = rw (c .before .before .before .before .before .before .before .stepped .given .1) (c .says .ensures)
 
--- src/packet_questions.rt:124:1
 returns-2 : tie.Need-returns-2
 unfolding steppingAnswer step.said
 returns-2 c = rw (c .before .enum-told .given .1) (c .refused .ensures)
 
--- src/packet_questions.rt:124:1
 returns-3 : tie.Need-returns-3
 unfolding steppingAnswer step.said
 returns-3 c = rw (c .before .enum-told2 .given .1) (c .refused2 .ensures)
 
--- src/packet_questions.rt:124:1
 returns-4 : tie.Need-returns-4
 unfolding steppingAnswer step.said
 returns-4 c = rw (c .before .enum-told3 .given .1) (c .refused3 .ensures)
 
--- src/packet_questions.rt:124:1
 returns-5 : tie.Need-returns-5
 unfolding steppingAnswer step.said
 returns-5 c = rw (c .before .enum-told4 .given .1) (c .refused4 .ensures)
 
--- src/packet_questions.rt:124:1
 returns-6 : tie.Need-returns-6
 unfolding steppingAnswer step.said
 returns-6 c = rw (c .before .enum-told5 .given .1) (c .refused5 .ensures)
 
--- src/packet_questions.rt:124:1
 returns-7 : tie.Need-returns-7
 unfolding steppingAnswer step.said
 returns-7 c = rw (c .before .enum-told6 .given .1) (c .refused6 .ensures)
 
--- src/packet_questions.rt:124:1
 returns-8 : tie.Need-returns-8
 unfolding steppingAnswer step.said
 returns-8 c = rw (c .before .before .stepped2 .given .1) (c .refused-question .ensures)

@@ -3,19 +3,13 @@ use Rattle.vectors.specs.Replies.{engineeringAnswer}
 use borrow.Author.Needs.{needs}
 use Rattle.vectors.proofs.packet_questions.say_text.Statement.{statement}
 use Rattle.vectors.proofs.packet_questions.say_text.Tie as tie
-use Rattle.vectors.proofs.packet_questions.say_text.Reads as reads
-use Rattle.vectors.proofs.packet_questions.say_text.Lts as lts
-use Rattle.vectors.proofs.answer.compose.Reads as compose-reads
 
--- src/packet_questions.rt:97:9
 slice-aggregate-compose : tie.Need-slice-aggregate-compose
 slice-aggregate-compose c = search needs
 
--- src/packet_questions.rt:96:5
 compose-requires : tie.Need-compose-requires
 compose-requires c κs = search needs
 
--- src/packet_questions.rt:92:1
 returns : tie.Need-returns
 unfolding engineeringAnswer
 returns c = c .compose .ensures

@@ -1,21 +1,14 @@
 -- The invariant: the lines left lead from here to where all lead.
 use mathlib.Core.Path.{_≡_, refl, sym, ap, _∙_}
 use native.Mathlib.Omega.{arith}
-use Rattle.vectors.proofs.ScriptLaws.{tally-parts, stood-self, no-wait, line-stood, answered-is, state-read, state-unread, area-read, area-unread, first-standing, next-answered, next-line, taken-empty, taken-comment, taken-question, taken-setting, taken-unread, lines-more, lines-end}
-use mathlib.Core.List.{List}
-use Prim.Native.Nat.{ℕ, _-_, _≤_}
+use Rattle.vectors.proofs.ScriptLaws.{first-standing, next-line, lines-more, lines-end}
+use Prim.Native.Nat.{_-_, _≤_}
 use lib.ListN.{length, drop}
 use Rattle.lines.specs.Lines.{linesOf}
 use Rattle.lines.proofs.LineLaws.{next-bounds}
 use Rattle.vectors.specs.Script.{Standing, afterLines, closing, standingIn, firstStanding}
 use Rattle.vectors.proofs.run.run_lines.Statement.{statement}
 use Rattle.vectors.proofs.run.run_lines.Tie as tie
-use Rattle.vectors.proofs.run.run_lines.Reads as reads
-use Rattle.vectors.proofs.run.run_lines.Lts as lts
-use Rattle.lines.proofs.walk.next_line.Reads as next-line-reads
-use Rattle.vectors.proofs.run.close.Reads as close-reads
-use Rattle.vectors.proofs.run.stands.Reads as stands-reads
-use Rattle.vectors.proofs.run.take_next.Reads as take-next-reads
 
 abbrev Inv-loop : tie.InvT-loop
 Inv-loop name text space₀ ends₀ s₀ from₀ number₀ space ends s from number = (from ≤ length text) × (number ≤ from) × (length space ≡ length space₀) × (length ends ≡ length ends₀)
@@ -24,32 +17,25 @@ Inv-loop name text space₀ ends₀ s₀ from₀ number₀ space ends s from num
 abbrev μ-loop : tie.MeasureT-loop
 μ-loop name text space₀ ends₀ s₀ from₀ number₀ space ends s from number = length text - from
 
--- src/run.rt:189:9
 stands-requires : tie.Need-stands-requires Inv-loop μ-loop
 stands-requires c κs = tt
 
--- src/run.rt:205:5
 loop-holds : tie.Need-loop-holds Inv-loop μ-loop
 loop-holds c = (omega arith, omega arith, refl, refl, ap (λ (s : Standing). afterLines s (linesOf (c .before .before .before .before .before .args .text .now))) (first-standing _ _ _ _ (c .stands .ensures)))
 
--- src/run.rt:206:13
 next-line-requires : tie.Need-next-line-requires Inv-loop μ-loop
 next-line-requires c κs = tt
 
--- src/run.rt:207:9
 add-number : tie.Need-add-number Inv-loop μ-loop
 add-number c = omega arith
 
--- src/run.rt:208:9
 take-next-requires : tie.Need-take-next-requires Inv-loop μ-loop
 take-next-requires c κs = tt
 
--- src/run.rt:205:5
 loop-less : tie.Need-loop-less Inv-loop μ-loop
 loop-less c = let l = c .before .before .before .before .before .before .before .before .before in
     omega (arith, next-bounds (c .before .before .before .before .before .before .before .before .before .before .before .before .before .before .before .args .text .now) (l .loop .from) (c .before .before .before .before .before .before .before .next-line .result) (c .before .before .before .before .before .before .before .next-line .ensures) (c .before .before .before .before .before .before .before .before .loop-test .taken) .further, next-bounds (c .before .before .before .before .before .before .before .before .before .before .before .before .before .before .before .args .text .now) (l .loop .from) (c .before .before .before .before .before .before .before .next-line .result) (c .before .before .before .before .before .before .before .next-line .ensures) (c .before .before .before .before .before .before .before .before .loop-test .taken) .within)
 
--- src/run.rt:205:5
 loop-again : tie.Need-loop-again Inv-loop μ-loop
 loop-again c = let l = c .before .before .before .before .before .before .before .before .before .loop in
     let text = c .before .before .before .before .before .before .before .before .before .before .before .before .before .before .before .args .text .now in
@@ -63,19 +49,15 @@ loop-again c = let l = c .before .before .before .before .before .before .before
       ap (λ (s : Standing). afterLines s (linesOf (drop (n .result .next) text))) (c .before .before .before .before .take-next .ensures) ∙ sym (lines-more _ text (l .from) (n .result) (n .ensures) (c .before .before .before .before .before .before .before .before .loop-test .taken)) ∙ l .inv .4,
     )
 
--- src/run.rt:211:5
 close-requires : tie.Need-close-requires Inv-loop μ-loop
 close-requires c κs = tt
 
--- src/run.rt:186:1
 same-length : tie.Need-same-length Inv-loop μ-loop
 same-length c = c .before .before .loop .inv .2
 
--- src/run.rt:186:1
 same-length-2 : tie.Need-same-length-2 Inv-loop μ-loop
 same-length-2 c = c .before .before .loop .inv .3
 
--- src/run.rt:186:1
 returns : tie.Need-returns Inv-loop μ-loop
 returns c = let l = c .before .before .loop in
     let text = c .before .before .before .before .before .before .before .before .args .text .now in

@@ -1,13 +1,9 @@
 -- No question waits.
-use mathlib.Core.Path.{_≡_, refl, sym, ap, _∙_}
-use native.Mathlib.Omega.{arith}
-use Rattle.vectors.specs.Script.{more, counted, stood, closing, closedBy, standingIn}
+use mathlib.Core.Path.{refl}
+use Rattle.vectors.specs.Script.{stood}
 use Rattle.vectors.proofs.run.stands.Statement.{statement}
 use Rattle.vectors.proofs.run.stands.Tie as tie
-use Rattle.vectors.proofs.run.stands.Reads as reads
-use Rattle.vectors.proofs.run.stands.Lts as lts
 
--- src/run.rt:33:1
 returns : tie.Need-returns
 unfolding stood
 returns c = refl

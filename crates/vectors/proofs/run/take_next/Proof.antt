@@ -1,54 +1,37 @@
 -- By whether a question waits.
-use mathlib.Core.Path.{_≡_, refl, sym, ap, _∙_}
-use native.Mathlib.Omega.{arith}
-use Rattle.vectors.proofs.ScriptLaws.{tally-parts, stood-self, no-wait, line-stood, answered-is, state-read, state-unread, area-read, area-unread, first-standing, next-answered, next-line, taken-empty, taken-comment, taken-question, taken-setting, taken-unread, lines-more, lines-end}
+use Rattle.vectors.proofs.ScriptLaws.{next-answered, next-line}
 use borrow.Author.Needs.{needs}
 use Rattle.vectors.proofs.run.take_next.Statement.{statement}
 use Rattle.vectors.proofs.run.take_next.Tie as tie
-use Rattle.vectors.proofs.run.take_next.Reads as reads
-use Rattle.vectors.proofs.run.take_next.Lts as lts
-use Rattle.lines.proofs.columns.part.Reads as part-reads
-use Rattle.vectors.proofs.run.take_answer.Reads as take-answer-reads
-use Rattle.vectors.proofs.run.take_line.Reads as take-line-reads
 
--- src/run.rt:165:9
 part-requires : tie.Need-part-requires
 part-requires c κs = search needs
 
--- src/run.rt:169:13
 part-requires-2 : tie.Need-part-requires-2
 part-requires-2 c κs = search needs
 
--- src/run.rt:170:9
 take-answer-requires : tie.Need-take-answer-requires
 take-answer-requires c κs = search needs
 
--- src/run.rt:170:9
 same-length : tie.Need-same-length
 same-length c = search needs
 
--- src/run.rt:170:9
 same-length-2 : tie.Need-same-length-2
 same-length-2 c = search needs
 
--- src/run.rt:170:9
 returns : tie.Need-returns
 returns c = let t = c .take-answer .ensures in
     next-answered _ _ _ _ _ _ (c .before .before .before .before .if1 .taken) (t .1) (rw (c .before .before .before .part2 .ensures, c .before .before .before .before .before .before .before .part .ensures) at (t .0))
 
--- src/run.rt:172:5
 take-line-requires : tie.Need-take-line-requires
 take-line-requires c κs = search needs
 
--- src/run.rt:153:1
 same-length-3 : tie.Need-same-length-3
 same-length-3 c = search needs
 
--- src/run.rt:153:1
 same-length-4 : tie.Need-same-length-4
 same-length-4 c = search needs
 
--- src/run.rt:153:1
 returns-2 : tie.Need-returns-2
 returns-2 c = let t = c .before .before .before .before .take-line .ensures in
     next-line _ _ _ _ _ _ _ _ _ (c .before .before .before .before .before .before .before .if1 .left) (t .1) (rw (c .before .before .before .before .before .before .before .before .before .before .part .ensures) at (t .0))

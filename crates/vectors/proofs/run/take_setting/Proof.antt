@@ -1,98 +1,69 @@
 -- By what is set, and whether it could be read.
-use mathlib.Core.Path.{_≡_, refl, sym, ap, _∙_}
-use native.Mathlib.Omega.{arith}
-use Rattle.vectors.proofs.ScriptLaws.{tally-parts, stood-self, no-wait, line-stood, answered-is, state-read, state-unread, area-read, area-unread, first-standing, next-answered, next-line, taken-empty, taken-comment, taken-question, taken-setting, taken-unread, lines-more, lines-end}
+use mathlib.Core.Path.{ap, _∙_}
+use Rattle.vectors.proofs.ScriptLaws.{stood-self, state-read, state-unread, area-read, area-unread}
 use Rattle.vectors.specs.Script.{stood}
 use borrow.Author.Needs.{needs}
 use Rattle.vectors.proofs.run.take_setting.Statement.{statement}
 use Rattle.vectors.proofs.run.take_setting.Tie as tie
-use Rattle.vectors.proofs.run.take_setting.Reads as reads
-use Rattle.vectors.proofs.run.take_setting.Lts as lts
-use Rattle.vectors.proofs.difference.say_unread.Reads as say-unread-reads
-use Rattle.vectors.proofs.run.stands.Reads as stands-reads
-use Rattle.vectors.proofs.set.set_area.Reads as set-area-reads
-use Rattle.vectors.proofs.set.set_state.Reads as set-state-reads
-use Rattle.vectors.proofs.standing.count.Reads as count-reads
-use Rattle.vectors.proofs.verb.text_of.Reads as text-of-reads
 
--- src/run.rt:99:27
 text-of-requires : tie.Need-text-of-requires
 text-of-requires c κs = search needs
 
--- src/run.rt:99:13
 set-state-requires : tie.Need-set-state-requires
 set-state-requires c κs = search needs
 
--- src/run.rt:101:13
 stands-requires : tie.Need-stands-requires
 stands-requires c κs = search needs
 
--- src/run.rt:101:13
 returns : tie.Need-returns
 returns c = (state-read _ _ _ _ _ _ _ _ (c .before .before .before .before .if1 .taken) (rw (c .before .before .before .text-of .ensures) at (c .before .before .set-state .ensures)) (c .before .if2 .taken) (c .stands .ensures), stood-self _ _ _ (c .stands .ensures))
 
--- src/run.rt:103:9
 say-unread-requires : tie.Need-say-unread-requires
 say-unread-requires c κs = search needs
 
--- src/run.rt:104:32
 count-requires : tie.Need-count-requires
 count-requires c κs = search needs
 
--- src/run.rt:104:9
 stands-requires-2 : tie.Need-stands-requires-2
 stands-requires-2 c κs = search needs
 
--- src/run.rt:104:9
 returns-2 : tie.Need-returns-2
 returns-2 c = let e = c .stands2 .ensures ∙ ap (stood _) (c .before .count .ensures) in
     (state-unread _ _ _ _ _ _ _ _ (c .before .before .before .before .before .before .if1 .taken) (rw (c .before .before .before .before .before .text-of .ensures) at (c .before .before .before .before .set-state .ensures)) (c .before .before .before .if2 .left) e, stood-self _ _ _ e)
 
--- src/run.rt:106:20
 text-of-requires-2 : tie.Need-text-of-requires-2
 text-of-requires-2 c κs = search needs
 
--- src/run.rt:106:8
 set-area-requires : tie.Need-set-area-requires
 set-area-requires c κs = search needs
 
--- src/run.rt:107:9
 stands-requires-3 : tie.Need-stands-requires-3
 stands-requires-3 c κs = search needs
 
--- src/run.rt:107:9
 same-length : tie.Need-same-length
 same-length c = search needs
 
--- src/run.rt:107:9
 same-length-2 : tie.Need-same-length-2
 same-length-2 c = search needs
 
--- src/run.rt:107:9
 returns-3 : tie.Need-returns-3
 returns-3 c = (area-read _ _ _ _ _ _ _ _ (c .before .before .before .before .before .before .before .before .before .before .if1 .left) (rw (c .before .before .before .before .before .before .before .before .before .text-of2 .ensures) at (c .before .before .before .before .before .before .set-area .ensures)) (c .before .if3 .taken) (c .stands3 .ensures), stood-self _ _ _ (c .stands3 .ensures))
 
--- src/run.rt:109:5
 say-unread-requires-2 : tie.Need-say-unread-requires-2
 say-unread-requires-2 c κs = search needs
 
--- src/run.rt:110:19
 count-requires-2 : tie.Need-count-requires-2
 count-requires-2 c κs = search needs
 
--- src/run.rt:110:5
 stands-requires-4 : tie.Need-stands-requires-4
 stands-requires-4 c κs = search needs
 
--- src/run.rt:85:1
 same-length-3 : tie.Need-same-length-3
 same-length-3 c = search needs
 
--- src/run.rt:85:1
 same-length-4 : tie.Need-same-length-4
 same-length-4 c = search needs
 
--- src/run.rt:85:1
 returns-4 : tie.Need-returns-4
 returns-4 c = let e = c .stands4 .ensures ∙ ap (stood _) (c .before .count2 .ensures) in
     (area-unread _ _ _ _ _ _ _ _ (c .before .before .before .before .before .before .before .before .before .before .before .before .if1 .left) (rw (c .before .before .before .before .before .before .before .before .before .before .before .text-of2 .ensures) at (c .before .before .before .before .before .before .before .before .set-area .ensures)) (c .before .before .before .if3 .left) e, stood-self _ _ _ e)

@@ -1,9 +1,9 @@
 -- By the columns.
 use Rattle.lines.specs.Columns.{columnsOf, columnAt}
 use Rattle.vectors.specs.Numerals.{naturalIn, atMost}
-use mathlib.Core.Path.{_≡_, refl, sym, ap, _∙_}
+use mathlib.Core.Path.{sym, ap, _∙_}
 use native.Mathlib.Omega.{arith}
-use Rattle.vectors.proofs.SettingLaws.{read-part, by-some, by-none, fill-count, fill-byte, fill-run, run-is, run-unread, clear-every, clear-one, clear-none, area-packet, area-more, area-fill, area-clear, area-row, state-some, state-none, kept-parts, clear-any}
+use Rattle.vectors.proofs.SettingLaws.{fill-count, fill-byte, fill-run, run-is, run-unread}
 use mathlib.Core.Path.{ap₂}
 use Prim.Native.Nat.{ℕ}
 use Rattle.vectors.specs.Memory.{unread}
@@ -12,75 +12,52 @@ use Rattle.vectors.specs.Settings.{byteIn, addRun}
 use borrow.Author.Needs.{needs}
 use Rattle.vectors.proofs.set.add_fill.Statement.{statement}
 use Rattle.vectors.proofs.set.add_fill.Tie as tie
-use Rattle.vectors.proofs.set.add_fill.Reads as reads
-use Rattle.vectors.proofs.set.add_fill.Lts as lts
-use Rattle.vectors.proofs.operands.column_at.Reads as column-at-reads
-use Rattle.vectors.proofs.operands.column_count.Reads as column-count-reads
-use Rattle.vectors.proofs.operands.natural_at.Reads as natural-at-reads
-use Rattle.vectors.proofs.set.add_run.Reads as add-run-reads
-use Rattle.vectors.proofs.set.byte_in.Reads as byte-in-reads
-use Rattle.vectors.proofs.verb.setting_of.Reads as setting-of-reads
 
--- src/set.rt:92:8
 column-count-requires : tie.Need-column-count-requires
 column-count-requires c κs = search needs
 
--- src/set.rt:93:9
 returns : tie.Need-returns
 unfolding unread
 returns c = fill-count _ _ _ (c .before .column-count .ensures) (c .if1 .taken)
 
--- src/set.rt:95:24
 column-at-requires : tie.Need-column-at-requires
 column-at-requires c κs = search needs
 
--- src/set.rt:95:9
 setting-of-requires : tie.Need-setting-of-requires
 setting-of-requires c κs = search needs
 
--- src/set.rt:96:24
 column-at-requires-2 : tie.Need-column-at-requires-2
 column-at-requires-2 c κs = search needs
 
--- src/set.rt:96:9
 byte-in-requires : tie.Need-byte-in-requires
 byte-in-requires c κs = search needs
 
--- src/set.rt:98:9
 returns-2 : tie.Need-returns-2
 unfolding unread
 returns-2 c = let b = c .before .byte-in .ensures .0 ∙ ap byteIn (c .before .before .column-at2 .ensures) in
     fill-byte _ _ _ (c .before .before .before .before .before .before .column-count .ensures) (c .before .before .before .before .before .if1 .left) (rw b at (c .if2 .taken))
 
--- src/set.rt:100:11
 natural-at-requires : tie.Need-natural-at-requires
 natural-at-requires c κs = search needs
 
--- src/set.rt:101:21
 enum-known-count : tie.Need-enum-known-count
 enum-known-count c = search needs
 
--- src/set.rt:101:55
 cast-add-run : tie.Need-cast-add-run
 cast-add-run c = search needs
 
--- src/set.rt:101:31
 add-run-requires : tie.Need-add-run-requires
 add-run-requires c κs = search needs
 
--- src/set.rt:102:28
 enum-told : tie.Need-enum-told
 enum-told c = search needs
 
--- src/set.rt:89:1
 same-length : tie.Need-same-length
 same-length c = search needs
 
--- src/set.rt:89:1
 same-length-2 : tie.Need-same-length-2
 same-length-2 c = search needs
 
--- src/set.rt:89:1
 returns-3 : tie.Need-returns-3
 returns-3 c = let a = c .before .before .before .before .before .before .before .before .before .before .before .before .before .before .before .before .before .before .before .before .before .args in
     let b = c .before .before .before .before .before .before .before .before .before .before .before .before .byte-in .ensures .0 ∙ ap byteIn (c .before .before .before .before .before .before .before .before .before .before .before .before .before .column-at2 .ensures) in
@@ -89,7 +66,6 @@ returns-3 c = let a = c .before .before .before .before .before .before .before 
     ∙ ap₂ (λ (t b : ℕ). addRun (record { space = a .space .now; ends = a .ends .now }) t b (atMost 65537 (naturalIn (columnAt (columnsOf (a .text .now)) 1)))) t b
     ∙ fill-run _ _ _ (c .before .before .before .before .before .before .before .before .before .before .before .before .before .before .before .before .before .column-count .ensures) (c .before .before .before .before .before .before .before .before .before .before .before .before .before .before .before .before .if1 .left) (omega (arith, b))
 
--- src/set.rt:89:1
 returns-4 : tie.Need-returns-4
 unfolding unread
 returns-4 c = let b = c .before .before .before .before .byte-in .ensures .0 ∙ ap byteIn (c .before .before .before .before .before .column-at2 .ensures) in

@@ -2,49 +2,35 @@
 use mathlib.Core.Bool.{true}
 use Rattle.vectors.specs.Memory.{cleared}
 use Rattle.vectors.proofs.SettingLaws.{kept-parts}
-use mathlib.Core.Path.{_≡_, refl, sym, ap, _∙_}
+use mathlib.Core.Path.{refl, ap, _∙_}
 use native.Mathlib.Omega.{arith}
-use Rattle.vectors.proofs.SettingLaws.{read-part, by-some, by-none, byte-two, byte-other, fill-count, fill-byte, fill-run, run-is, run-unread, clear-every, clear-one, clear-none, area-packet, area-more, area-fill, area-clear, area-row, state-some, state-none}
-use mathlib.Core.List.{List, []}
+use Rattle.vectors.proofs.SettingLaws.{clear-every, clear-one, clear-none}
 use Rattle.vectors.specs.Memory.{unread}
 use borrow.Author.Needs.{needs}
 use Rattle.vectors.proofs.set.clear_named.Statement.{statement}
 use Rattle.vectors.proofs.set.clear_named.Tie as tie
-use Rattle.vectors.proofs.set.clear_named.Reads as reads
-use Rattle.vectors.proofs.set.clear_named.Lts as lts
-use Rattle.vectors.proofs.areas.clear.Reads as clear-reads
-use Rattle.vectors.proofs.areas.clear_all.Reads as clear-all-reads
-use Rattle.vectors.proofs.verb.setting_of.Reads as setting-of-reads
 
--- src/set.rt:122:9
 clear-all-requires : tie.Need-clear-all-requires
 clear-all-requires c κs = search needs
 
--- src/set.rt:123:9
 same-length : tie.Need-same-length
 same-length c = search needs
 
--- src/set.rt:123:9
 returns : tie.Need-returns
 returns c = kept-parts true refl (c .before .before .clear-all .ensures) ∙ clear-every _ _ (c .before .before .before .before .if1 .taken)
 
--- src/set.rt:125:9
 setting-of-requires : tie.Need-setting-of-requires
 setting-of-requires c κs = search needs
 
--- src/set.rt:127:9
 clear-requires : tie.Need-clear-requires
 clear-requires c κs = search needs
 
--- src/set.rt:128:9
 same-length-2 : tie.Need-same-length-2
 same-length-2 c = search needs
 
--- src/set.rt:128:9
 returns-2 : tie.Need-returns-2
 returns-2 c = kept-parts true refl (c .before .before .clear .ensures ∙ ap (cleared _) (c .before .before .before .before .before .setting-of .ensures)) ∙ clear-one _ _ (c .before .before .before .before .before .before .if1 .left) (omega (arith, c .before .before .before .before .before .setting-of .ensures))
 
--- src/set.rt:118:1
 returns-3 : tie.Need-returns-3
 unfolding unread
 returns-3 c = clear-none _ _ (c .before .before .if1 .left) (omega (arith, c .before .setting-of .ensures))

@@ -1,91 +1,64 @@
 -- By the line.
-use mathlib.Core.Path.{_≡_, refl, sym, ap, _∙_}
-use native.Mathlib.Omega.{arith}
-use Rattle.vectors.proofs.SettingLaws.{read-part, by-some, by-none, fill-count, fill-byte, fill-run, run-is, run-unread, clear-every, clear-one, clear-none, area-packet, area-more, area-fill, area-clear, area-row, state-some, state-none, kept-parts, clear-any}
+use mathlib.Core.Path.{_∙_}
+use Rattle.vectors.proofs.SettingLaws.{area-packet, area-more, area-fill, area-clear, area-row, clear-any}
 use borrow.Author.Needs.{needs}
 use Rattle.vectors.proofs.set.set_area.Statement.{statement}
 use Rattle.vectors.proofs.set.set_area.Tie as tie
-use Rattle.vectors.proofs.set.set_area.Reads as reads
-use Rattle.vectors.proofs.set.set_area.Lts as lts
-use Rattle.vectors.proofs.set.add_packet.Reads as add-packet-reads
-use Rattle.vectors.proofs.set.add_row.Reads as add-row-reads
-use Rattle.vectors.proofs.set.clear_named.Reads as clear-named-reads
-use Rattle.vectors.proofs.set.fill.Reads as fill-reads
-use Rattle.vectors.proofs.set.set_packet.Reads as set-packet-reads
 
--- src/set.rt:190:15
 set-packet-requires : tie.Need-set-packet-requires
 set-packet-requires c κs = search needs
 
--- src/set.rt:191:15
 add-packet-requires : tie.Need-add-packet-requires
 add-packet-requires c κs = search needs
 
--- src/set.rt:192:15
 fill-requires : tie.Need-fill-requires
 fill-requires c κs = search needs
 
--- src/set.rt:193:15
 clear-named-requires : tie.Need-clear-named-requires
 clear-named-requires c κs = search needs
 
--- src/set.rt:194:14
 add-row-requires : tie.Need-add-row-requires
 add-row-requires c κs = search needs
 
--- src/set.rt:186:1
 same-length : tie.Need-same-length
 same-length c = search needs
 
--- src/set.rt:186:1
 same-length-2 : tie.Need-same-length-2
 same-length-2 c = search needs
 
--- src/set.rt:186:1
 returns : tie.Need-returns
 returns c = c .before .before .before .before .set-packet .ensures ∙ area-packet _ _ _ (c .before .before .before .before .before .before .before .match .keys1)
 
--- src/set.rt:186:1
 same-length-3 : tie.Need-same-length-3
 same-length-3 c = search needs
 
--- src/set.rt:186:1
 same-length-4 : tie.Need-same-length-4
 same-length-4 c = search needs
 
--- src/set.rt:186:1
 returns-2 : tie.Need-returns-2
 returns-2 c = c .before .before .before .before .add-packet .ensures ∙ area-more _ _ _ (c .before .before .before .before .before .before .before .match .keys2)
 
--- src/set.rt:186:1
 same-length-5 : tie.Need-same-length-5
 same-length-5 c = search needs
 
--- src/set.rt:186:1
 same-length-6 : tie.Need-same-length-6
 same-length-6 c = search needs
 
--- src/set.rt:186:1
 returns-3 : tie.Need-returns-3
 returns-3 c = c .before .before .before .before .fill .ensures ∙ area-fill _ _ _ (c .before .before .before .before .before .before .before .match .keys3)
 
--- src/set.rt:186:1
 same-length-7 : tie.Need-same-length-7
 same-length-7 c = search needs
 
--- src/set.rt:186:1
 returns-4 : tie.Need-returns-4
 returns-4 c = clear-any _ _ _ _ _ (c .before .before .clear-named .ensures) ∙ area-clear _ _ _ (c .before .before .before .before .match .keys4)
 
--- src/set.rt:186:1
 same-length-8 : tie.Need-same-length-8
 same-length-8 c = search needs
 
--- src/set.rt:186:1
 same-length-9 : tie.Need-same-length-9
 same-length-9 c = search needs
 
--- src/set.rt:186:1
 returns-5 : tie.Need-returns-5
 returns-5 c = let r = c .before .before .before .before .before .before .before .match .rest in
     c .before .before .before .before .add-row .ensures ∙ area-row _ _ _ (r .0 .0 .0 .1) (r .0 .0 .1) (r .0 .1) (r .1)

@@ -1,5 +1,5 @@
 -- By the five numbers.
-use mathlib.Core.Path.{_≡_, refl, sym, ap, _∙_}
+use mathlib.Core.Path.{sym, _∙_}
 use native.Mathlib.Omega.{arith}
 use borrow.Author.Tests.{eq-eqb, ne-eqb}
 use Rattle.vectors.proofs.QuestionLaws.{most-is}
@@ -7,122 +7,91 @@ use Rattle.vectors.specs.Settings.{stateIn, stateOf}
 use borrow.Author.Needs.{needs}
 use Rattle.vectors.proofs.set.state_in.Statement.{statement}
 use Rattle.vectors.proofs.set.state_in.Tie as tie
-use Rattle.vectors.proofs.set.state_in.Reads as reads
-use Rattle.vectors.proofs.set.state_in.Lts as lts
-use Rattle.vectors.proofs.operands.column_count.Reads as column-count-reads
-use Rattle.vectors.proofs.operands.natural_at.Reads as natural-at-reads
 
--- src/set.rt:141:8
 column-count-requires : tie.Need-column-count-requires
 column-count-requires c κs = search needs
 
--- src/set.rt:142:9
 returns : tie.Need-returns
 unfolding stateIn
 returns c = rw (ne-eqb _ 5 (λ p. c .if1 .taken (c .before .column-count .ensures ∙ p)))
 
--- src/set.rt:144:30
 natural-at-requires : tie.Need-natural-at-requires
 natural-at-requires c κs = search needs
 
--- src/set.rt:144:21
 enum-known-fresh : tie.Need-enum-known-fresh
 enum-known-fresh c = search needs
 
--- src/set.rt:145:9
 enum-told : tie.Need-enum-told
 enum-told c = search needs
 
--- src/set.rt:145:9
 returns-2 : tie.Need-returns-2
 unfolding stateIn stateOf
 returns-2 c = rw (eq-eqb _ 5 (sym (c .before .before .before .before .column-count .ensures) ∙ c .before .before .before .if1 .left), sym (c .before .before .natural-at .ensures) ∙ c .enum-told .given .1)
 
--- src/set.rt:147:29
 natural-at-requires-2 : tie.Need-natural-at-requires-2
 natural-at-requires-2 c κs = search needs
 
--- src/set.rt:147:21
 enum-known-apid : tie.Need-enum-known-apid
 enum-known-apid c = search needs
 
--- src/set.rt:148:9
 enum-told-2 : tie.Need-enum-told-2
 enum-told-2 c = search needs
 
--- src/set.rt:148:9
 returns-3 : tie.Need-returns-3
 unfolding stateIn stateOf
 returns-3 c = rw (eq-eqb _ 5 (sym (c .before .before .before .before .before .before .before .before .column-count .ensures) ∙ c .before .before .before .before .before .before .before .if1 .left), sym (c .before .before .before .before .before .before .natural-at .ensures) ∙ c .before .before .before .before .fresh .given .1, sym (c .before .before .natural-at2 .ensures) ∙ c .enum-told2 .given .1)
 
--- src/set.rt:150:30
 natural-at-requires-3 : tie.Need-natural-at-requires-3
 natural-at-requires-3 c κs = search needs
 
--- src/set.rt:150:21
 enum-known-count : tie.Need-enum-known-count
 enum-known-count c = search needs
 
--- src/set.rt:151:9
 enum-told-3 : tie.Need-enum-told-3
 enum-told-3 c = search needs
 
--- src/set.rt:151:9
 returns-4 : tie.Need-returns-4
 unfolding stateIn stateOf
 returns-4 c = rw (eq-eqb _ 5 (sym (c .before .before .before .before .before .before .before .before .before .before .before .before .column-count .ensures) ∙ c .before .before .before .before .before .before .before .before .before .before .before .if1 .left), sym (c .before .before .before .before .before .before .before .before .before .before .natural-at .ensures) ∙ c .before .before .before .before .before .before .before .before .fresh .given .1, sym (c .before .before .before .before .before .before .natural-at2 .ensures) ∙ c .before .before .before .before .apid .given .1, sym (c .before .before .natural-at3 .ensures) ∙ c .enum-told3 .given .1)
 
--- src/set.rt:153:28
 natural-at-requires-4 : tie.Need-natural-at-requires-4
 natural-at-requires-4 c κs = search needs
 
--- src/set.rt:153:21
 enum-known-run : tie.Need-enum-known-run
 enum-known-run c = search needs
 
--- src/set.rt:154:9
 enum-told-4 : tie.Need-enum-told-4
 enum-told-4 c = search needs
 
--- src/set.rt:154:9
 returns-5 : tie.Need-returns-5
 unfolding stateIn stateOf
 returns-5 c = rw (eq-eqb _ 5 (sym (c .before .before .before .before .before .before .before .before .before .before .before .before .before .before .before .before .column-count .ensures) ∙ c .before .before .before .before .before .before .before .before .before .before .before .before .before .before .before .if1 .left), sym (c .before .before .before .before .before .before .before .before .before .before .before .before .before .before .natural-at .ensures) ∙ c .before .before .before .before .before .before .before .before .before .before .before .before .fresh .given .1, sym (c .before .before .before .before .before .before .before .before .before .before .natural-at2 .ensures) ∙ c .before .before .before .before .before .before .before .before .apid .given .1, sym (c .before .before .before .before .before .before .natural-at3 .ensures) ∙ c .before .before .before .before .count .given .1, sym (c .before .before .natural-at4 .ensures) ∙ c .enum-told4 .given .1)
 
--- src/set.rt:156:34
 natural-at-requires-5 : tie.Need-natural-at-requires-5
 natural-at-requires-5 c κs = search needs
 
--- src/set.rt:156:21
 enum-known-announced : tie.Need-enum-known-announced
 enum-known-announced c = search needs
 
--- src/set.rt:157:9
 enum-told-5 : tie.Need-enum-told-5
 enum-told-5 c = search needs
 
--- src/set.rt:157:9
 returns-6 : tie.Need-returns-6
 unfolding stateIn stateOf
 returns-6 c = rw (eq-eqb _ 5 (sym (c .before .before .before .before .before .before .before .before .before .before .before .before .before .before .before .before .before .before .before .before .column-count .ensures) ∙ c .before .before .before .before .before .before .before .before .before .before .before .before .before .before .before .before .before .before .before .if1 .left), sym (c .before .before .before .before .before .before .before .before .before .before .before .before .before .before .before .before .before .before .natural-at .ensures) ∙ c .before .before .before .before .before .before .before .before .before .before .before .before .before .before .before .before .fresh .given .1, sym (c .before .before .before .before .before .before .before .before .before .before .before .before .before .before .natural-at2 .ensures) ∙ c .before .before .before .before .before .before .before .before .before .before .before .before .apid .given .1, sym (c .before .before .before .before .before .before .before .before .before .before .natural-at3 .ensures) ∙ c .before .before .before .before .before .before .before .before .count .given .1, sym (c .before .before .before .before .before .before .natural-at4 .ensures) ∙ c .before .before .before .before .run .given .1, sym (c .before .before .natural-at5 .ensures) ∙ c .enum-told5 .given .1)
 
--- src/set.rt:163:19
 cast-t16 : tie.Need-cast-t16
 cast-t16 c = omega (arith, most-is 65535 _ _ (sym (c .before .before .before .before .before .before .before .before .before .before .before .before .before .before .before .natural-at2 .ensures) ∙ c .before .before .before .before .before .before .before .before .before .before .before .before .before .apid .given .1))
 
--- src/set.rt:164:20
 cast-t17 : tie.Need-cast-t17
 cast-t17 c = omega (arith, most-is 65535 _ _ (sym (c .before .before .before .before .before .before .before .before .before .before .before .natural-at3 .ensures) ∙ c .before .before .before .before .before .before .before .before .before .count .given .1))
 
--- src/set.rt:165:18
 cast-t18 : tie.Need-cast-t18
 cast-t18 c = omega (arith, most-is 255 _ _ (sym (c .before .before .before .before .before .before .before .natural-at4 .ensures) ∙ c .before .before .before .before .before .run .given .1))
 
--- src/set.rt:166:24
 cast-t19 : tie.Need-cast-t19
 cast-t19 c = omega (arith, most-is 255 _ _ (sym (c .before .before .before .natural-at5 .ensures) ∙ c .before .announced .given .1))
 
--- src/set.rt:134:1
 returns-7 : tie.Need-returns-7
 unfolding stateIn stateOf
 returns-7 c = rw (eq-eqb _ 5 (sym (c .before .before .before .before .before .before .before .before .before .before .before .before .before .before .before .before .before .before .before .before .before .column-count .ensures) ∙ c .before .before .before .before .before .before .before .before .before .before .before .before .before .before .before .before .before .before .before .before .if1 .left), sym (c .before .before .before .before .before .before .before .before .before .before .before .before .before .before .before .before .before .before .before .natural-at .ensures) ∙ c .before .before .before .before .before .before .before .before .before .before .before .before .before .before .before .before .before .fresh .given .1, sym (c .before .before .before .before .before .before .before .before .before .before .before .before .before .before .before .natural-at2 .ensures) ∙ c .before .before .before .before .before .before .before .before .before .before .before .before .before .apid .given .1, sym (c .before .before .before .before .before .before .before .before .before .before .before .natural-at3 .ensures) ∙ c .before .before .before .before .before .before .before .before .before .count .given .1, sym (c .before .before .before .before .before .before .before .natural-at4 .ensures) ∙ c .before .before .before .before .before .run .given .1, sym (c .before .before .before .natural-at5 .ensures) ∙ c .before .announced .given .1)

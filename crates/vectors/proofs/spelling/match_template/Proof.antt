@@ -7,11 +7,6 @@ use Rattle.vectors.specs.Spoken.{matchedAll, spelled}
 use Rattle.vectors.proofs.SpokenLaws.{number-more, word-more, template-end}
 use Rattle.vectors.proofs.spelling.match_template.Statement.{statement}
 use Rattle.vectors.proofs.spelling.match_template.Tie as tie
-use Rattle.vectors.proofs.spelling.match_template.Reads as reads
-use Rattle.vectors.proofs.spelling.match_template.Lts as lts
-use Rattle.vectors.proofs.decimal.match_decimal.Reads as match-decimal-reads
-use Rattle.vectors.proofs.fit.match_byte.Reads as match-byte-reads
-use Rattle.vectors.proofs.spelling.value_at.Reads as value-at-reads
 
 abbrev Inv-loop : tie.InvT-loop
 Inv-loop line from template values at₀ i₀ k₀ at i k = (i ≤ length template) × (k ≤ i) × (matchedAll line at (spelled k (drop i template) values) ≡ matchedAll line from (spelled 0 template values))
@@ -19,63 +14,49 @@ Inv-loop line from template values at₀ i₀ k₀ at i k = (i ≤ length templa
 abbrev μ-loop : tie.MeasureT-loop
 μ-loop line from template values at₀ i₀ k₀ at i k = length template - i
 
--- src/spelling.rt:32:5
 loop-holds : tie.Need-loop-holds Inv-loop μ-loop
 loop-holds c = (omega arith, omega arith, refl)
 
--- src/spelling.rt:33:12
 shared-slice-read-if1 : tie.Need-shared-slice-read-if1 Inv-loop μ-loop
 shared-slice-read-if1 c = omega arith
 
--- src/spelling.rt:34:42
 value-at-requires : tie.Need-value-at-requires Inv-loop μ-loop
 value-at-requires c κs = tt
 
--- src/spelling.rt:34:13
 match-decimal-requires : tie.Need-match-decimal-requires Inv-loop μ-loop
 match-decimal-requires c κs = tt
 
--- src/spelling.rt:35:13
 add-k : tie.Need-add-k Inv-loop μ-loop
 add-k c = omega arith
 
--- src/spelling.rt:36:13
 add-i : tie.Need-add-i Inv-loop μ-loop
 add-i c = omega arith
 
--- src/spelling.rt:32:5
 loop-less : tie.Need-loop-less Inv-loop μ-loop
 loop-less c = omega arith
 
--- src/spelling.rt:32:5
 loop-again : tie.Need-loop-again Inv-loop μ-loop
 loop-again c = let l = c .before .before .before .before .before in
     let a = l .before .before .before .args in
     (omega arith, omega arith, rw (c .match-decimal .ensures, c .before .value-at .ensures) (sym (number-more (a .line .now) (l .loop .at) (a .template .now) (a .values) (l .loop .k) (l .loop .i) (omega arith) (c .before .before .if1 .taken))) ∙ l .loop .inv .2)
 
--- src/spelling.rt:38:39
 shared-slice-read-match-byte : tie.Need-shared-slice-read-match-byte Inv-loop μ-loop
 shared-slice-read-match-byte c = omega arith
 
--- src/spelling.rt:38:13
 match-byte-requires : tie.Need-match-byte-requires Inv-loop μ-loop
 match-byte-requires c κs = tt
 
--- src/spelling.rt:39:13
 add-i-2 : tie.Need-add-i-2 Inv-loop μ-loop
 add-i-2 c = omega arith
 
--- src/spelling.rt:32:5
 loop-less-2 : tie.Need-loop-less-2 Inv-loop μ-loop
 loop-less-2 c = omega arith
 
--- src/spelling.rt:32:5
 loop-again-2 : tie.Need-loop-again-2 Inv-loop μ-loop
 loop-again-2 c = let l = c .before .before .before .before .before in
     let a = l .before .before .before .args in
     (omega arith, omega arith, rw (c .match-byte .ensures) (sym (word-more (a .line .now) (l .loop .at) (a .template .now) (a .values) (l .loop .k) (l .loop .i) (omega arith) (c .before .before .if1 .left))) ∙ l .loop .inv .2)
 
--- src/spelling.rt:26:1
 returns : tie.Need-returns Inv-loop μ-loop
 returns c = let l = c .before in
     let a = l .before .before .before .args in

@@ -1,27 +1,20 @@
 -- Past the seventh there is none.
 use mathlib.Core.Path.{_≡_, sym}
-use Prim.Native.Nat.{_≤_}
 use native.Mathlib.Omega.{arith}
 use lib.ListN.{length, List·getD-eq-default}
 use borrow.Author.Needs.{needs}
 use Rattle.vectors.proofs.spelling.value_at.Statement.{statement}
 use Rattle.vectors.proofs.spelling.value_at.Tie as tie
-use Rattle.vectors.proofs.spelling.value_at.Reads as reads
-use Rattle.vectors.proofs.spelling.value_at.Lts as lts
 
--- src/spelling.rt:20:16
 mul-result : tie.Need-mul-result
 mul-result c = search needs
 
--- src/spelling.rt:20:16
 array-read-result : tie.Need-array-read-result
 array-read-result c = search needs
 
--- src/spelling.rt:20:9
 returns : tie.Need-returns
 returns c = search needs
 
--- src/spelling.rt:16:1
 returns-2 : tie.Need-returns-2
 returns-2 c = let a = c .before .args in
     let s : length (a .t1) ≡ 7 = search needs in

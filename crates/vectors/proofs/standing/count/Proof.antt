@@ -1,92 +1,66 @@
 -- By the verdict.
-use mathlib.Core.Path.{_≡_, refl, sym, ap, _∙_}
-use native.Mathlib.Omega.{arith}
-use Rattle.vectors.proofs.ScriptLaws.{tally-parts, stood-self, no-wait, line-stood, answered-is, state-read, state-unread, area-read, area-unread, first-standing, next-answered, next-line, taken-empty, taken-comment, taken-question, taken-setting, taken-unread, lines-more, lines-end}
-use mathlib.Core.List.{List, []}
-use Prim.Native.Nat.{ℕ, _+_}
-use lib.ListN.{length, set}
+use mathlib.Core.Path.{refl, ap, _∙_}
+use Rattle.vectors.proofs.ScriptLaws.{tally-parts}
+use lib.ListN.{set}
 use Rattle.vectors.specs.Script.{counted, more}
 use borrow.Author.Needs.{needs}
 use Rattle.vectors.proofs.standing.count.Statement.{statement}
 use Rattle.vectors.proofs.standing.count.Tie as tie
-use Rattle.vectors.proofs.standing.count.Reads as reads
-use Rattle.vectors.proofs.standing.count.Lts as lts
-use Rattle.lines.proofs.columns.keep_at.Reads as keep-at-reads
-use Rattle.vectors.proofs.areas.number_at.Reads as number-at-reads
-use Rattle.vectors.proofs.standing.more.Reads as more-reads
 
--- src/standing.rt:43:13
 enum-told : tie.Need-enum-told
 enum-told c = search needs
 
--- src/standing.rt:45:21
 more-requires : tie.Need-more-requires
 more-requires c κs = search needs
 
--- src/standing.rt:48:31
 enum-told-2 : tie.Need-enum-told-2
 enum-told-2 c = search needs
 
--- src/standing.rt:48:31
 slice-aggregate-number-at : tie.Need-slice-aggregate-number-at
 slice-aggregate-number-at c = search needs
 
--- src/standing.rt:48:17
 number-at-requires : tie.Need-number-at-requires
 number-at-requires c κs = search needs
 
--- src/standing.rt:49:21
 slice-aggregate-keep-at : tie.Need-slice-aggregate-keep-at
 slice-aggregate-keep-at c = search needs
 
--- src/standing.rt:49:36
 more-requires-2 : tie.Need-more-requires-2
 more-requires-2 c κs = search needs
 
--- src/standing.rt:49:13
 keep-at-requires : tie.Need-keep-at-requires
 keep-at-requires c κs = search needs
 
--- src/standing.rt:57:31
 enum-told-3 : tie.Need-enum-told-3
 enum-told-3 c = search needs
 
--- src/standing.rt:57:31
 slice-aggregate-number-at-2 : tie.Need-slice-aggregate-number-at-2
 slice-aggregate-number-at-2 c = search needs
 
--- src/standing.rt:57:17
 number-at-requires-2 : tie.Need-number-at-requires-2
 number-at-requires-2 c κs = search needs
 
--- src/standing.rt:58:21
 slice-aggregate-keep-at-2 : tie.Need-slice-aggregate-keep-at-2
 slice-aggregate-keep-at-2 c = search needs
 
--- src/standing.rt:58:36
 more-requires-3 : tie.Need-more-requires-3
 more-requires-3 c κs = search needs
 
--- src/standing.rt:58:13
 keep-at-requires-2 : tie.Need-keep-at-requires-2
 keep-at-requires-2 c κs = search needs
 
--- src/standing.rt:61:25
 more-requires-4 : tie.Need-more-requires-4
 more-requires-4 c κs = search needs
 
--- src/standing.rt:37:1
 returns : tie.Need-returns
 unfolding counted
 returns c = rw (c .before .enum-told .given .1) (tally-parts refl refl (c .more .ensures))
 
--- src/standing.rt:37:1
 returns-2 : tie.Need-returns-2
 unfolding counted
 returns-2 c = let a = c .before .before .before .before .before .before .before .before .before .args in
     rw (c .before .before .before .before .before .before .enum-told2 .given .1) (tally-parts (c .before .keep-at .ensures ∙ ap (set (a .tally .asked) (a .k)) (c .before .before .more2 .ensures ∙ ap more (c .before .before .before .before .number-at .ensures))) refl refl)
 
--- src/standing.rt:37:1
 returns-3 : tie.Need-returns-3
 unfolding counted
 returns-3 c = let a = c .before .before .before .before .before .before .before .before .before .before .args in

@@ -1,5 +1,5 @@
 -- The invariant: from here the byte stands where it stands from the start.
-use mathlib.Core.Path.{_≡_, refl}
+use mathlib.Core.Path.{_≡_}
 use Prim.Native.Nat.{_+_, _-_, _≤_}
 use native.Mathlib.Omega.{arith}
 use lib.ListN.{length, drop}
@@ -7,8 +7,6 @@ use Rattle.vectors.specs.Words.{upto}
 use Rattle.vectors.proofs.WordLaws.{upto-here, upto-more, upto-none}
 use Rattle.vectors.proofs.verb.find_byte.Statement.{statement}
 use Rattle.vectors.proofs.verb.find_byte.Tie as tie
-use Rattle.vectors.proofs.verb.find_byte.Reads as reads
-use Rattle.vectors.proofs.verb.find_byte.Lts as lts
 
 abbrev Inv-loop : tie.InvT-loop
 Inv-loop text byte i₀ i = (i ≤ length text) × (i + upto byte (drop i text) ≡ upto byte text)
@@ -16,35 +14,28 @@ Inv-loop text byte i₀ i = (i ≤ length text) × (i + upto byte (drop i text) 
 abbrev μ-loop : tie.MeasureT-loop
 μ-loop text byte i₀ i = length text - i
 
--- src/verb.rt:18:5
 loop-holds : tie.Need-loop-holds Inv-loop μ-loop
 loop-holds c = (omega arith, omega arith)
 
--- src/verb.rt:19:12
 shared-slice-read-if1 : tie.Need-shared-slice-read-if1 Inv-loop μ-loop
 shared-slice-read-if1 c = omega arith
 
--- src/verb.rt:20:13
 returns : tie.Need-returns Inv-loop μ-loop
 returns c = let l = c .before .before .before in
     let a = l .before .args in
     (omega (arith, upto-here (a .byte) (a .text .now) (l .loop .i) (omega arith) (c .if1 .taken)), omega arith)
 
--- src/verb.rt:22:9
 add-i : tie.Need-add-i Inv-loop μ-loop
 add-i c = omega arith
 
--- src/verb.rt:18:5
 loop-less : tie.Need-loop-less Inv-loop μ-loop
 loop-less c = omega arith
 
--- src/verb.rt:18:5
 loop-again : tie.Need-loop-again Inv-loop μ-loop
 loop-again c = let l = c .before .before .before in
     let a = l .before .args in
     (omega arith, omega (arith, upto-more (a .byte) (a .text .now) (l .loop .i) (omega arith) (c .if1 .left)))
 
--- src/verb.rt:14:1
 returns-2 : tie.Need-returns-2 Inv-loop μ-loop
 returns-2 c = let a = c .before .before .args in
     (omega (arith, upto-none (a .byte) (a .text .now) (c .before .loop .i) (omega arith)), omega arith)

@@ -1,9 +1,8 @@
 -- The invariant: from here the word stands where it stands in the whole list.
 use lib.ListN.{getD}
 use mathlib.Core.List.{List, []}
-use mathlib.Core.Bool.{Bool}
 use Rattle.lines.specs.Names.{nameOf, sameName}
-use mathlib.Core.Path.{_≡_, refl, sym, _∙_, ap}
+use mathlib.Core.Path.{_≡_, _∙_}
 use Prim.Native.Nat.{ℕ, _+_, _-_, _<_, _≤_}
 use native.Mathlib.Omega.{arith}
 use lib.ListN.{length, drop}
@@ -13,12 +12,6 @@ use Rattle.vectors.specs.Words.{placeOf}
 use Rattle.vectors.proofs.WordLaws.{place-here, place-more, place-none}
 use Rattle.vectors.proofs.verb.place_in.Statement.{statement}
 use Rattle.vectors.proofs.verb.place_in.Tie as tie
-use Rattle.vectors.proofs.verb.place_in.Reads as reads
-use Rattle.vectors.proofs.verb.place_in.Lts as lts
-use Rattle.lines.proofs.columns.column.Reads as column-reads
-use Rattle.lines.proofs.columns.divide.Reads as divide-reads
-use Rattle.lines.proofs.names.name_of.Reads as name-of-reads
-use Rattle.lines.proofs.names.same_name.Reads as same-name-reads
 
 abbrev Inv-loop : tie.InvT-loop
 Inv-loop list word columns name k₀ k = (k ≤ length (columnsOf list)) × (k + placeOf word (drop k (columnsOf list)) ≡ placeOf word (columnsOf list))
@@ -48,51 +41,40 @@ tested s =
     let w = column-is (a .args .list .now) (d .result) (place s) (d .ensures) (omega (arith, below s, a .pre)) in
     cc (w)
 
--- src/verb.rt:49:9
 divide-requires : tie.Need-divide-requires Inv-loop μ-loop
 divide-requires c κs = tt
 
--- src/verb.rt:50:9
 name-of-requires : tie.Need-name-of-requires Inv-loop μ-loop
 name-of-requires c κs = tt
 
--- src/verb.rt:52:5
 loop-holds : tie.Need-loop-holds Inv-loop μ-loop
 loop-holds c = (omega arith, omega arith)
 
--- src/verb.rt:53:30
 column-requires : tie.Need-column-requires Inv-loop μ-loop
 column-requires c κs = tt
 
--- src/verb.rt:53:22
 name-of-requires-2 : tie.Need-name-of-requires-2 Inv-loop μ-loop
 name-of-requires-2 c κs = tt
 
--- src/verb.rt:53:12
 same-name-requires : tie.Need-same-name-requires Inv-loop μ-loop
 same-name-requires c κs = tt
 
--- src/verb.rt:54:13
 returns : tie.Need-returns Inv-loop μ-loop
 returns c = let l = c .before .before .before .before .before .before in
     let a = l .before .before .before .before .before .args in
     omega (arith, place-here (a .word .now) (columnsOf (a .list .now)) (l .loop .k) (below (c .before)) (tested (c .before) ∙ c .if2 .taken))
 
--- src/verb.rt:56:9
 add-k : tie.Need-add-k Inv-loop μ-loop
 add-k c = omega (arith, below (c .before))
 
--- src/verb.rt:52:5
 loop-less : tie.Need-loop-less Inv-loop μ-loop
 loop-less c = omega (arith, below (c .before))
 
--- src/verb.rt:52:5
 loop-again : tie.Need-loop-again Inv-loop μ-loop
 loop-again c = let l = c .before .before .before .before .before .before in
     let a = l .before .before .before .before .before .args in
     (omega (arith, below (c .before)), omega (arith, place-more (a .word .now) (columnsOf (a .list .now)) (l .loop .k) (below (c .before)) (tested (c .before) ∙ c .if2 .left)))
 
--- src/verb.rt:45:1
 returns-2 : tie.Need-returns-2 Inv-loop μ-loop
 returns-2 c = let l = c .before .before in
     let a = l .before .before .before .before .before .args in

@@ -8,23 +8,17 @@ use Rattle.vectors.specs.Words.{questionOf}
 use borrow.Author.Needs.{needs}
 use Rattle.vectors.proofs.verb.question_of.Statement.{statement}
 use Rattle.vectors.proofs.verb.question_of.Tie as tie
-use Rattle.vectors.proofs.verb.question_of.Reads as reads
-use Rattle.vectors.proofs.verb.question_of.Lts as lts
-use Rattle.vectors.proofs.verb.place_in.Reads as place-in-reads
 
 few : length (columnsOf (ascii "import\trow\tidentify\textract\tengineer\tstep\tnumber\twidth\tunsigned\tsigned\tstring\tline")) ≤ 24
 unfolding columnsOf columnsFrom
 few = omega arith
 
--- src/verb.rt:76:9
 slice-aggregate-place-in : tie.Need-slice-aggregate-place-in
 slice-aggregate-place-in c = search needs
 
--- src/verb.rt:75:5
 place-in-requires : tie.Need-place-in-requires
 place-in-requires c κs = few
 
--- src/verb.rt:72:1
 returns : tie.Need-returns
 unfolding questionOf
 returns c = c .place-in .ensures

@@ -8,23 +8,17 @@ use Rattle.vectors.specs.Words.{settingOf}
 use borrow.Author.Needs.{needs}
 use Rattle.vectors.proofs.verb.setting_of.Statement.{statement}
 use Rattle.vectors.proofs.verb.setting_of.Tie as tie
-use Rattle.vectors.proofs.verb.setting_of.Reads as reads
-use Rattle.vectors.proofs.verb.setting_of.Lts as lts
-use Rattle.vectors.proofs.verb.place_in.Reads as place-in-reads
 
 few : length (columnsOf (ascii "pid\tpic\tplf\tpcf\tcaf\tcap\ttxf\ttxp\tocf\tocp\tpacket\tpacket+\tfill\tclear\tstate")) ≤ 24
 unfolding columnsOf columnsFrom
 few = omega arith
 
--- src/verb.rt:66:9
 slice-aggregate-place-in : tie.Need-slice-aggregate-place-in
 slice-aggregate-place-in c = search needs
 
--- src/verb.rt:65:5
 place-in-requires : tie.Need-place-in-requires
 place-in-requires c κs = few
 
--- src/verb.rt:62:1
 returns : tie.Need-returns
 unfolding settingOf
 returns c = c .place-in .ensures

@@ -5,32 +5,22 @@ use Rattle.vectors.proofs.WordLaws.{text-is, text-none}
 use borrow.Author.Needs.{needs}
 use Rattle.vectors.proofs.verb.text_of.Statement.{statement}
 use Rattle.vectors.proofs.verb.text_of.Tie as tie
-use Rattle.vectors.proofs.verb.text_of.Reads as reads
-use Rattle.vectors.proofs.verb.text_of.Lts as lts
-use Rattle.lines.proofs.columns.part.Reads as part-reads
-use Rattle.vectors.proofs.verb.find_byte.Reads as find-byte-reads
 
--- src/verb.rt:37:9
 find-byte-requires : tie.Need-find-byte-requires
 find-byte-requires c κs = search needs
 
--- src/verb.rt:39:27
 add-part : tie.Need-add-part
 add-part c = search needs
 
--- src/verb.rt:39:9
 part-requires : tie.Need-part-requires
 part-requires c κs = search needs
 
--- src/verb.rt:39:9
 returns : tie.Need-returns
 returns c = c .part .ensures ∙ text-is _ _ (c .before .before .find-byte .ensures .0)
 
--- src/verb.rt:41:5
 slice-aggregate-result : tie.Need-slice-aggregate-result
 slice-aggregate-result c = search needs
 
--- src/verb.rt:34:1
 returns-2 : tie.Need-returns-2
 returns-2 c = sym (text-none _ _ (c .before .before .find-byte .ensures .0) (omega arith))
 

@@ -1,4 +1,0 @@
-pub mod Words
-pub mod Namings
-pub mod Digest
-pub mod Said

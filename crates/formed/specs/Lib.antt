@@ -1,0 +1,2 @@
+pub mod Contradictions
+pub mod Formed

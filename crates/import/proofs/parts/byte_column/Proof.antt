@@ -1,0 +1,28 @@
+-- The part of a column.
+use Prim.Native.Nat.{_*_}
+use Rattle.import.proofs.StepLaws.{column-part}
+use borrow.Author.Needs.{needs}
+use Rattle.import.proofs.parts.byte_column.Statement.{statement}
+use Rattle.import.proofs.parts.byte_column.Tie as tie
+
+mul-from : tie.Need-mul-from
+mul-from c = search needs
+
+add-to : tie.Need-add-to
+add-to c = search needs
+
+sub-result : tie.Need-sub-result
+sub-result c = search needs
+
+part-result-start : tie.Need-part-result-start
+part-result-start c = search needs
+
+part-result-end : tie.Need-part-result-end
+part-result-end c = search needs
+
+returns : tie.Need-returns
+returns c = let a = c .before .args in column-part (a .bytes .now) (a .c * 14336)
+
+pub byte-column-spec : {M : Type 1} → statement M
+byte-column-spec =
+    tie.close (tie.spec mul-from add-to sub-result part-result-start part-result-end returns)

@@ -1,0 +1,132 @@
+// The passes over what is kept of the rows, one after the other.
+use crate::found::NO_ROW;
+use crate::found::count_rows;
+use crate::found::find_rows;
+use crate::found::mark_formed;
+use crate::parts::CODE1;
+use crate::parts::CODE2;
+use crate::parts::COUNT;
+use crate::parts::GROUP;
+use crate::parts::IDS;
+use crate::parts::KEY1;
+use crate::parts::KEY2;
+use crate::parts::MARKS;
+use crate::parts::NAME1;
+use crate::parts::NAME2;
+use crate::parts::NUMBER;
+use crate::parts::OWN;
+use crate::parts::PLACES;
+use crate::parts::byte_column;
+use crate::parts::half_column;
+use judging::judge_rows;
+use passes::counts::count_ids;
+use passes::holders::note_rows;
+use passes::sound::mark_sound;
+ghost use mathlib.Core.Path.{_≡_};
+ghost use Prim.Native.Nat.{_*_, _≤_};
+ghost use lib.ListN.{length};
+ghost use lib.Seq.{sets};
+ghost use Rattle.kept.specs.Stored.{name1Column, name2Column};
+ghost use Rattle.import.specs.Passes.{SoundBy, HoldersBy, CountsBy, FoundBy, judgedBy, Judges};
+
+// Marks the rows without reasons 1 to 9.
+fn sound_rows(halves: &[u16], sound: &mut [u8], n: usize)
+    requires { ⌜ 8 * 14336 ≤ length (now halves) ⌝ }
+    ensures { λ _. ⌜ SoundBy (now (halves .entry)) (now (sound .entry)) (now (sound .exit)) n ⌝ }
+{
+    let mut formed = [0u8; PLACES];
+    let mut holders = [0u16; IDS];
+    mark_formed(half_column(halves, OWN), &mut formed, n);
+    let key1 = half_column(halves, KEY1);
+    let key2 = half_column(halves, KEY2);
+    count_ids(&formed, key1, &mut holders, n);
+    count_ids(&formed, key2, &mut holders, n);
+    mark_sound(&formed, key1, key2, &holders, sound, n);
+}
+
+// Notes one more than a row that holds each key, by the key's id.
+fn holder_rows(halves: &[u16], holders: &mut [u16], n: usize)
+    requires { ⌜ 8 * 14336 ≤ length (now halves) ⌝ }
+    ensures { λ _. ⌜ HoldersBy (now (halves .entry)) (now (holders .entry)) (now (holders .exit)) n ⌝ }
+{
+    let mut formed = [0u8; PLACES];
+    mark_formed(half_column(halves, OWN), &mut formed, n);
+    note_rows(&formed, half_column(halves, KEY1), holders, n);
+    note_rows(&formed, half_column(halves, KEY2), holders, n);
+}
+
+// Reason 10 of the rows that count others.
+fn count_cells(halves: &[u16], bytes: &[u8], sound: &[u8], counts: &mut [u16], n: usize)
+    requires { ⌜ (8 * 14336 ≤ length (now halves)) × (5 * 14336 ≤ length (now bytes)) ⌝ }
+    ensures { λ _. ⌜ CountsBy (now (halves .entry)) (now (bytes .entry)) (now (sound .entry)) (now (counts .entry)) (now (counts .exit)) n ⌝ }
+{
+    let mut tallies = [0u16; IDS];
+    count_ids(sound, half_column(halves, GROUP), &mut tallies, n);
+    count_rows(
+        byte_column(bytes, COUNT),
+        half_column(halves, KEY1),
+        half_column(halves, NUMBER),
+        &tallies,
+        counts,
+        n,
+    );
+}
+
+// The rows that what rows name leads to, in both places.
+fn find_names(halves: &[u16], holders: &[u16], found1: &mut [u16], found2: &mut [u16], n: usize)
+    requires { ⌜ 8 * 14336 ≤ length (now halves) ⌝ }
+    ensures { λ _. ⌜ FoundBy (now (halves .entry)) (now (holders .entry)) name1Column (now (found1 .entry)) (now (found1 .exit)) n × FoundBy (now (halves .entry)) (now (holders .entry)) name2Column (now (found2 .entry)) (now (found2 .exit)) n ⌝ }
+{
+    find_rows(half_column(halves, NAME1), holders, found1, n);
+    find_rows(half_column(halves, NAME2), holders, found2, n);
+}
+
+// The verdicts by what the other passes found.
+fn judge_found(
+    halves: &[u16],
+    bytes: &[u8],
+    sound: &[u8],
+    counts: &[u16],
+    found1: &[u16],
+    found2: &[u16],
+    cells: &mut [u16],
+    n: usize,
+)
+    requires { ⌜ (8 * 14336 ≤ length (now halves)) × (5 * 14336 ≤ length (now bytes)) ⌝ }
+    ensures { λ _. ⌜ now (cells .exit) ≡ sets (now (cells .entry)) 0 (judgedBy (now (halves .entry)) (now (bytes .entry)) (now (sound .entry)) (now (counts .entry)) (now (found1 .entry)) (now (found2 .entry)) n) ⌝ }
+{
+    judge_rows(
+        half_column(halves, OWN),
+        sound,
+        counts,
+        byte_column(bytes, CODE1),
+        found1,
+        byte_column(bytes, CODE2),
+        found2,
+        byte_column(bytes, MARKS),
+        cells,
+        n,
+    );
+}
+
+// The verdicts of n rows by what is kept of them, put to the cells; the holders of keys are left too.
+pub(crate) fn judge_kept(
+    halves: &[u16],
+    bytes: &[u8],
+    holders: &mut [u16],
+    cells: &mut [u16],
+    n: usize,
+)
+    requires { ⌜ (8 * 14336 ≤ length (now halves)) × (5 * 14336 ≤ length (now bytes)) ⌝ }
+    ensures { λ _. ⌜ Judges (now (halves .entry)) (now (bytes .entry)) (now (holders .entry)) (now (holders .exit)) (now (cells .entry)) (now (cells .exit)) n ⌝ }
+{
+    let mut sound = [0u8; PLACES];
+    let mut counts = [0u16; PLACES];
+    let mut found1 = [NO_ROW; PLACES];
+    let mut found2 = [NO_ROW; PLACES];
+    sound_rows(halves, &mut sound, n);
+    holder_rows(halves, holders, n);
+    count_cells(halves, bytes, &sound, &mut counts, n);
+    find_names(halves, holders, &mut found1, &mut found2, n);
+    judge_found(halves, bytes, &sound, &counts, &found1, &found2, cells, n);
+}

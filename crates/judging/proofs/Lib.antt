@@ -1,0 +1,7 @@
+pub mod CircleMeaning
+pub mod GoodMeaning
+pub mod Meaning
+pub mod PassLaws
+pub mod Resolved
+pub mod StepLaws
+pub mod VerdictMeaning

@@ -1,0 +1,93 @@
+-- Where the arrays say of the rows what they are to say, the cells are the definition's verdicts.
+use mathlib.Core.Path.{_≡_, refl, ap, sym, _∙_}
+use mathlib.Core.Bool.{Bool, true, false}
+use mathlib.Core.List.{List, map}
+use Prim.Native.Nat.{ℕ, _+_, _≤_, _<_}
+use native.Mathlib.Omega.{arith}
+use lib.Dec.{eqb}
+use lib.ListN.{length, getD, replicate, length-map, length-replicate}
+use lib.Seq.{sets, length-sets, ext-getD}
+use Rattle.laws.specs.Prefix.{flag}
+use Rattle.laws.specs.Values.{tabulate}
+use Rattle.laws.proofs.Lists.{map-at}
+use Rattle.laws.proofs.Values.{written-at, any-default, tabulate-at, tabulate-length}
+use Rattle.verdicts.specs.Entries.{Entry}
+use Rattle.verdicts.specs.Verdicts.{verdict}
+use Rattle.keys.specs.Manners.{mannerAt}
+use Rattle.chains.specs.Chains.{noRow, comesTo, firmFrom}
+use Rattle.judging.specs.Judged.{filled, zeroOf, circlesOf, nextOf, baseOf, firmOf, finalOf, finalBy, cleanBy, firmBy, chainedBy, goodBy, nextRows, baseRows, goodRows, judgedCells}
+use Rattle.judging.proofs.Resolved.{noEntry, rowAt, Arrays, code1, row1, code2, row2, Resolved}
+use Rattle.judging.proofs.VerdictMeaning.{baseIn, isGood, base-is}
+use Rattle.judging.proofs.GoodMeaning.{Says, final-is, chained-says}
+
+-- an array filled from the front
+filled-at : (fill : ℕ) (f : ℕ → ℕ) (n i d : ℕ) → n ≤ 14336 → i < n → getD (filled fill f n) i d ≡ f i
+filled-at fill f n i d few h =
+    any-default (filled fill f n) i d 0 (rw (length-sets, length-replicate) (omega arith)) ∙ written-at f (replicate 14336 fill) n (rw length-replicate few) i h
+
+module _ (rows : List Entry) (w : Arrays) (layer : ℕ → ℕ) (v : Resolved rows w layer) where
+  abbrev n : ℕ
+  n = length rows
+
+  abbrev nexts : List ℕ
+  nexts = nextRows (w .own) (w .sound) (w .counts) (w .codes1) (w .found1) (w .codes2) (w .found2) (w .marks) n
+
+  abbrev bases : List ℕ
+  bases = baseRows (w .own) (w .sound) (w .counts) (w .codes1) (w .found1) (w .codes2) (w .found2) (w .marks) n
+
+  abbrev cleans : List ℕ
+  cleans = cleanBy (w .marks) bases (w .codes1) (w .found1) (w .codes2) (w .found2) nexts n
+
+  abbrev firms : List ℕ
+  firms = firmBy (w .marks) bases (w .codes1) (w .found1) (w .codes2) (w .found2) nexts n
+
+  abbrev chaineds : List ℕ
+  chaineds = chainedBy (w .marks) bases (w .codes1) (w .found1) (w .codes2) (w .found2) nexts n
+
+  abbrev goods : List ℕ
+  goods = goodRows (w .own) (w .sound) (w .counts) (w .codes1) (w .found1) (w .codes2) (w .found2) (w .marks) n
+
+  nexts-are : (i : ℕ) → i < n → getD nexts i noRow ≡ nextOf (w .sound) (code1 w i) (row1 w i)
+  nexts-are i p = filled-at noRow _ n i noRow (v .few) p
+
+  bases-are : (i : ℕ) → i < n → getD bases i 0 ≡ baseIn rows (rowAt rows i)
+  bases-are i p = filled-at 0 _ n i 0 (v .few) p ∙ base-is rows w layer v nexts nexts-are i p _ (filled-at 0 _ n i 0 (v .few) p)
+
+  cleans-are : (i : ℕ) → i < n → getD cleans i 0 ≡ flag (eqb (baseIn rows (rowAt rows i)) 0)
+  cleans-are i p = filled-at 0 _ n i 0 (v .few) p ∙ ap (λ (b : ℕ). flag (eqb b 0)) (bases-are i p)
+
+  firms-are : (i : ℕ) → i < n → getD firms i 0 ≡ flag (firmOf (w .marks) cleans (baseIn rows (rowAt rows i)) (code1 w i) (row1 w i) (getD nexts i noRow) (code2 w i) (row2 w i))
+  firms-are i p =
+      filled-at 0 _ n i 0 (v .few) p
+      ∙ ap (λ (b : ℕ). flag (firmOf (w .marks) cleans b (code1 w i) (row1 w i) (getD nexts i noRow) (code2 w i) (row2 w i))) (bases-are i p)
+
+  chained : Says rows w layer v 1 chaineds
+  chained = chained-says rows w layer v cleans nexts firms cleans-are nexts-are firms-are chaineds (λ j q. filled-at 0 _ n j 0 (v .few) q)
+
+  -- a row's verdict by marks that say of what it names which rows are good: those of lower layers, and of its own along a chain
+  by-marks : (most : ℕ) (g : List ℕ) → Says rows w layer v most g → 1 ≤ most → (i : ℕ) → i < n → layer i ≤ most + 1
+      → finalBy (w .marks) bases (w .codes1) (w .found1) (w .codes2) (w .found2) g i ≡ verdict rows (rowAt rows i)
+  by-marks most g says some i p l =
+      final-is rows w layer v most g says i p (λ c f. low (mannerAt (code1 w i) .chained) refl c f) (λ c f. omega (arith, v .layers .below2 i p c f)) (getD bases i 0) (bases-are i p)
+    where
+      low : (b : Bool) → mannerAt (code1 w i) .chained ≡ b → (code1 w i ≡ 0 → ⊥) → (row1 w i ≡ noRow → ⊥) → layer (row1 w i) ≤ most
+      low true t c f = omega (arith, v .layers .along i p t .1 f)
+      low false t c f = omega (arith, v .layers .below1 i p t c f)
+
+  good : Says rows w layer v 2 goods
+  good j q l =
+      filled-at 0 _ n j 0 (v .few) q
+      ∙ ap (λ (x : ℕ). flag (eqb x 0)) (filled-at 0 _ n j 0 (v .few) q ∙ by-marks 1 chaineds chained (omega arith) j q l)
+
+  final : (i : ℕ) → i < n → finalBy (w .marks) bases (w .codes1) (w .found1) (w .codes2) (w .found2) goods i ≡ verdict rows (rowAt rows i)
+  final i p = by-marks 2 goods good (omega arith) i p (v .layers .most i p)
+
+  -- the cells are the verdicts of the rows
+  pub judged-are : judgedCells (w .own) (w .sound) (w .counts) (w .codes1) (w .found1) (w .codes2) (w .found2) (w .marks) n ≡ map (verdict rows) rows
+  unfolding judgedCells
+  judged-are =
+      let f : ℕ → ℕ = finalBy (w .marks) bases (w .codes1) (w .found1) (w .codes2) (w .found2) goods in
+      let l = tabulate-length f 0 n in
+      ext-getD 0 _ _ (l ∙ sym (length-map rows (verdict rows)))
+      (λ i h. let p : i < n = rw l at h in
+      tabulate-at f 0 n i p ∙ ap f (omega arith) ∙ final i p ∙ sym (map-at (verdict rows) rows i noEntry 0 p))

@@ -1,0 +1,125 @@
+// The verdicts of rows from what their keys and namings were found to be, over arrays by row.
+use crate::base::base_rows;
+use crate::base::next_rows;
+use crate::base::zero_rows;
+use crate::names::final_rows;
+use crate::names::firm_rows;
+use chains::mark_circles;
+use chains::mark_firm;
+ghost use mathlib.Core.Path.{_≡_};
+ghost use lib.ListN.{getD};
+ghost use lib.Seq.{sets};
+ghost use Rattle.laws.specs.Values.{tabulate};
+ghost use Rattle.judging.specs.Judged.{circlesOf, baseOf, goodBy, finalBy, judgedCells};
+
+mod base;
+mod names;
+mod reads;
+
+// The most rows that are judged.
+const ROWS: usize = 14336;
+
+// A chain that ends has fewer rows than this.
+const LONGEST: usize = 14337;
+
+const NO_ROW: u16 = 65535;
+
+// Reasons 1 to 10 and 12 of the first n rows, by the next row of each.
+fn judge_bases(own: &[u16], sound: &[u8], counts: &[u16], next: &[u16], base: &mut [u16], n: usize)
+    ensures { λ _. ⌜ now (base .exit) ≡ sets (now (base .entry)) 0 (tabulate (λ i. baseOf (getD (now (own .entry)) i 0) (getD (now (sound .entry)) i 0) (getD (now (counts .entry)) i 0) (getD (circlesOf (now (next .entry)) n) i 0)) 0 n) ⌝ }
+{
+    let mut circles = [0u8; ROWS];
+    mark_circles(next, &mut circles, n);
+    base_rows(own, sound, counts, &circles, base, n);
+}
+
+// Which of the first n rows are good, of those that no other names but rows which aren't named themselves.
+fn judge_good(
+    marks: &[u8],
+    base: &[u16],
+    codes1: &[u8],
+    found1: &[u16],
+    codes2: &[u8],
+    found2: &[u16],
+    next: &[u16],
+    good: &mut [u8],
+    n: usize,
+)
+    ensures { λ _. ⌜ now (good .exit) ≡ sets (now (good .entry)) 0 (goodBy (now (marks .entry)) (now (base .entry)) (now (codes1 .entry)) (now (found1 .entry)) (now (codes2 .entry)) (now (found2 .entry)) (now (next .entry)) n) ⌝ }
+{
+    let mut clean = [0u8; ROWS];
+    let mut firm = [0u8; ROWS];
+    let mut chained = [0u8; ROWS];
+    let mut cells = [0u16; ROWS];
+    zero_rows(base, &mut clean, n);
+    firm_rows(
+        marks,
+        &clean,
+        base,
+        codes1,
+        found1,
+        next,
+        codes2,
+        found2,
+        &mut firm,
+        n,
+    );
+    mark_firm(next, &firm, &mut chained, LONGEST, n);
+    final_rows(
+        marks,
+        &chained,
+        base,
+        codes1,
+        found1,
+        codes2,
+        found2,
+        &mut cells,
+        n,
+    );
+    zero_rows(&cells, good, n);
+}
+
+// The verdicts of the first n rows, put to the cells. own: reasons 1 to 8; sound: 1 without reasons 1 to 9; counts: 0 or
+// reason 10; codes and found: what each row names in its two places, and the rows found; marks: the conditions that rows meet.
+pub fn judge_rows(
+    own: &[u16],
+    sound: &[u8],
+    counts: &[u16],
+    codes1: &[u8],
+    found1: &[u16],
+    codes2: &[u8],
+    found2: &[u16],
+    marks: &[u8],
+    cells: &mut [u16],
+    n: usize,
+)
+    ensures { λ _. ⌜ now (cells .exit) ≡ sets (now (cells .entry)) 0 (judgedCells (now (own .entry)) (now (sound .entry)) (now (counts .entry)) (now (codes1 .entry)) (now (found1 .entry)) (now (codes2 .entry)) (now (found2 .entry)) (now (marks .entry)) n) ⌝ }
+{
+    let mut next = [NO_ROW; ROWS];
+    let mut base = [0u16; ROWS];
+    let mut good = [0u8; ROWS];
+    next_rows(sound, codes1, found1, &mut next, n);
+    judge_bases(own, sound, counts, &next, &mut base, n);
+    judge_good(
+        marks,
+        &base,
+        codes1,
+        found1,
+        codes2,
+        found2,
+        &next,
+        &mut good,
+        n,
+    );
+    final_rows(
+        marks,
+        &good,
+        &base,
+        codes1,
+        found1,
+        codes2,
+        found2,
+        cells,
+        n,
+    );
+}

@@ -1,0 +1,18 @@
+-- The manners of naming, looked up by their code.
+use mathlib.Core.Path.{_≡_, refl}
+use mathlib.Core.List.{List, [], _∷_, map}
+use Prim.Native.Nat.{ℕ, zero, suc, _<_}
+use native.Mathlib.Omega.{arith}
+use lib.ListN.{length, getD, List·getD-map}
+use Rattle.keys.specs.Manners.{Manner, noManner, manners, mannerAt}
+
+-- a list of what the manners have is looked up as they are
+pub by-code : {A : Type 0} (f : Manner → A) (code : ℕ) → getD (map f manners) code (f noManner) ≡ f (mannerAt code)
+unfolding mannerAt
+by-code f code = List·getD-map f manners code noManner
+
+-- in a list the default doesn't matter
+pub any-default : (l : List ℕ) (i d e : ℕ) → i < length l → getD l i d ≡ getD l i e
+any-default [] i d e h = absurd (omega arith)
+any-default (a ∷ l) zero d e h = refl
+any-default (a ∷ l) (suc i) d e h = any-default l i d e (omega arith)

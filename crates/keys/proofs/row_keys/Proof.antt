@@ -1,0 +1,19 @@
+-- A row with one of reasons 1 to 8 has nothing.
+use mathlib.Core.Path.{_∙_}
+use Rattle.keys.specs.Held.{keysOf}
+use Rattle.keys.proofs.CaseLaws.{row-blanked}
+use Rattle.keys.proofs.row_keys.Statement.{statement}
+use Rattle.keys.proofs.row_keys.Tie as tie
+
+column-keys-requires : tie.Need-column-keys-requires
+column-keys-requires c κs = tt
+
+blanked-requires : tie.Need-blanked-requires
+blanked-requires c κs = tt
+
+returns : tie.Need-returns
+unfolding keysOf
+returns c = c .blanked .ensures ∙ rw (c .before .column-keys .ensures) (row-blanked _ _)
+
+pub row-keys-spec : {M : Type 1} → statement M
+row-keys-spec = tie.close (tie.spec column-keys-requires blanked-requires returns)

@@ -1,0 +1,158 @@
+-- What a row holds, names, counts and is counted in, as symbols.
+use mathlib.Core.Path.{_≡_, refl}
+use mathlib.Core.Bool.{Bool, true, false}
+use mathlib.Core.List.{List, [], _∷_, _++_}
+use Prim.Native.Nat.{ℕ}
+use lib.ListN.{drop}
+use Rattle.laws.specs.Text.{ascii}
+use Rattle.numbers.specs.Number.{numberOf, meaning, spelt, after, digitOn, digitOf}
+use Rattle.lines.specs.Lines.{Line}
+use Rattle.lines.specs.Names.{curveNameOf}
+use Rattle.lines.specs.Columns.{columnsOf, columnsFrom, foreignIn, allowed, printable}
+use Rattle.schemas.specs.Reasons.{lineOf, shape, firstReason, columnReason, kindReason, numberReason}
+use Rattle.schemas.specs.Tables.{schema, cap}
+use Rattle.schemas.specs.declared.Table.{Table}
+use Rattle.schemas.specs.declared.Table.the-variants.{Cap}
+use Rattle.rows.specs.Values.{integerOr, integerFrom}
+use Rattle.rows.specs.Records.{column, capRow}
+use Rattle.formed.specs.Contradictions.{contradiction}
+use Rattle.formed.specs.Formed.{orContradiction, formed}
+use Rattle.rows.specs.declared.letters.Valid.{Valid}
+use Rattle.rows.specs.declared.letters.Valid.the-variants.{Yes, No}
+use Rattle.rows.specs.declared.letters.Category.{Category}
+use Rattle.rows.specs.declared.letters.Category.the-variants.{Numeric, Status, Text}
+use Rattle.rows.specs.declared.letters.LimitValue.{LimitValue}
+use Rattle.rows.specs.declared.letters.LimitValue.the-variants as LV
+use Rattle.symbols.specs.declared.Symbol.{Symbol}
+use Rattle.verdicts.specs.Key.{Key}
+use Rattle.verdicts.specs.Facts.{Facts, Naming, Count, capFacts, factsOf}
+use Rattle.verdicts.specs.Entries.{readingOf, own, said, bad}
+use Rattle.keys.specs.declared.records.Slot.{Slot}
+use Rattle.keys.specs.declared.records.Named.{Named}
+use Rattle.keys.specs.declared.records.Counting.{Counting}
+use Rattle.keys.specs.declared.records.RowKeys.{RowKeys}
+use Rattle.keys.specs.Keyed.{number, numberFrom, symbol, curveSymbol, integerWord, symbolOf}
+use Rattle.keys.specs.Manners.{mannerOf, manners, weight, sameManner, codeFrom, codeOf, marksOf}
+
+abbrev pub noSymbol : Symbol
+noSymbol = symbol 0 0 0 0
+
+abbrev pub noSlot : Slot
+noSlot = record { given = false; key = noSymbol }
+
+abbrev pub slotFor : Symbol → Slot
+slotFor s = record { given = true; key = s }
+
+abbrev pub noName : Named
+noName = record { code = 0; key = noSymbol }
+
+abbrev pub noCount : Counting
+noCount = record { column = 0; number = 0 }
+
+-- the first of these keys
+unfoldable pub slotOf : List Key → Slot
+slotOf [] = noSlot
+slotOf (k ∷ ks) = slotFor (symbolOf k)
+
+-- the first of these namings
+unfoldable pub namedOf : List Naming → Named
+namedOf [] = noName
+namedOf (n ∷ ns) = record { code = codeOf (mannerOf n); key = symbolOf (n .key) }
+
+-- the first of these counts; its group goes by the row's own first key
+unfoldable pub countOf : List Count → Counting
+countOf [] = noCount
+countOf (c ∷ cs) = record { column = c .column; number = c .number }
+
+-- the facts of a row, as symbols
+unfoldable pub keysOf : ℕ → Facts → RowKeys
+keysOf verdict f =
+    record {
+      verdict = verdict;
+      first = slotOf (f .keys);
+      second = slotOf (drop 1 (f .keys));
+      one = namedOf (f .names);
+      two = namedOf (drop 1 (f .names));
+      group = slotOf (f .groups);
+      count = countOf (f .counts);
+      marks = marksOf (f .meets);
+    }
+
+-- what the columns say, whatever the verdict
+abbrev pub columnKeys : Table → Line → RowKeys
+columnKeys table line = keysOf (formed table line) (factsOf table (line .bytes))
+
+-- 01: "rows without 1–8 hold keys for reason 9": a row with one of reasons 1 to 8 holds, names and counts nothing
+unfoldable pub rowKeysOf : Table → Line → RowKeys
+rowKeysOf table line = keysOf (own (readingOf table line)) (said (readingOf table line))
+
+-- of a row with one of reasons 1 to 8
+abbrev pub noKeys : ℕ → RowKeys
+noKeys verdict = keysOf verdict (said (bad verdict))
+
+-- of a row that counts, and of one that is counted in the group that its first column names
+abbrev pub counterKeys : ℕ → Symbol → ℕ → ℕ → RowKeys
+counterKeys verdict key column number =
+    record {
+      verdict = verdict;
+      first = slotFor key;
+      second = noSlot;
+      one = noName;
+      two = noName;
+      group = noSlot;
+      count = record { column = column; number = number };
+      marks = 1;
+    }
+
+abbrev pub memberKeys : ℕ → Symbol → Symbol → Named → RowKeys
+memberKeys verdict key group two =
+    record {
+      verdict = verdict;
+      first = slotFor key;
+      second = noSlot;
+      one = record { code = 5; key = group };
+      two = two;
+      group = slotFor group;
+      count = noCount;
+      marks = 1;
+    }
+
+-- 01: "VALID 1 Y/N"
+abbrev pub isYes : Valid → Bool
+isYes Yes = true
+isYes No = false
+
+-- 01: "S needs CURTX, naming a txf row; N may name a caf row"
+unfoldable pub curtxSpace : Category → ℕ
+curtxSpace Numeric = 5
+curtxSpace Status = 7
+curtxSpace Text = 5
+
+-- 01: "INTER 1! U/C"
+abbrev pub isEngineering : LimitValue → Bool
+isEngineering LV.Raw = false
+isEngineering LV.Engineering = true
+
+-- cap rows: C1, TAB, -3, TAB, 7; the same without its line feed
+abbrev row : List ℕ
+row = ascii "C1" ++ 9 ∷ ascii "-3" ++ 9 ∷ ascii "7"
+
+pub record Examples : Type 0 where
+  pub point : rowKeysOf Cap (lineOf row true)
+      ≡ record {
+        verdict = 0;
+        first = slotFor (symbol 6 0x4331000000000000 0x20000 5);
+        second = noSlot;
+        one = record { code = 5; key = symbol 5 0x4331000000000000 0x20000 0 };
+        two = noName;
+        group = slotFor (symbol 5 0x4331000000000000 0x20000 0);
+        count = noCount;
+        marks = 1;
+      }
+  pub unended : rowKeysOf Cap (lineOf row false) ≡ noKeys 256
+
+pub examples : Examples
+unfolding rowKeysOf keysOf slotOf namedOf countOf marksOf symbolOf curveSymbol number numberFrom integerWord codeOf codeFrom sameManner manners weight
+    readingOf factsOf capFacts capRow curveNameOf integerOr integerFrom formed orContradiction contradiction shape schema cap foreignIn allowed printable
+    column columnsOf columnsFrom firstReason columnReason kindReason numberReason numberOf meaning spelt after digitOn digitOf
+examples = record { point = refl; unended = refl }

@@ -1,0 +1,4 @@
+pub mod Keyed
+pub mod Manners
+pub mod Held
+pub mod Says

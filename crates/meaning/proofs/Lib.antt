@@ -1,0 +1,9 @@
+pub mod TestLaws
+pub mod KeyLaws
+pub mod GrowLaws
+pub mod ShareLaws
+pub mod TallyLaws
+pub mod FindLaws
+pub mod NameLaws
+pub mod PassLaws
+pub mod RowLaws
