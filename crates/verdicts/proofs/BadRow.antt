@@ -7,9 +7,11 @@
 use mathlib.Core.Path.{_≡_, sym, ap, _∙_}
 use mathlib.Core.List.{List}
 use Prim.Native.Nat.{ℕ}
+use lib.ListN.{length}
 use Rattle.verdicts.specs.Entries.{allRows}
 use Rattle.verdicts.specs.Verdicts.{verdict}
-use Rattle.verdicts.specs.Places.{IsRow, entryAt, verdictAt, Edit, edited, Apart, Takes, SameCell}
+use Rattle.verdicts.specs.Answer.{Imported, importOf, cellsAfter}
+use Rattle.verdicts.specs.Places.{IsRow, entryAt, verdictAt, Edit, edited, Apart, Takes, SameCell, imported}
 use Rattle.verdicts.proofs.EntryLaws.{place-there}
 use Rattle.verdicts.proofs.CellLaws.{length-cells, imported-at}
 use Rattle.verdicts.proofs.EditLaws.{rows-alike, row-kept, place-kept, other-kept}
@@ -37,3 +39,8 @@ demand-3 texts edit u r is apart cells cells′ takes takes′ =
       samePlace = place-kept texts edit u r;
       same = imported-at texts cells takes u r is ∙ verdict-kept texts edit u r is apart ∙ sym (imported-at (edited texts edit) cells′ takes′ u r is′);
     }
+
+-- what import promises of its answer and of the cells after makes these the cells of `demand-3`
+pub import-writes : (texts : List (List ℕ)) (cells after : List ℕ) (answer : Imported) → answer ≡ importOf texts (length cells) → after ≡ cellsAfter texts cells answer
+    → after ≡ imported texts cells
+import-writes texts cells after answer p q = q ∙ ap (cellsAfter texts cells) p

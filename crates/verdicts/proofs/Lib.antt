@@ -9,3 +9,4 @@ pub mod CellLaws
 pub mod Isolation
 pub mod EditLaws
 pub mod BadRow
+pub mod LineEdits
