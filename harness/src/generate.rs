@@ -2,6 +2,7 @@
 
 pub mod consistent;
 pub mod full;
+pub mod hostile;
 pub mod mutations;
 pub mod packets;
 pub mod sets;

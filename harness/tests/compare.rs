@@ -5,6 +5,7 @@ use std::thread::{available_parallelism, scope, Builder};
 
 use harness::answers::{answer, Answer, Places};
 use harness::generate::full::{full_packet, full_set, last_parameter, Shape};
+use harness::generate::hostile::hostile_sets;
 use harness::generate::mutations::{mutate_bytes, noise_line};
 use harness::generate::packets::Asked;
 use harness::generate::sets::{large_set, small_set};
@@ -53,6 +54,20 @@ fn the_library_answers_as_the_reference() {
     assert!(tally.replaced.leaning_changed > 0);
     let missing = tally.missing(&ANSWERS);
     assert!(missing.is_empty(), "never met: {missing:#?}");
+}
+
+#[test]
+fn hostile_tables_get_the_same_cells() {
+    let judge = || {
+        for (title, set) in &hostile_sets() {
+            let tables = borrowed(set);
+            let by_reference = reference::import(&tables, 10_240);
+            let mut cells = vec![0; 10_240];
+            assert_eq!(proved::import(&tables, &mut cells, [0; 8]), answer(&by_reference, [0; 8]), "{title}");
+            assert_eq!(cells, by_reference.expect("the tables are taken").cells, "{title}");
+        }
+    };
+    Builder::new().stack_size(STACK).spawn(judge).expect("a thread").join().expect("no cell differs");
 }
 
 /// All sets, on all cores: the sets and questions are the same however many there are.

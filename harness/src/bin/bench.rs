@@ -9,6 +9,7 @@ use std::{env, fs};
 use harness::answers::{answer, Answer, Places};
 use harness::generate::borrowed;
 use harness::generate::full::{full_packet, full_set, last_parameter, Shape};
+use harness::generate::hostile::hostile_sets;
 use harness::proved;
 use harness::reference::limits::{limit_step, State};
 use harness::reference::packets::{extract, identify};
@@ -30,16 +31,22 @@ fn main() {
     for (title, shape, rounds) in SHAPES {
         let set = full_set(shape);
         let tables = borrowed(&set);
-        let imported = import(&tables, CELLS).expect("the tables are taken");
-        let bytes: usize = set.iter().map(Vec::len).sum();
-        println!("\n{title}: {bytes} bytes, {} rows, {} good", imported.cells.len(), imported.good);
-        println!(
-            "{:10} {:>21} {:>21} {:>15} {:>21}",
-            "", "library", "reference", "ratio", "ref., judged once"
-        );
-        println!("{:10}{}{} {:>7} {:>7}{}", "us", HEADS, HEADS, "least", "median", HEADS);
+        head(title, &tables);
         measure_all(&tables, shape, rounds);
     }
+    for (title, set) in &hostile_sets() {
+        let tables = borrowed(set);
+        head(&format!("hostile, {title}"), &tables);
+        measure_import(&tables, 300);
+    }
+}
+
+fn head(title: &str, tables: &Tables) {
+    let imported = import(tables, CELLS).expect("the tables are taken");
+    let bytes: usize = tables.iter().map(|table| table.len()).sum();
+    println!("\n{title}: {bytes} bytes, {} rows, {} good", imported.cells.len(), imported.good);
+    println!("{:10} {:>21} {:>21} {:>15} {:>21}", "", "library", "reference", "ratio", "ref., judged once");
+    println!("{:10}{}{} {:>7} {:>7}{}", "us", HEADS, HEADS, "least", "median", HEADS);
 }
 
 const HEADS: &str = "      least     median";
@@ -50,14 +57,7 @@ fn measure_all(tables: &Tables, shape: Shape, rounds: usize) {
     let (packet, name) = (packet.as_slice(), parameter.as_bytes());
     let once = judged(tables).expect("the tables are taken");
 
-    let mut cells = vec![0u16; CELLS];
-    measure(
-        "import",
-        rounds,
-        || proved::import(tables, &mut cells, NO_PLACES),
-        || answer(&import(tables, CELLS), NO_PLACES),
-        None,
-    );
+    measure_import(tables, rounds);
     let by_reference = |judged: &Judged| answer(&identify(judged, packet), NO_PLACES);
     measure_packet(
         "identify",
@@ -78,6 +78,12 @@ fn measure_all(tables: &Tables, shape: Shape, rounds: usize) {
     let by_library = || proved::limit_step(tables, packet, name, fresh, NO_PLACES);
     measure_packet("limit step", rounds, tables, &once, by_library, by_reference);
     measure_judged_step(tables, packet, &parameter);
+}
+
+fn measure_import(tables: &Tables, rounds: usize) {
+    let mut cells = vec![0u16; CELLS];
+    let by_library = || proved::import(tables, &mut cells, NO_PLACES);
+    measure("import", rounds, by_library, || answer(&import(tables, CELLS), NO_PLACES), None);
 }
 
 /// A step over judged tables: `replay` judges once, so what it takes longer for more packets is what their steps cost, with
