@@ -9,3 +9,4 @@ pub mod Memory
 pub mod Settings
 pub mod Questions
 pub mod Script
+pub mod Totals

@@ -31,12 +31,18 @@ use standing::Tally;
 use totals::add_up;
 use totals::say_totals;
 use words::say::words;
+ghost use mathlib.Core.Path.{_≡_};
+ghost use lib.ListN.{replicate};
+ghost use Rattle.vectors.specs.Script.{tallyOf};
+ghost use Rattle.vectors.specs.Totals.{unreadFile, OfFile};
 
 // A vector file has at most so many bytes.
 const MOST_TEXT: usize = 1048576;
 
 // A file that can't be read whole counts as a line that can't.
-fn unread_file() -> Tally {
+fn unread_file() -> Tally
+    ensures { λ r. ⌜ r ≡ unreadFile ⌝ }
+{
     Tally {
         asked: [0; 12],
         differ: 0,
@@ -51,13 +57,17 @@ fn say_failed(name: &[u8], error: i32) {
     words(b"\n");
 }
 
-fn ask_text(name: &[u8], text: &[u8]) -> Tally {
+fn ask_text(name: &[u8], text: &[u8]) -> Tally
+    ensures { λ r. ⌜ r ≡ tallyOf (replicate 720907 0) (now (text .entry)) ⌝ }
+{
     let mut space = [0u8; SPACE];
     run(name, text, &mut space)
 }
 
 // The tally of a file that is read into a buffer.
-fn ask_into(name: &[u8], buffer: &mut [u8; MOST_TEXT]) -> Tally {
+fn ask_into(name: &[u8], buffer: &mut [u8; MOST_TEXT]) -> Tally
+    ensures { λ r. ⌜ OfFile r ⌝ }
+{
     let text: &mut [u8] = buffer;
     match read_file(name, text) {
         Got::Bytes(count) => {
@@ -79,12 +89,16 @@ fn ask_into(name: &[u8], buffer: &mut [u8; MOST_TEXT]) -> Tally {
     }
 }
 
-fn ask_file(name: &[u8]) -> Tally {
+fn ask_file(name: &[u8]) -> Tally
+    ensures { λ r. ⌜ OfFile r ⌝ }
+{
     let mut buffer = [0u8; MOST_TEXT];
     ask_into(name, &mut buffer)
 }
 
-fn ask_argument(k: usize) -> Tally {
+fn ask_argument(k: usize) -> Tally
+    ensures { λ r. ⌜ OfFile r ⌝ }
+{
     let mut name = [0u8; LONGEST];
     let length = os::arg(k, &mut name);
     ask_file(&name[..length])

@@ -1,17 +1,34 @@
 // The tallies of several files together.
+use crate::areas::number_at;
 use crate::standing::Tally;
-use std::num::wrapping_add_usize;
 use words::say;
 use words::say::words;
+ghost use mathlib.Core.Path.{_≡_};
+ghost use lib.ListN.{getD};
+ghost use Rattle.vectors.specs.Totals.{together};
+ghost use Rattle.vectors.specs.Totals.{plus as plusOf};
 
-fn sum(a: [usize; 12], b: [usize; 12], k: usize) -> usize {
-    if k < 12 {
-        return wrapping_add_usize(a[k], b[k]);
+const MOST: usize = 18446744073709551615;
+
+fn plus(a: usize, b: usize) -> usize
+    ensures { λ r. ⌜ r ≡ plusOf a b ⌝ }
+{
+    if a <= MOST - b {
+        return a + b;
     }
-    0
+    MOST
 }
 
-pub(crate) fn add_up(a: Tally, b: Tally) -> Tally {
+fn sum(a: [usize; 12], b: [usize; 12], k: usize) -> usize
+    ensures { λ r. ⌜ r ≡ plusOf (getD a k 0) (getD b k 0) ⌝ }
+{
+    plus(number_at(&a, k), number_at(&b, k))
+}
+
+// The tally of two files, or of one more.
+pub(crate) fn add_up(a: Tally, b: Tally) -> Tally
+    ensures { λ r. ⌜ r ≡ together a b ⌝ }
+{
     let x = a.asked;
     let y = b.asked;
     Tally {
@@ -29,8 +46,8 @@ pub(crate) fn add_up(a: Tally, b: Tally) -> Tally {
             sum(x, y, 10),
             sum(x, y, 11),
         ],
-        differ: wrapping_add_usize(a.differ, b.differ),
-        unread: wrapping_add_usize(a.unread, b.unread),
+        differ: plus(a.differ, b.differ),
+        unread: plus(a.unread, b.unread),
     }
 }
 
