@@ -1,9 +1,1 @@
-pub mod EscapeLaws
-pub mod WordLaws
-pub mod SpokenLaws
-pub mod NumeralLaws
-pub mod ReplyLaws
-pub mod MemoryLaws
-pub mod QuestionLaws
-pub mod SettingLaws
 pub mod ScriptLaws

@@ -11,19 +11,20 @@ use Rattle.lines.specs.Lines.{linesOf, nextLine}
 use Rattle.lines.specs.Columns.{partOf}
 use Rattle.lines.specs.declared.walk.NextLine.{NextLine}
 use Rattle.lines.proofs.LineLaws.{lines-next, lines-none}
-use Rattle.vectors.specs.Words.{wordOf, textOf, settingOf, questionOf}
+use Rattle.scripts.specs.Words.{wordOf, textOf, settingOf, questionOf}
 use Rattle.vectors.specs.Script.{Standing, next, nextBy, taken, answered, setBy, unreadLine, afterLines, standingIn}
 use Rattle.vectors.specs.declared.standing.Standing as held
 use Rattle.vectors.specs.declared.standing.Tally.{Tally}
-use Rattle.vectors.specs.declared.set.SetLine.{SetLine}
-use Rattle.vectors.specs.declared.ask.Judged.{Judged}
-use Rattle.vectors.specs.declared.compare.Verdict.the-variants.{Unread}
+use Rattle.settings.specs.declared.set.SetLine.{SetLine}
+use Rattle.questions.specs.declared.ask.Judged.{Judged}
+use Rattle.answers.specs.declared.compare.Verdict.the-variants.{Unread}
 use Rattle.limit_state.specs.declared.state.LimitState.{LimitState}
 use Rattle.laws.proofs.Cases.{bool-cases, false≢true}
-use Rattle.vectors.specs.Memory.{Kept, areaIn, tablesIn}
-use Rattle.vectors.specs.Settings.{setArea, setState, textBytes}
-use Rattle.vectors.specs.Questions.{judged}
-use Rattle.vectors.specs.Script.{counted, stood, firstStanding}
+use Rattle.settings.specs.Memory.{Kept, areaIn, tablesIn}
+use Rattle.settings.specs.Settings.{setArea, setState, textBytes}
+use Rattle.questions.specs.Questions.{judged}
+use Rattle.vectors.specs.Script.{stood, firstStanding}
+use Rattle.vectors.specs.Totals.{counted}
 
 module _ (s : Standing) (text : List ℕ) (from : ℕ) where
   pub lines-more : (n : NextLine) → n ≡ nextLine text from → from < length text
@@ -77,7 +78,8 @@ module _ (s : Standing) where
 
 -- A standing as it is held
 
-pub tally-parts : {a a′ : List ℕ} {d d′ u u′ : ℕ} → a ≡ a′ → d ≡ d′ → u ≡ u′ → _≡_ {A = Tally} (record { asked = a; differ = d; unread = u }) (record { asked = a′; differ = d′; unread = u′ })
+pub tally-parts : {a a′ : List ℕ} {d d′ u u′ : ℕ} → a ≡ a′ → d ≡ d′ → u ≡ u′
+    → _≡_ {A = Tally} (record { asked = a; differ = d; unread = u }) (record { asked = a′; differ = d′; unread = u′ })
 tally-parts p q r = λ i. record { asked = p i; differ = q i; unread = r i }
 
 module _ (r : held.Standing) (state : LimitState) (tally : Tally) (e : r ≡ stood state tally) where
@@ -104,32 +106,38 @@ module _ (space ends : List ℕ) (state : LimitState) (tally : Tally) (r : held.
   after = record { space = space; ends = ends; state = r .state; waits = none; tally = r .tally }
 
   pub answered-is : (question line : List ℕ) (k : ℕ) (j : Judged) → k ≡ questionOf (wordOf question)
-      → j ≡ judged k (tablesIn (record { space = space; ends = ends })) (areaIn (record { space = space; ends = ends }) 10) (textOf question) state line
+      → j ≡ judged k (tablesIn (record { space = space; ends = ends })) (areaIn (record { space = space; ends = ends }) 10)
+      (textOf question) state line
       → r ≡ stood (j .state) (counted tally k (j .verdict)) → after ≡ answered before question line
   unfolding answered stood
   answered-is question line k j ek ej er = rw (er, ej, ek)
 
-  pub state-read : (k : ℕ) (raw : List ℕ) (l : SetLine) → k ≡ 14 → l ≡ setState state (textBytes raw) → l .readable ≡ true → r ≡ stood (l .state) tally → after ≡ setBy before k raw
+  pub state-read : (k : ℕ) (raw : List ℕ) (l : SetLine) → k ≡ 14 → l ≡ setState state (textBytes raw) → l .readable ≡ true
+      → r ≡ stood (l .state) tally → after ≡ setBy before k raw
   unfolding setBy stood
   state-read k raw l ek el t er = rw (er, eq-eqb k 14 ek, ← el, t)
 
-  pub state-unread : (k : ℕ) (raw : List ℕ) (l : SetLine) → k ≡ 14 → l ≡ setState state (textBytes raw) → l .readable ≡ false → r ≡ stood (l .state) (counted tally 0 Unread)
+  pub state-unread : (k : ℕ) (raw : List ℕ) (l : SetLine) → k ≡ 14 → l ≡ setState state (textBytes raw) → l .readable ≡ false
+      → r ≡ stood (l .state) (counted tally 0 Unread)
       → after ≡ setBy before k raw
   unfolding setBy stood
   state-unread k raw l ek el t er = rw (er, eq-eqb k 14 ek, ← el, t)
 
-  pub area-read : (k : ℕ) (raw : List ℕ) (m : Kept) → (k ≡ 14 → ⊥) → m ≡ setArea k (record { space = space; ends = ends }) raw → m .readable ≡ true → r ≡ stood state tally
+  pub area-read : (k : ℕ) (raw : List ℕ) (m : Kept) → (k ≡ 14 → ⊥) → m ≡ setArea k (record { space = space; ends = ends }) raw → m .readable ≡ true
+      → r ≡ stood state tally
       → record { space = m .space; ends = m .ends; state = r .state; waits = none; tally = r .tally } ≡ setBy before k raw
   unfolding setBy stood
   area-read k raw m nk em t er = rw (er, ne-eqb k 14 nk, ← em, t)
 
   pub area-unread : (k : ℕ) (raw : List ℕ) (m : Kept) → (k ≡ 14 → ⊥) → m ≡ setArea k (record { space = space; ends = ends }) raw → m .readable ≡ false
-      → r ≡ stood state (counted tally 0 Unread) → record { space = m .space; ends = m .ends; state = r .state; waits = none; tally = r .tally } ≡ setBy before k raw
+      → r ≡ stood state (counted tally 0 Unread)
+      → record { space = m .space; ends = m .ends; state = r .state; waits = none; tally = r .tally } ≡ setBy before k raw
   unfolding setBy stood
   area-unread k raw m nk em t er = rw (er, ne-eqb k 14 nk, ← em, t)
 
 pub first-standing : (text space ends : List ℕ) (r : held.Standing)
-    → r ≡ stood (record { fresh = true; apid = 0; count = 0; run = 0; announced = 0 }) (record { asked = 0 ∷ 0 ∷ 0 ∷ 0 ∷ 0 ∷ 0 ∷ 0 ∷ 0 ∷ 0 ∷ 0 ∷ 0 ∷ 0 ∷ []; differ = 0; unread = 0 })
+    → r ≡ stood (record { fresh = true; apid = 0; count = 0; run = 0; announced = 0 })
+    (record { asked = 0 ∷ 0 ∷ 0 ∷ 0 ∷ 0 ∷ 0 ∷ 0 ∷ 0 ∷ 0 ∷ 0 ∷ 0 ∷ 0 ∷ []; differ = 0; unread = 0 })
     → standingIn text space ends r ≡ firstStanding space ends
 unfolding standingIn stood firstStanding
 first-standing text space ends r e = rw e

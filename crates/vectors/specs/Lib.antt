@@ -1,12 +1,2 @@
-pub mod Escapes
-pub mod Words
-pub mod Numerals
-pub mod Answers
-pub mod Spoken
-pub mod Replies
-pub mod Inside
-pub mod Memory
-pub mod Settings
-pub mod Questions
-pub mod Script
 pub mod Totals
+pub mod Script

@@ -1,32 +1,33 @@
 -- What a vector file means: line by line, how many questions of each kind are asked, how many answers differ, and how many lines can't be read.
-use Prim.Native.Nat.{ℕ, _+_}
+use Prim.Native.Nat.{ℕ}
 use mathlib.Core.Path.{_≡_, refl}
 use mathlib.Core.Bool.{true, false, cond}
 use mathlib.Core.List.{List, [], _∷_}
 use mathlib.Core.Option.{Option, some, none}
 use lib.Dec.{eqb, ltb}
-use lib.ListN.{getD, set, replicate}
+use lib.ListN.{replicate}
 use Rattle.laws.specs.Text.{ascii, char}
+use Rattle.numbers.specs.Number.{numberOf, meaning, spelt, after, digitOn, digitOf, answerOf}
 use Rattle.lines.specs.Lines.{Line, linesOf, lead, onFirst}
-use Rattle.limit_state.specs.declared.state.LimitState.{LimitState}
-use Rattle.vectors.specs.declared.ask.Judged.{Judged}
-use Rattle.vectors.specs.declared.compare.Verdict.{Verdict}
-use Rattle.vectors.specs.declared.compare.Verdict.the-variants.{Unread, Same, Differs}
-use Rattle.vectors.specs.declared.set.SetLine.{SetLine}
-use Rattle.fields.specs.Text.{partAt}
 use Rattle.lines.specs.Columns.{partOf, columnsOf, columnsFrom}
 use Rattle.lines.specs.Names.{nameOf, sameName, sameBytes}
-use Rattle.numbers.specs.Number.{numberOf, meaning, spelt, after, digitOn, digitOf, answerOf}
+use Rattle.fields.specs.Text.{partAt}
+use Rattle.limit_state.specs.declared.state.LimitState.{LimitState}
+use Rattle.scripts.specs.Words.{wordOf, textOf, upto, placeOf, settingOf, questionOf}
+use Rattle.scripts.specs.Escapes.{unescaped, within, before, beforeByte, plain}
+use Rattle.answers.specs.declared.compare.Verdict.the-variants.{Unread}
+use Rattle.answers.specs.Answers.{saying, composed, integerAnswer, wordsAnswer}
+use Rattle.answers.specs.Spoken.{spoken, signText, spelled, decimal, places, cellsText}
+use Rattle.answers.specs.Compared.{verdictOf}
+use Rattle.inside.specs.Inside.{numberAnswer}
+use Rattle.questions.specs.declared.ask.Judged.{Judged}
+use Rattle.questions.specs.Questions.{judged, judgedBytes, judgedText, questionBytesIn, questionVerdict, replyTo}
+use Rattle.settings.specs.declared.set.SetLine.{SetLine}
+use Rattle.settings.specs.Memory.{Memory, Kept, memory, areaIn, tablesIn, cleared, firstCleared, allCleared}
+use Rattle.settings.specs.Settings.{setArea, setState, textBytes}
 use Rattle.vectors.specs.declared.standing.Tally.{Tally}
 use Rattle.vectors.specs.declared.standing.Standing as held
-use Rattle.vectors.specs.Escapes.{unescaped, within, before, beforeByte, plain}
-use Rattle.vectors.specs.Answers.{saying, composed}
-use Rattle.vectors.specs.Replies.{numberAnswer, integerAnswer, wordsAnswer}
-use Rattle.vectors.specs.Spoken.{spoken, signText, spelled, decimal, places, cellsText}
-use Rattle.vectors.specs.Words.{wordOf, textOf, upto, placeOf, settingOf, questionOf}
-use Rattle.vectors.specs.Memory.{Kept, memory, areaIn, tablesIn, cleared, allCleared}
-use Rattle.vectors.specs.Settings.{setArea, setState, textBytes}
-use Rattle.vectors.specs.Questions.{judged, judgedBytes, judgedText, questionBytesIn, questionVerdict, replyTo, verdictOf}
+use Rattle.vectors.specs.Totals.{plus, counted, unreadFile}
 
 -- the tables and the packet, the limit state, the question that waits for its answer, and the tally so far
 pub record Standing : Type 0 where
@@ -39,21 +40,11 @@ pub record Standing : Type 0 where
 abbrev pub standing : (space ends : List ℕ) → LimitState → Option (List ℕ) → Tally → Standing
 standing space ends state waits tally = record { space = space; ends = ends; state = state; waits = waits; tally = tally }
 
--- one more; a count stops at the greatest number of 64 bits
-unfoldable pub more : ℕ → ℕ
-more n = cond (eqb n 18446744073709551615) n (n + 1)
-
--- a question that is asked is counted among those of its kind; one that can't be read is a line that can't
-unfoldable pub counted : Tally → ℕ → Verdict → Tally
-counted t k Same = record { asked = set (t .asked) k (more (getD (t .asked) k 0)); differ = t .differ; unread = t .unread }
-counted t k Differs = record { asked = set (t .asked) k (more (getD (t .asked) k 0)); differ = more (t .differ); unread = t .unread }
-counted t k Unread = record { asked = t .asked; differ = t .differ; unread = more (t .unread) }
-
 -- the line under a question
 unfoldable pub answered : Standing → (question line : List ℕ) → Standing
 answered s question line =
-    let j : Judged =
-    judged (questionOf (wordOf question)) (tablesIn (memory (s .space) (s .ends))) (areaIn (memory (s .space) (s .ends)) 10) (textOf question) (s .state) line in
+    let m : Memory = memory (s .space) (s .ends) in
+    let j : Judged = judged (questionOf (wordOf question)) (tablesIn m) (areaIn m 10) (textOf question) (s .state) line in
     record {
       space = s .space;
       ends = s .ends;
@@ -118,6 +109,11 @@ firstStanding space ends =
 unfoldable pub tallyOf : (space text : List ℕ) → Tally
 tallyOf space text = closing (afterLines (firstStanding space (allCleared (replicate 11 0))) (linesOf text))
 
+-- the tally of a file: of some text that was read, or of none
+pub data OfFile (tally : Tally) : Type 0 where
+  read : (space text : List ℕ) → tally ≡ tallyOf space text → OfFile tally
+  notRead : tally ≡ unreadFile → OfFile tally
+
 -- a standing as it is held: the question that waits is a part of the text
 unfoldable pub standingIn : (text space ends : List ℕ) → held.Standing → Standing
 standingIn text space ends s =
@@ -140,8 +136,8 @@ pub record Examples : Type 0 where
 
 pub examples : Examples
 unfolding
-    tallyOf closing closedBy afterLines next nextBy taken answered counted more setBy unreadLine firstStanding allCleared cleared linesOf lead onFirst
-    wordOf textOf upto placeOf settingOf questionOf columnsOf columnsFrom nameOf sameName sameBytes
+    tallyOf closing closedBy afterLines next nextBy taken answered counted plus setBy unreadLine firstStanding
+    allCleared firstCleared cleared linesOf lead onFirst wordOf textOf upto placeOf settingOf questionOf columnsOf columnsFrom nameOf sameName sameBytes
     judged judgedBytes judgedText questionBytesIn within unescaped before beforeByte plain questionVerdict replyTo verdictOf
     numberAnswer integerAnswer wordsAnswer saying composed numberOf meaning spelt after digitOn digitOf answerOf
     spoken signText spelled decimal places partAt cellsText tablesIn areaIn

@@ -1,18 +1,26 @@
--- The tallies of several files together.
+-- How many questions of each kind were asked, how many answers differ, and how many lines can't be read.
 use Prim.Native.Nat.{ℕ, _+_, _-_}
 use mathlib.Core.Path.{_≡_, refl}
 use mathlib.Core.Bool.{cond}
 use mathlib.Core.List.{List, [], _∷_}
 use lib.Dec.{leb}
-use lib.ListN.{getD}
+use lib.ListN.{getD, set}
 use Rattle.laws.specs.Values.{tabulate}
+use Rattle.answers.specs.declared.compare.Verdict.{Verdict}
+use Rattle.answers.specs.declared.compare.Verdict.the-variants.{Unread, Same, Differs}
 use Rattle.vectors.specs.declared.standing.Tally.{Tally}
-use Rattle.vectors.specs.Script.{tallyOf}
 
 -- a count stops at the greatest number of 64 bits
 unfoldable pub plus : ℕ → ℕ → ℕ
 plus a b = cond (leb a (18446744073709551615 - b)) (a + b) 18446744073709551615
 
+-- a question that is asked is counted among those of its kind; one that can't be read is a line that can't
+unfoldable pub counted : Tally → ℕ → Verdict → Tally
+counted t k Same = record { asked = set (t .asked) k (plus (getD (t .asked) k 0) 1); differ = t .differ; unread = t .unread }
+counted t k Differs = record { asked = set (t .asked) k (plus (getD (t .asked) k 0) 1); differ = plus (t .differ) 1; unread = t .unread }
+counted t k Unread = record { asked = t .asked; differ = t .differ; unread = plus (t .unread) 1 }
+
+-- the tallies of two files
 unfoldable pub together : Tally → Tally → Tally
 together a b =
     record {
@@ -25,16 +33,13 @@ together a b =
 unfoldable pub unreadFile : Tally
 unreadFile = record { asked = 0 ∷ 0 ∷ 0 ∷ 0 ∷ 0 ∷ 0 ∷ 0 ∷ 0 ∷ 0 ∷ 0 ∷ 0 ∷ 0 ∷ []; differ = 0; unread = 1 }
 
--- the tally of a file: of some text that was read, or of none
-pub data OfFile (tally : Tally) : Type 0 where
-  read : (space text : List ℕ) → tally ≡ tallyOf space text → OfFile tally
-  notRead : tally ≡ unreadFile → OfFile tally
-
 pub record Examples : Type 0 where
   pub few : plus 3 4 ≡ 7
   pub many : plus 18446744073709551615 4 ≡ 18446744073709551615
   pub both : together unreadFile unreadFile .unread ≡ 2
+  pub differs : counted unreadFile 1 Differs
+      ≡ record { asked = 0 ∷ 1 ∷ 0 ∷ 0 ∷ 0 ∷ 0 ∷ 0 ∷ 0 ∷ 0 ∷ 0 ∷ 0 ∷ 0 ∷ []; differ = 1; unread = 1 }
 
 pub examples : Examples
-unfolding plus together unreadFile tabulate
-examples = record { few = refl; many = refl; both = refl }
+unfolding plus counted together unreadFile tabulate
+examples = record { few = refl; many = refl; both = refl; differs = refl }

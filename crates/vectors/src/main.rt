@@ -1,25 +1,8 @@
 // Asks the questions of vector files, and says which answers differ from those that stand under them. docs/VECTORS.md has the format.
-mod answer;
-mod areas;
-mod ask;
-mod bytes_of;
-mod cells;
-mod compare;
-mod decimal;
-mod difference;
-mod fit;
-mod imports;
-mod inner;
-mod operands;
-mod packet_questions;
 mod run;
-mod set;
-mod spelling;
 mod standing;
 mod totals;
-mod verb;
 
-use areas::SPACE;
 use files::arguments::LONGEST;
 use files::errors::say_error;
 use files::source::Got;
@@ -27,14 +10,15 @@ use files::source::read_file;
 use libc::ENOENT;
 use lines::columns::part;
 use run::run;
+use settings::areas::SPACE;
 use standing::Tally;
 use totals::add_up;
 use totals::say_totals;
 use words::say::words;
 ghost use mathlib.Core.Path.{_≡_};
 ghost use lib.ListN.{replicate};
-ghost use Rattle.vectors.specs.Script.{tallyOf};
-ghost use Rattle.vectors.specs.Totals.{unreadFile, OfFile};
+ghost use Rattle.vectors.specs.Totals.{unreadFile};
+ghost use Rattle.vectors.specs.Script.{tallyOf, OfFile};
 
 // A vector file has at most so many bytes.
 const MOST_TEXT: usize = 1048576;

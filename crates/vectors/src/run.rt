@@ -1,25 +1,25 @@
 // A vector file line by line.
-use crate::areas::AREAS;
-use crate::areas::PACKET;
-use crate::areas::SPACE;
-use crate::areas::area_in;
-use crate::areas::clear_all;
-use crate::areas::tables_in;
-use crate::ask::judge;
-use crate::compare::Verdict;
-use crate::difference::say_unread;
-use crate::set::set_area;
-use crate::set::set_state;
 use crate::standing::Standing;
 use crate::standing::Tally;
 use crate::standing::count;
-use crate::verb::question_of;
-use crate::verb::setting_of;
-use crate::verb::text_of;
-use crate::verb::word_of;
+use answers::compare::Verdict;
+use answers::difference::say_unread;
 use limit_state::state::LimitState;
 use lines::columns::part;
 use lines::walk::next_line;
+use questions::ask::judge;
+use scripts::verb::question_of;
+use scripts::verb::setting_of;
+use scripts::verb::text_of;
+use scripts::verb::word_of;
+use settings::areas::AREAS;
+use settings::areas::PACKET;
+use settings::areas::SPACE;
+use settings::areas::area_in;
+use settings::areas::clear_all;
+use settings::areas::tables_in;
+use settings::set::set_area;
+use settings::set::set_state;
 use std::num::wrapping_sub_usize;
 ghost use mathlib.Core.Path.{_≡_};
 ghost use mathlib.Core.Bool.{true, cond};
@@ -27,7 +27,7 @@ ghost use mathlib.Core.Option.{some, none};
 ghost use mathlib.Core.List.{List};
 ghost use Prim.Native.Nat.{ℕ};
 ghost use Rattle.lines.specs.Columns.{partOf};
-ghost use Rattle.vectors.specs.Words.{textOf};
+ghost use Rattle.scripts.specs.Words.{textOf};
 ghost use Rattle.lines.specs.Lines.{linesOf};
 ghost use Rattle.vectors.specs.Script.{standing, answered, setBy, taken, firstStanding, afterLines, closing, tallyOf, stood, standingIn, next};
 
@@ -64,7 +64,8 @@ fn take_answer(
     state: LimitState,
     tally: Tally,
 ) -> Standing
-    ensures { λ r. ⌜ standing (now (space .entry)) (now (ends .entry)) (r .state) none (r .tally) ≡ answered (standing (now (space .entry)) (now (ends .entry)) state none tally) (now (question .entry)) (now (line .entry)) ⌝ }
+    ensures { λ r. ⌜ standing (now (space .entry)) (now (ends .entry)) (r .state) none (r .tally)
+        ≡ answered (standing (now (space .entry)) (now (ends .entry)) state none tally) (now (question .entry)) (now (line .entry)) ⌝ }
     ensures { λ r. ⌜ r ≡ stood (r .state) (r .tally) ⌝ }
 {
     let k = question_of(word_of(question));
@@ -95,7 +96,8 @@ fn take_setting(
     state: LimitState,
     tally: Tally,
 ) -> Standing
-    ensures { λ r. ⌜ standing (now (space .exit)) (now (ends .exit)) (r .state) none (r .tally) ≡ setBy (standing (now (space .entry)) (now (ends .entry)) state none tally) k (textOf (now (line .entry))) ⌝ }
+    ensures { λ r. ⌜ standing (now (space .exit)) (now (ends .exit)) (r .state) none (r .tally)
+        ≡ setBy (standing (now (space .entry)) (now (ends .entry)) state none tally) k (textOf (now (line .entry))) ⌝ }
     ensures { λ r. ⌜ r ≡ stood (r .state) (r .tally) ⌝ }
 {
     if k == 14 {
@@ -125,7 +127,8 @@ fn take_line(
     state: LimitState,
     tally: Tally,
 ) -> Standing
-    ensures { λ r. ⌜ standing (now (space .exit)) (now (ends .exit)) (r .state) (cond (r .waits) (some (now (line .entry))) none) (r .tally) ≡ taken (standing (now (space .entry)) (now (ends .entry)) state none tally) (now (line .entry)) ⌝ }
+    ensures { λ r. ⌜ standing (now (space .exit)) (now (ends .exit)) (r .state) (cond (r .waits) (some (now (line .entry))) none) (r .tally)
+        ≡ taken (standing (now (space .entry)) (now (ends .entry)) state none tally) (now (line .entry)) ⌝ }
     ensures { λ r. ⌜ (r .waits ≡ true → (r .from ≡ from) × (r .to ≡ to)) ⌝ }
 {
     if line.len() == 0 {
@@ -163,7 +166,8 @@ fn take_next(
     ends: &mut [usize],
     s: Standing,
 ) -> Standing
-    ensures { λ r. ⌜ standingIn (now (text .entry)) (now (space .exit)) (now (ends .exit)) r ≡ next (standingIn (now (text .entry)) (now (space .entry)) (now (ends .entry)) s) (partOf (now (text .entry)) from to) ⌝ }
+    ensures { λ r. ⌜ standingIn (now (text .entry)) (now (space .exit)) (now (ends .exit)) r
+        ≡ next (standingIn (now (text .entry)) (now (space .entry)) (now (ends .entry)) s) (partOf (now (text .entry)) from to) ⌝ }
 {
     let line = part(text, from, to);
     let state = s.state;

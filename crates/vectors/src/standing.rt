@@ -1,11 +1,11 @@
 // What is kept from line to line of a vector file.
-use crate::areas::number_at;
-use crate::compare::Verdict;
+use answers::compare::Verdict;
 use limit_state::state::LimitState;
 use lines::columns::keep_at;
+use settings::areas::number_at;
 ghost use mathlib.Core.Path.{_≡_};
-ghost use Rattle.vectors.specs.Script.{counted};
-ghost use Rattle.vectors.specs.Script.{more as moreThan};
+ghost use Rattle.vectors.specs.Totals.{counted};
+ghost use Rattle.vectors.specs.Totals.{plus as plusOf};
 
 // How many questions of each kind were asked, how many answers differ, and how many lines can't be read.
 pub(crate) struct Tally {
@@ -23,14 +23,16 @@ pub(crate) struct Standing {
     pub tally: Tally,
 }
 
-// One more, where there is one.
-fn more(n: usize) -> usize
-    ensures { λ r. ⌜ r ≡ moreThan n ⌝ }
+// The greatest number of 64 bits, at which a count stops.
+const MOST: usize = 18446744073709551615;
+
+pub(crate) fn plus(a: usize, b: usize) -> usize
+    ensures { λ r. ⌜ r ≡ plusOf a b ⌝ }
 {
-    if n == 18446744073709551615 {
-        return n;
+    if a <= MOST - b {
+        return a + b;
     }
-    n + 1
+    MOST
 }
 
 // One more question of a kind, or one more line that can't be read.
@@ -42,11 +44,11 @@ pub(crate) fn count(tally: Tally, k: usize, verdict: Verdict) -> Tally
         Verdict::Unread => Tally {
             asked,
             differ: tally.differ,
-            unread: more(tally.unread),
+            unread: plus(tally.unread, 1),
         },
         Verdict::Same => {
             let n = number_at(&asked, k);
-            keep_at(&mut asked, k, more(n));
+            keep_at(&mut asked, k, plus(n, 1));
             Tally {
                 asked,
                 differ: tally.differ,
@@ -55,10 +57,10 @@ pub(crate) fn count(tally: Tally, k: usize, verdict: Verdict) -> Tally
         }
         Verdict::Differs => {
             let n = number_at(&asked, k);
-            keep_at(&mut asked, k, more(n));
+            keep_at(&mut asked, k, plus(n, 1));
             Tally {
                 asked,
-                differ: more(tally.differ),
+                differ: plus(tally.differ, 1),
                 unread: tally.unread,
             }
         }

@@ -1,23 +1,13 @@
 // The tallies of several files together.
-use crate::areas::number_at;
 use crate::standing::Tally;
+use crate::standing::plus;
+use settings::areas::number_at;
 use words::say;
 use words::say::words;
 ghost use mathlib.Core.Path.{_≡_};
 ghost use lib.ListN.{getD};
 ghost use Rattle.vectors.specs.Totals.{together};
 ghost use Rattle.vectors.specs.Totals.{plus as plusOf};
-
-const MOST: usize = 18446744073709551615;
-
-fn plus(a: usize, b: usize) -> usize
-    ensures { λ r. ⌜ r ≡ plusOf a b ⌝ }
-{
-    if a <= MOST - b {
-        return a + b;
-    }
-    MOST
-}
 
 fn sum(a: [usize; 12], b: [usize; 12], k: usize) -> usize
     ensures { λ r. ⌜ r ≡ plusOf (getD a k 0) (getD b k 0) ⌝ }

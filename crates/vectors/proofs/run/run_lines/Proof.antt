@@ -11,7 +11,8 @@ use Rattle.vectors.proofs.run.run_lines.Statement.{statement}
 use Rattle.vectors.proofs.run.run_lines.Tie as tie
 
 abbrev Inv-loop : tie.InvT-loop
-Inv-loop name text space₀ ends₀ s₀ from₀ number₀ space ends s from number = (from ≤ length text) × (number ≤ from) × (length space ≡ length space₀) × (length ends ≡ length ends₀)
+Inv-loop name text space₀ ends₀ s₀ from₀ number₀ space ends s from number = (from ≤ length text) × (number ≤ from) × (length space ≡ length space₀)
+    × (length ends ≡ length ends₀)
     × (afterLines (standingIn text space ends s) (linesOf (drop from text)) ≡ afterLines (firstStanding space₀ ends₀) (linesOf text))
 
 abbrev μ-loop : tie.MeasureT-loop
@@ -21,7 +22,8 @@ stands-requires : tie.Need-stands-requires Inv-loop μ-loop
 stands-requires c κs = tt
 
 loop-holds : tie.Need-loop-holds Inv-loop μ-loop
-loop-holds c = (omega arith, omega arith, refl, refl, ap (λ (s : Standing). afterLines s (linesOf (c .before .before .before .before .before .args .text .now))) (first-standing _ _ _ _ (c .stands .ensures)))
+loop-holds c = let text = c .before .before .before .before .before .args .text .now in
+    (omega arith, omega arith, refl, refl, ap (λ (s : Standing). afterLines s (linesOf text)) (first-standing _ _ _ _ (c .stands .ensures)))
 
 next-line-requires : tie.Need-next-line-requires Inv-loop μ-loop
 next-line-requires c κs = tt
@@ -33,20 +35,26 @@ take-next-requires : tie.Need-take-next-requires Inv-loop μ-loop
 take-next-requires c κs = tt
 
 loop-less : tie.Need-loop-less Inv-loop μ-loop
-loop-less c = let l = c .before .before .before .before .before .before .before .before .before in
-    omega (arith, next-bounds (c .before .before .before .before .before .before .before .before .before .before .before .before .before .before .before .args .text .now) (l .loop .from) (c .before .before .before .before .before .before .before .next-line .result) (c .before .before .before .before .before .before .before .next-line .ensures) (c .before .before .before .before .before .before .before .before .loop-test .taken) .further, next-bounds (c .before .before .before .before .before .before .before .before .before .before .before .before .before .before .before .args .text .now) (l .loop .from) (c .before .before .before .before .before .before .before .next-line .result) (c .before .before .before .before .before .before .before .next-line .ensures) (c .before .before .before .before .before .before .before .before .loop-test .taken) .within)
+loop-less c = let t = c .before .before .before .before .before .before .before .before in
+    let l = t .before .loop in
+    let n = c .before .before .before .before .before .before .before .next-line in
+    let text = t .before .before .before .before .before .before .before .args .text .now in
+    let b = next-bounds text (l .from) (n .result) (n .ensures) (t .loop-test .taken) in
+    omega (arith, b .further, b .within)
 
 loop-again : tie.Need-loop-again Inv-loop μ-loop
-loop-again c = let l = c .before .before .before .before .before .before .before .before .before .loop in
-    let text = c .before .before .before .before .before .before .before .before .before .before .before .before .before .before .before .args .text .now in
+loop-again c = let t = c .before .before .before .before .before .before .before .before in
+    let l = t .before .loop in
+    let text = t .before .before .before .before .before .before .before .args .text .now in
     let n = c .before .before .before .before .before .before .before .next-line in
-    let b = next-bounds text (l .from) (n .result) (n .ensures) (c .before .before .before .before .before .before .before .before .loop-test .taken) in
+    let b = next-bounds text (l .from) (n .result) (n .ensures) (t .loop-test .taken) in
     let k = c .before .before .before .before .take-next .kept in (
       b .within,
       omega (arith, b .further),
       k .1 .1 .1 .1 .1 .0 ∙ l .inv .2,
       k .1 .1 .1 .1 .1 .1 .0 ∙ l .inv .3,
-      ap (λ (s : Standing). afterLines s (linesOf (drop (n .result .next) text))) (c .before .before .before .before .take-next .ensures) ∙ sym (lines-more _ text (l .from) (n .result) (n .ensures) (c .before .before .before .before .before .before .before .before .loop-test .taken)) ∙ l .inv .4,
+      ap (λ (s : Standing). afterLines s (linesOf (drop (n .result .next) text))) (c .before .before .before .before .take-next .ensures)
+          ∙ sym (lines-more _ text (l .from) (n .result) (n .ensures) (t .loop-test .taken)) ∙ l .inv .4,
     )
 
 close-requires : tie.Need-close-requires Inv-loop μ-loop

@@ -2,7 +2,7 @@
 use mathlib.Core.Path.{ap, _∙_}
 use Rattle.vectors.proofs.ScriptLaws.{stood-self, answered-is}
 use Rattle.vectors.specs.Script.{stood}
-use Rattle.vectors.specs.Words.{questionOf}
+use Rattle.scripts.specs.Words.{questionOf}
 use borrow.Author.Needs.{needs}
 use Rattle.vectors.proofs.run.take_answer.Statement.{statement}
 use Rattle.vectors.proofs.run.take_answer.Tie as tie
@@ -35,11 +35,16 @@ stands-requires : tie.Need-stands-requires
 stands-requires c κs = search needs
 
 returns : tie.Need-returns
-returns c = let j = c .before .before .before .judge in (
-  answered-is _ _ _ _ _ _ _ _ (j .result) (c .before .before .before .before .before .before .before .question-of .ensures ∙ ap questionOf (c .before .before .before .before .before .before .before .before .word-of .ensures))
-      (rw (c .before .before .before .before .before .tables-in .ensures, c .before .before .before .before .before .before .area-in .ensures, c .before .before .before .before .text-of .ensures) at (j .ensures)) (c .stands .ensures ∙ ap (stood _) (c .before .count .ensures)),
-  stood-self _ _ _ (c .stands .ensures),
-)
+returns c = let text-of-is = c .before .before .before .before .text-of .ensures in
+    let tables-in-is = c .before .before .before .before .before .tables-in .ensures in
+    let area-in-is = c .before .before .before .before .before .before .area-in .ensures in
+    let question-of-is = c .before .before .before .before .before .before .before .question-of .ensures in
+    let word-of-is = c .before .before .before .before .before .before .before .before .word-of .ensures in
+    let j = c .before .before .before .judge in (
+      answered-is _ _ _ _ _ _ _ _ (j .result) (question-of-is ∙ ap questionOf word-of-is)
+          (rw (tables-in-is, area-in-is, text-of-is) at (j .ensures)) (c .stands .ensures ∙ ap (stood _) (c .before .count .ensures)),
+      stood-self _ _ _ (c .stands .ensures),
+    )
 
 pub take-answer-spec : {M : Type 1} → statement M
 take-answer-spec =

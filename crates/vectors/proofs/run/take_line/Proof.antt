@@ -3,7 +3,7 @@ use mathlib.Core.Path.{refl, ap, _∙_}
 use native.Mathlib.Omega.{arith}
 use Rattle.vectors.proofs.ScriptLaws.{no-wait, line-stood, taken-empty, taken-comment, taken-question, taken-setting, taken-unread}
 use Rattle.vectors.specs.Script.{stood, unreadLine}
-use Rattle.vectors.specs.Words.{questionOf, settingOf}
+use Rattle.scripts.specs.Words.{questionOf, settingOf}
 use borrow.Author.Needs.{needs}
 use Rattle.vectors.proofs.run.take_line.Statement.{statement}
 use Rattle.vectors.proofs.run.take_line.Tie as tie
@@ -12,7 +12,10 @@ stands-requires : tie.Need-stands-requires
 stands-requires c κs = search needs
 
 returns : tie.Need-returns
-returns c = (line-stood _ _ _ (c .stands .ensures) _ _ _ ∙ taken-empty _ _ (c .before .if1 .taken), λ w. absurd (no-wait _ _ _ (c .stands .ensures) w))
+returns c = (
+  line-stood _ _ _ (c .stands .ensures) _ _ _ ∙ taken-empty _ _ (c .before .if1 .taken),
+  λ w. absurd (no-wait _ _ _ (c .stands .ensures) w),
+)
 
 shared-slice-read-if2 : tie.Need-shared-slice-read-if2
 shared-slice-read-if2 c = search needs
@@ -21,7 +24,10 @@ stands-requires-2 : tie.Need-stands-requires-2
 stands-requires-2 c κs = search needs
 
 returns-2 : tie.Need-returns-2
-returns-2 c = (line-stood _ _ _ (c .stands2 .ensures) _ _ _ ∙ taken-comment _ _ (omega arith) (c .before .if2 .taken), λ w. absurd (no-wait _ _ _ (c .stands2 .ensures) w))
+returns-2 c = (
+  line-stood _ _ _ (c .stands2 .ensures) _ _ _ ∙ taken-comment _ _ (omega arith) (c .before .if2 .taken),
+  λ w. absurd (no-wait _ _ _ (c .stands2 .ensures) w),
+)
 
 word-of-requires : tie.Need-word-of-requires
 word-of-requires c κs = search needs
@@ -30,7 +36,9 @@ question-of-requires : tie.Need-question-of-requires
 question-of-requires c κs = search needs
 
 returns-3 : tie.Need-returns-3
-returns-3 c = (taken-question _ _ (omega arith) (c .before .before .before .if2 .left) (omega (arith, c .before .question-of .ensures ∙ ap questionOf (c .before .before .word-of .ensures))), λ w. (refl, refl))
+returns-3 c = let word-of-is = c .before .before .word-of .ensures in
+    let if2 = c .before .before .before .if2 .left in
+    (taken-question _ _ (omega arith) if2 (omega (arith, c .before .question-of .ensures ∙ ap questionOf word-of-is)), λ w. (refl, refl))
 
 setting-of-requires : tie.Need-setting-of-requires
 setting-of-requires c κs = search needs
@@ -45,10 +53,17 @@ same-length-2 : tie.Need-same-length-2
 same-length-2 c = search needs
 
 returns-4 : tie.Need-returns-4
-returns-4 c = let t = c .before .before .before .before .take-setting .ensures in
-    let k = c .before .before .before .before .before .before .before .before .setting-of .ensures ∙ ap settingOf (c .before .before .before .before .before .before .before .before .before .before .before .word-of .ensures) in
-    let q = c .before .before .before .before .before .before .before .before .before .before .question-of .ensures ∙ ap questionOf (c .before .before .before .before .before .before .before .before .before .before .before .word-of .ensures) in
-    (line-stood _ _ _ (t .1) _ _ _ ∙ t .0 ∙ rw k (taken-setting _ _ (omega arith) (c .before .before .before .before .before .before .before .before .before .before .before .before .if2 .left) (omega (arith, q)) (omega (arith, k))), λ w. absurd (no-wait _ _ _ (t .1) w))
+returns-4 c = let setting-of-is = c .before .before .before .before .before .before .before .before .setting-of .ensures in
+    let question-of-is = c .before .before .before .before .before .before .before .before .before .before .question-of .ensures in
+    let word-of-is = c .before .before .before .before .before .before .before .before .before .before .before .word-of .ensures in
+    let far = c .before .before .before .before .before .before .before .before .before .before .before .before in
+    let if2 = far .if2 .left in
+    let t = c .before .before .before .before .take-setting .ensures in
+    let k = setting-of-is ∙ ap settingOf word-of-is in
+    let q = question-of-is ∙ ap questionOf word-of-is in (
+      line-stood _ _ _ (t .1) _ _ _ ∙ t .0 ∙ rw k (taken-setting _ _ (omega arith) if2 (omega (arith, q)) (omega (arith, k))),
+      λ w. absurd (no-wait _ _ _ (t .1) w),
+    )
 
 say-unread-requires : tie.Need-say-unread-requires
 say-unread-requires c κs = search needs
@@ -61,10 +76,14 @@ stands-requires-3 c κs = search needs
 
 returns-5 : tie.Need-returns-5
 unfolding unreadLine
-returns-5 c = let e = c .stands3 .ensures ∙ ap (stood _) (c .before .count .ensures) in
-    let k = c .before .before .before .before .setting-of .ensures ∙ ap settingOf (c .before .before .before .before .before .before .before .word-of .ensures) in
-    let q = c .before .before .before .before .before .before .question-of .ensures ∙ ap questionOf (c .before .before .before .before .before .before .before .word-of .ensures) in
-    (line-stood _ _ _ e _ _ _ ∙ taken-unread _ _ (omega arith) (c .before .before .before .before .before .before .before .before .if2 .left) (omega (arith, q)) (omega (arith, k)), λ w. absurd (no-wait _ _ _ e w))
+returns-5 c = let setting-of-is = c .before .before .before .before .setting-of .ensures in
+    let question-of-is = c .before .before .before .before .before .before .question-of .ensures in
+    let word-of-is = c .before .before .before .before .before .before .before .word-of .ensures in
+    let if2 = c .before .before .before .before .before .before .before .before .if2 .left in
+    let e = c .stands3 .ensures ∙ ap (stood _) (c .before .count .ensures) in
+    let k = setting-of-is ∙ ap settingOf word-of-is in
+    let q = question-of-is ∙ ap questionOf word-of-is in
+    (line-stood _ _ _ e _ _ _ ∙ taken-unread _ _ (omega arith) if2 (omega (arith, q)) (omega (arith, k)), λ w. absurd (no-wait _ _ _ e w))
 
 pub take-line-spec : {M : Type 1} → statement M
 take-line-spec =

@@ -20,8 +20,11 @@ same-length-2 : tie.Need-same-length-2
 same-length-2 c = search needs
 
 returns : tie.Need-returns
-returns c = let t = c .take-answer .ensures in
-    next-answered _ _ _ _ _ _ (c .before .before .before .before .if1 .taken) (t .1) (rw (c .before .before .before .part2 .ensures, c .before .before .before .before .before .before .before .part .ensures) at (t .0))
+returns c = let part2-is = c .before .before .before .part2 .ensures in
+    let if1 = c .before .before .before .before .if1 .taken in
+    let part-is = c .before .before .before .before .before .before .before .part .ensures in
+    let t = c .take-answer .ensures in
+    next-answered _ _ _ _ _ _ if1 (t .1) (rw (part2-is, part-is) at (t .0))
 
 take-line-requires : tie.Need-take-line-requires
 take-line-requires c κs = search needs
@@ -33,8 +36,10 @@ same-length-4 : tie.Need-same-length-4
 same-length-4 c = search needs
 
 returns-2 : tie.Need-returns-2
-returns-2 c = let t = c .before .before .before .before .take-line .ensures in
-    next-line _ _ _ _ _ _ _ _ _ (c .before .before .before .before .before .before .before .if1 .left) (t .1) (rw (c .before .before .before .before .before .before .before .before .before .before .part .ensures) at (t .0))
+returns-2 c = let if1 = c .before .before .before .before .before .before .before .if1 .left in
+    let part-is = c .before .before .before .before .before .before .before .before .before .before .part .ensures in
+    let t = c .before .before .before .before .take-line .ensures in
+    next-line _ _ _ _ _ _ _ _ _ if1 (t .1) (rw part-is at (t .0))
 
 pub take-next-spec : {M : Type 1} → statement M
 take-next-spec =

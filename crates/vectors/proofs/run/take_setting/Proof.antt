@@ -16,7 +16,12 @@ stands-requires : tie.Need-stands-requires
 stands-requires c κs = search needs
 
 returns : tie.Need-returns
-returns c = (state-read _ _ _ _ _ _ _ _ (c .before .before .before .before .if1 .taken) (rw (c .before .before .before .text-of .ensures) at (c .before .before .set-state .ensures)) (c .before .if2 .taken) (c .stands .ensures), stood-self _ _ _ (c .stands .ensures))
+returns c = let set-state-is = c .before .before .set-state .ensures in
+    let text-of-is = c .before .before .before .text-of .ensures in
+    let if1 = c .before .before .before .before .if1 .taken in (
+      state-read _ _ _ _ _ _ _ _ if1 (rw text-of-is at set-state-is) (c .before .if2 .taken) (c .stands .ensures),
+      stood-self _ _ _ (c .stands .ensures),
+    )
 
 say-unread-requires : tie.Need-say-unread-requires
 say-unread-requires c κs = search needs
@@ -28,8 +33,12 @@ stands-requires-2 : tie.Need-stands-requires-2
 stands-requires-2 c κs = search needs
 
 returns-2 : tie.Need-returns-2
-returns-2 c = let e = c .stands2 .ensures ∙ ap (stood _) (c .before .count .ensures) in
-    (state-unread _ _ _ _ _ _ _ _ (c .before .before .before .before .before .before .if1 .taken) (rw (c .before .before .before .before .before .text-of .ensures) at (c .before .before .before .before .set-state .ensures)) (c .before .before .before .if2 .left) e, stood-self _ _ _ e)
+returns-2 c = let if2 = c .before .before .before .if2 .left in
+    let set-state-is = c .before .before .before .before .set-state .ensures in
+    let text-of-is = c .before .before .before .before .before .text-of .ensures in
+    let if1 = c .before .before .before .before .before .before .if1 .taken in
+    let e = c .stands2 .ensures ∙ ap (stood _) (c .before .count .ensures) in
+    (state-unread _ _ _ _ _ _ _ _ if1 (rw text-of-is at set-state-is) if2 e, stood-self _ _ _ e)
 
 text-of-requires-2 : tie.Need-text-of-requires-2
 text-of-requires-2 c κs = search needs
@@ -47,7 +56,12 @@ same-length-2 : tie.Need-same-length-2
 same-length-2 c = search needs
 
 returns-3 : tie.Need-returns-3
-returns-3 c = (area-read _ _ _ _ _ _ _ _ (c .before .before .before .before .before .before .before .before .before .before .if1 .left) (rw (c .before .before .before .before .before .before .before .before .before .text-of2 .ensures) at (c .before .before .before .before .before .before .set-area .ensures)) (c .before .if3 .taken) (c .stands3 .ensures), stood-self _ _ _ (c .stands3 .ensures))
+returns-3 c = let set-area-is = c .before .before .before .before .before .before .set-area .ensures in
+    let text-of2-is = c .before .before .before .before .before .before .before .before .before .text-of2 .ensures in
+    let if1 = c .before .before .before .before .before .before .before .before .before .before .if1 .left in (
+      area-read _ _ _ _ _ _ _ _ if1 (rw text-of2-is at set-area-is) (c .before .if3 .taken) (c .stands3 .ensures),
+      stood-self _ _ _ (c .stands3 .ensures),
+    )
 
 say-unread-requires-2 : tie.Need-say-unread-requires-2
 say-unread-requires-2 c κs = search needs
@@ -65,8 +79,13 @@ same-length-4 : tie.Need-same-length-4
 same-length-4 c = search needs
 
 returns-4 : tie.Need-returns-4
-returns-4 c = let e = c .stands4 .ensures ∙ ap (stood _) (c .before .count2 .ensures) in
-    (area-unread _ _ _ _ _ _ _ _ (c .before .before .before .before .before .before .before .before .before .before .before .before .if1 .left) (rw (c .before .before .before .before .before .before .before .before .before .before .before .text-of2 .ensures) at (c .before .before .before .before .before .before .before .before .set-area .ensures)) (c .before .before .before .if3 .left) e, stood-self _ _ _ e)
+returns-4 c = let if3 = c .before .before .before .if3 .left in
+    let set-area-is = c .before .before .before .before .before .before .before .before .set-area .ensures in
+    let text-of2-is = c .before .before .before .before .before .before .before .before .before .before .before .text-of2 .ensures in
+    let far = c .before .before .before .before .before .before .before .before .before .before .before .before in
+    let if1 = far .if1 .left in
+    let e = c .stands4 .ensures ∙ ap (stood _) (c .before .count2 .ensures) in
+    (area-unread _ _ _ _ _ _ _ _ if1 (rw text-of2-is at set-area-is) if3 e, stood-self _ _ _ e)
 
 pub take-setting-spec : {M : Type 1} → statement M
 take-setting-spec =

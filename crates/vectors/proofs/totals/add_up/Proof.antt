@@ -49,7 +49,34 @@ plus-requires-2 c κs = search needs
 
 returns : tie.Need-returns
 unfolding together tabulate
-returns c = simp (c .plus2 .ensures, c .before .plus .ensures, c .before .before .sum12 .ensures, c .before .before .before .sum11 .ensures, c .before .before .before .before .sum10 .ensures, c .before .before .before .before .before .sum9 .ensures, c .before .before .before .before .before .before .sum8 .ensures, c .before .before .before .before .before .before .before .sum7 .ensures, c .before .before .before .before .before .before .before .before .sum6 .ensures, c .before .before .before .before .before .before .before .before .before .sum5 .ensures, c .before .before .before .before .before .before .before .before .before .before .sum4 .ensures, c .before .before .before .before .before .before .before .before .before .before .before .sum3 .ensures, c .before .before .before .before .before .before .before .before .before .before .before .before .sum2 .ensures, c .before .before .before .before .before .before .before .before .before .before .before .before .before .sum .ensures)
+returns c = let sum11-is = c .before .before .before .sum11 .ensures in
+    let sum10-is = c .before .before .before .before .sum10 .ensures in
+    let sum9-is = c .before .before .before .before .before .sum9 .ensures in
+    let sum8-is = c .before .before .before .before .before .before .sum8 .ensures in
+    let sum7-is = c .before .before .before .before .before .before .before .sum7 .ensures in
+    let sum6-is = c .before .before .before .before .before .before .before .before .sum6 .ensures in
+    let sum5-is = c .before .before .before .before .before .before .before .before .before .sum5 .ensures in
+    let sum4-is = c .before .before .before .before .before .before .before .before .before .before .sum4 .ensures in
+    let sum3-is = c .before .before .before .before .before .before .before .before .before .before .before .sum3 .ensures in
+    let far = c .before .before .before .before .before .before .before .before .before .before .before .before in
+    let sum2-is = far .sum2 .ensures in
+    let sum-is = far .before .sum .ensures in
+    simp (
+      c .plus2 .ensures,
+      c .before .plus .ensures,
+      c .before .before .sum12 .ensures,
+      sum11-is,
+      sum10-is,
+      sum9-is,
+      sum8-is,
+      sum7-is,
+      sum6-is,
+      sum5-is,
+      sum4-is,
+      sum3-is,
+      sum2-is,
+      sum-is,
+    )
 
 pub add-up-spec : {M : Type 1} → statement M
 add-up-spec =

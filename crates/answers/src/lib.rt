@@ -1,0 +1,8 @@
+// An answer in words and numbers, and whether a line says it.
+pub mod answer;
+mod cells;
+pub mod compare;
+mod decimal;
+pub mod difference;
+mod fit;
+mod spelling;

@@ -1,0 +1,4 @@
+pub mod EscapeLaws
+pub mod WordLaws
+pub mod NumeralLaws
+pub mod OperandLaws

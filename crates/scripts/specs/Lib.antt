@@ -1,0 +1,3 @@
+pub mod Escapes
+pub mod Words
+pub mod Numerals

@@ -1,0 +1,4 @@
+// What a line of a vector file spells: its word, the bytes and the numbers of its text.
+pub mod bytes_of;
+pub mod operands;
+pub mod verb;

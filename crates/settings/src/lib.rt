@@ -1,0 +1,3 @@
+// The memory of a vector file, and the lines that set it and the limit state.
+pub mod areas;
+pub mod set;
