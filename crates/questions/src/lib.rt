@@ -1,3 +1,158 @@
 // A question asked of the tables and the packet, and whether the line under it is the answer.
-pub mod ask;
-mod imports;
+use answers::compare::Verdict;
+use answers::compare::compare;
+use cell_questions::judge_import;
+use cell_questions::judge_row;
+use limit_state::state::LimitState;
+use limits::step::Stepped;
+use limits::step::limit_step;
+use lines::columns::part;
+use packet_questions::answer_to;
+use replies::packet_replies::say_stepped;
+use scripts::bytes_of::Bytes;
+use scripts::bytes_of::ROOM;
+use scripts::bytes_of::unescape;
+use scripts::bytes_of::unescape_row;
+use tables::TABLES;
+use tables::table_at;
+ghost use mathlib.Core.Path.{_≡_};
+ghost use mathlib.Core.List.{map};
+ghost use lib.ListN.{length};
+ghost use Rattle.limits.specs.Answer.{said};
+ghost use Rattle.limits.specs.Step.{stateAfter};
+ghost use Rattle.scripts.specs.Escapes.{readIn};
+ghost use Rattle.questions.specs.Questions.{stepJudged, questionVerdict, judgedText, questionBytesIn, judged};
+
+// Whether the line under a question is its answer, and the limit state after it.
+pub struct Judged {
+    pub verdict: Verdict,
+    pub state: LimitState,
+}
+
+// A refusal leaves the state as it was.
+fn state_after(stepped: Stepped, state: LimitState) -> LimitState
+    ensures { λ r. ⌜ r ≡ stateAfter state (said stepped) ⌝ }
+{
+    match stepped {
+        Stepped::Is(next) => next,
+        Stepped::OffCurve => state,
+        Stepped::OutOfRange => state,
+        Stepped::NoLimits => state,
+        Stepped::NoState => state,
+        Stepped::NotNewer => state,
+        Stepped::OtherApid => state,
+        Stepped::Refused(_) => state,
+    }
+}
+
+fn judge_step(
+    name: &[u8],
+    number: usize,
+    tables: [&[u8]; TABLES],
+    packet: &[u8],
+    text: &[u8],
+    state: LimitState,
+    line: &[u8],
+) -> Judged
+    ensures { λ r. ⌜ r ≡ stepJudged (map now (tables .entry)) (now (packet .entry)) (now (text .entry)) state (now (line .entry)) ⌝ }
+{
+    let stepped = limit_step(tables, packet, text, state);
+    let cells = [0u16; 0];
+    let verdict = compare(
+        name,
+        number,
+        line,
+        say_stepped(stepped),
+        table_at(tables, 7),
+        &cells,
+    );
+    Judged {
+        verdict,
+        state: state_after(stepped, state),
+    }
+}
+
+fn judge_question(
+    name: &[u8],
+    number: usize,
+    k: usize,
+    tables: [&[u8]; TABLES],
+    packet: &[u8],
+    text: &[u8],
+    line: &[u8],
+) -> Verdict
+    ensures { λ r. ⌜ r ≡ questionVerdict k (map now (tables .entry)) (now (packet .entry)) (now (text .entry)) (now (line .entry)) ⌝ }
+{
+    if k == 0 {
+        return judge_import(name, number, tables, text, line);
+    }
+    if k == 1 {
+        return judge_row(name, number, text, line);
+    }
+    let cells = [0u16; 0];
+    let answer = answer_to(k, tables, packet, text);
+    compare(name, number, line, answer, table_at(tables, 7), &cells)
+}
+
+fn judge_text(
+    name: &[u8],
+    number: usize,
+    k: usize,
+    tables: [&[u8]; TABLES],
+    packet: &[u8],
+    text: &[u8],
+    state: LimitState,
+    line: &[u8],
+) -> Judged
+    ensures { λ r. ⌜ r ≡ judgedText k (map now (tables .entry)) (now (packet .entry)) state (now (line .entry)) (now (text .entry)) ⌝ }
+{
+    if k == 5 {
+        return judge_step(name, number, tables, packet, text, state, line);
+    }
+    Judged {
+        verdict: judge_question(name, number, k, tables, packet, text, line),
+        state,
+    }
+}
+
+// The bytes of a question's text. That of `row` ends as a row does.
+fn question_text(k: usize, raw: &[u8], out: &mut [u8]) -> Bytes
+    ensures { λ r. ⌜ readIn r (now (out .exit)) ≡ questionBytesIn (length (now (out .entry))) k (now (raw .entry)) ⌝ }
+{
+    if k == 1 {
+        return unescape_row(raw, out);
+    }
+    unescape(raw, out)
+}
+
+pub fn judge(
+    name: &[u8],
+    number: usize,
+    k: usize,
+    tables: [&[u8]; TABLES],
+    packet: &[u8],
+    raw: &[u8],
+    state: LimitState,
+    line: &[u8],
+) -> Judged
+    ensures { λ r. ⌜ r ≡ judged k (map now (tables .entry)) (now (packet .entry)) (now (raw .entry)) state (now (line .entry)) ⌝ }
+{
+    let mut memory = [0u8; ROOM];
+    let out: &mut [u8] = &mut memory;
+    match question_text(k, raw, out) {
+        Bytes::Are(n) => judge_text(
+            name,
+            number,
+            k,
+            tables,
+            packet,
+            part(out, 0, n),
+            state,
+            line,
+        ),
+        Bytes::Unread => Judged {
+            verdict: Verdict::Unread,
+            state,
+        },
+    }
+}

@@ -15,7 +15,8 @@ use Rattle.scripts.specs.declared.operands.Natural.the-variants as natural
 use Rattle.scripts.specs.Escapes.{byteOf}
 use Rattle.scripts.specs.Words.{settingOf}
 use Rattle.scripts.specs.Numerals.{naturalIn, atMost}
-use Rattle.settings.specs.Memory.{Memory, Kept, unread, added, cleared, allCleared}
+use Rattle.areas.specs.Memory.{Memory, Kept, added, cleared, allCleared}
+use Rattle.areas.specs.Memory.{unread}
 use Rattle.settings.specs.Settings.{byBytes, byteIn, runBytes, addRun, addFill, clearNamed}
 use Rattle.settings.specs.Settings.{setArea, setPacket, addPacket, fill, addRow, stateIn, setState}
 
@@ -100,11 +101,6 @@ state-some s o w e = rw e
 pub state-none : (s : LimitState) (o : Option (List ℕ)) → o ≡ none → record { readable = false; state = s } ≡ setState s o
 unfolding setState
 state-none s o e = rw e
-
--- what is kept, part by part
-pub kept-parts : (r : Bool) {s s′ e e′ : List ℕ} → s ≡ s′ → e ≡ e′
-    → _≡_ {A = Kept} (record { readable = r; space = s; ends = e }) (record { readable = r; space = s′; ends = e′ })
-kept-parts r p q = λ i. record { readable = r; space = p i; ends = q i }
 
 -- clearing leaves the space as it is
 pub clear-any : (space ends ends′ name : List ℕ) (r : Bool)

@@ -13,11 +13,12 @@ use Rattle.lines.specs.Names.{nameOf, sameName, sameBytes}
 use Rattle.limit_state.specs.declared.state.LimitState.{LimitState}
 use Rattle.scripts.specs.declared.operands.Natural.{Natural}
 use Rattle.scripts.specs.declared.operands.Natural.the-variants as natural
-use Rattle.settings.specs.declared.set.SetLine.{SetLine}
+use Rattle.settings.specs.declared.SetLine.{SetLine}
 use Rattle.scripts.specs.Escapes.{byteOf, unescaped, hexBytes, rowBytes, within, before, beforeByte, plain}
 use Rattle.scripts.specs.Words.{settingOf, placeOf}
 use Rattle.scripts.specs.Numerals.{naturalIn, naturalOf, atMost}
-use Rattle.settings.specs.Memory.{Memory, Kept, memory, kept, unread, added, cleared, allCleared}
+use Rattle.areas.specs.Memory.{Memory, Kept, memory, kept, added, cleared, allCleared}
+use Rattle.areas.specs.Memory.{unread}
 
 -- a part of a line has room in a buffer of 65,537 bytes, a row's line feed too
 unfoldable pub textBytes : List ℕ → Option (List ℕ)

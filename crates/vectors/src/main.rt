@@ -1,24 +1,22 @@
 // Asks the questions of vector files, and says which answers differ from those that stand under them. docs/VECTORS.md has the format.
-mod run;
-mod standing;
 mod totals;
 
+use areas::SPACE;
 use files::arguments::LONGEST;
 use files::errors::say_error;
 use files::source::Got;
 use files::source::read_file;
 use libc::ENOENT;
 use lines::columns::part;
-use run::run;
-use settings::areas::SPACE;
-use standing::Tally;
-use totals::add_up;
+use running::run;
+use tallies::Tally;
+use tallies::add_up;
 use totals::say_totals;
 use words::say::words;
 ghost use mathlib.Core.Path.{_≡_};
 ghost use lib.ListN.{replicate};
-ghost use Rattle.vectors.specs.Totals.{unreadFile};
-ghost use Rattle.vectors.specs.Script.{tallyOf, OfFile};
+ghost use Rattle.running.specs.Script.{tallyOf};
+ghost use Rattle.vectors.specs.Files.{unreadFile, OfFile};
 
 // A vector file has at most so many bytes.
 const MOST_TEXT: usize = 1048576;

@@ -1,45 +1,7 @@
-// The tallies of several files together.
-use crate::standing::Tally;
-use crate::standing::plus;
-use settings::areas::number_at;
+// The totals in words.
+use tallies::Tally;
 use words::say;
 use words::say::words;
-ghost use mathlib.Core.Path.{_≡_};
-ghost use lib.ListN.{getD};
-ghost use Rattle.vectors.specs.Totals.{together};
-ghost use Rattle.vectors.specs.Totals.{plus as plusOf};
-
-fn sum(a: [usize; 12], b: [usize; 12], k: usize) -> usize
-    ensures { λ r. ⌜ r ≡ plusOf (getD a k 0) (getD b k 0) ⌝ }
-{
-    plus(number_at(&a, k), number_at(&b, k))
-}
-
-// The tally of two files, or of one more.
-pub(crate) fn add_up(a: Tally, b: Tally) -> Tally
-    ensures { λ r. ⌜ r ≡ together a b ⌝ }
-{
-    let x = a.asked;
-    let y = b.asked;
-    Tally {
-        asked: [
-            sum(x, y, 0),
-            sum(x, y, 1),
-            sum(x, y, 2),
-            sum(x, y, 3),
-            sum(x, y, 4),
-            sum(x, y, 5),
-            sum(x, y, 6),
-            sum(x, y, 7),
-            sum(x, y, 8),
-            sum(x, y, 9),
-            sum(x, y, 10),
-            sum(x, y, 11),
-        ],
-        differ: plus(a.differ, b.differ),
-        unread: plus(a.unread, b.unread),
-    }
-}
 
 fn say_count(name: &[u8], count: usize) {
     words(name);

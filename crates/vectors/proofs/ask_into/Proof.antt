@@ -1,5 +1,5 @@
 -- What was read, or that it was not.
-use Rattle.vectors.specs.Script.{read, notRead}
+use Rattle.vectors.specs.Files.{read, notRead}
 use borrow.Author.Needs.{needs}
 use Rattle.vectors.proofs.ask_into.Statement.{statement}
 use Rattle.vectors.proofs.ask_into.Tie as tie
