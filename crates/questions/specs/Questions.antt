@@ -7,18 +7,12 @@ use mathlib.Core.Option.{Option, some, none}
 use lib.Dec.{eqb}
 use lib.ListN.{getD}
 use Rattle.laws.specs.Text.{ascii}
-use Rattle.numbers.specs.Number.{numberOf, answerOf, meaning, spelt, after, digitOn, digitOf}
-use Rattle.lines.specs.Names.{sameBytes}
-use Rattle.fields.specs.Text.{partAt}
 use Rattle.limits.specs.Step.{limitStepOf, stateAfter}
 use Rattle.limit_state.specs.declared.state.LimitState.{LimitState}
-use Rattle.scripts.specs.Escapes.{unescaped, rowBytes, within, before, beforeByte, plain}
+use Rattle.scripts.specs.Escapes.{unescaped, rowBytes, isOpen, ended, within, before, plain}
 use Rattle.answers.specs.declared.compare.Verdict.{Verdict}
-use Rattle.answers.specs.declared.compare.Verdict.the-variants.{Unread, Same, Differs}
-use Rattle.answers.specs.Answers.{composed, saying, wordsAnswer, integerAnswer}
-use Rattle.answers.specs.Spoken.{spoken, signText, spelled, decimal, places, cellsText}
+use Rattle.answers.specs.declared.compare.Verdict.the-variants.{Unread}
 use Rattle.answers.specs.Compared.{verdictOf}
-use Rattle.inside.specs.Inside.{numberAnswer}
 use Rattle.replies.specs.Replies.{steppingAnswer}
 use Rattle.cell_questions.specs.CellReplies.{importReply, rowReply}
 use Rattle.packet_questions.specs.PacketReplies.{replyTo}
@@ -52,14 +46,12 @@ judgedBytes k texts packet s line (some text) = judgedText k texts packet s line
 unfoldable pub judged : ℕ → List (List ℕ) → (packet raw : List ℕ) → LimitState → (line : List ℕ) → Judged
 judged k texts packet raw s line = judgedBytes k texts packet s line (questionBytesIn 65537 k raw)
 
--- a question of a number, once with its answer under it and once with another
-pub record Examples (s : LimitState) : Type 0 where
-  pub octal : judged 6 [] [] (ascii "0767") s (ascii "= 503") ≡ record { verdict = Same; state = s }
-  pub no-octal : judged 6 [] [] (ascii "767") s (ascii "= 503") ≡ record { verdict = Differs; state = s }
+-- the text of a row question and of another, and a question with half an escape
+pub record Examples (s : LimitState) (line : List ℕ) : Type 0 where
+  pub row : questionBytesIn 9 1 (ascii "A|") ≡ some (65 ∷ 9 ∷ 10 ∷ [])
+  pub other : questionBytesIn 9 2 (ascii "A|") ≡ some (65 ∷ 9 ∷ [])
+  pub unread : judged 2 [] [] (ascii "\\7") s line ≡ record { verdict = Unread; state = s }
 
-pub examples : (s : LimitState) → Examples s
-unfolding
-    judged judgedBytes judgedText questionBytesIn questionVerdict replyTo verdictOf within unescaped before beforeByte plain
-    numberAnswer integerAnswer wordsAnswer saying composed numberOf answerOf meaning spelt after digitOn digitOf
-    spoken signText spelled decimal places partAt cellsText sameBytes
-examples s = record { octal = refl; no-octal = refl }
+pub examples : (s : LimitState) (line : List ℕ) → Examples s line
+unfolding judged judgedBytes questionBytesIn within rowBytes isOpen ended unescaped before plain
+examples s line = record { row = refl; other = refl; unread = refl }

@@ -108,15 +108,15 @@ setState s none = record { readable = false; state = s }
 setState s (some text) = stateIn s text
 
 pub record Examples (s : LimitState) : Type 0 where
-  pub clear : setArea 13 (memory [] (1 ∷ 70000 ∷ [])) (ascii "pic") ≡ kept true [] (1 ∷ 65537 ∷ [])
-  pub no-place : setArea 13 (memory [] (1 ∷ 70000 ∷ [])) (ascii "pix") ≡ kept false [] (1 ∷ 70000 ∷ [])
+  pub clear : setArea 13 (memory [] (1 ∷ 70000 ∷ [])) (ascii "pid") ≡ kept true [] (0 ∷ 70000 ∷ [])
+  pub no-packet : setArea 10 (memory [] (1 ∷ 70000 ∷ [])) (ascii "080") ≡ kept false [] (1 ∷ 70000 ∷ [])
   pub state : setState s (textBytes (ascii "0|10|16383|2|1"))
       ≡ record { readable = true; state = record { fresh = false; apid = 10; count = 16383; run = 2; announced = 1 } }
   pub no-state : setState s (textBytes (ascii "2|10|16383|2|1")) ≡ record { readable = false; state = s }
 
 pub examples : (s : LimitState) → Examples s
 unfolding
-    setArea clearNamed cleared unread settingOf placeOf nameOf sameName sameBytes columnsOf columnsFrom
+    setArea setPacket packetBytes byBytes hexBytes clearNamed cleared unread settingOf placeOf nameOf sameName sameBytes columnsOf columnsFrom
     setState stateIn stateOf textBytes within unescaped before beforeByte plain byteOf atMost naturalIn naturalOf
     numberOf answerOf meaning spelt after digitOn digitOf
-examples s = record { clear = refl; no-place = refl; state = refl; no-state = refl }
+examples s = record { clear = refl; no-packet = refl; state = refl; no-state = refl }
