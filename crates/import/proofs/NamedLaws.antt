@@ -5,26 +5,24 @@ use mathlib.Core.List.{List, [], _∷_, _++_, List·Memᴰ, List·Memᴰ·head, 
 use Prim.Native.Nat.{ℕ, zero, suc, _+_, _≤_, _<_}
 use native.Mathlib.Omega.{arith}
 use lib.Dec.{eqb}
-use lib.ListN.{length, getD, drop}
+use lib.ListN.{length, drop}
 use borrow.Author.Tests.{eqb-false}
 use Rattle.laws.proofs.Cases.{false≢true}
 use Rattle.verdicts.specs.Key.{Key}
 use Rattle.verdicts.specs.Facts.{Naming, Facts}
-use Rattle.verdicts.specs.Entries.{Entry, own, facts}
+use Rattle.verdicts.specs.Entries.{Entry}
 use Rattle.verdicts.specs.Steps.{holds}
 use Rattle.chains.specs.Chains.{noRow}
-use Rattle.keys.specs.Manners.{mannerOf, mannerAt, codeOf, weight, metBy, marksOf}
+use Rattle.keys.specs.Manners.{mannerOf, mannerAt, codeOf}
 use Rattle.keys.specs.Held.{namedOf, keysOf}
 use Rattle.keys.proofs.Fitting.{Listed, NamesFit}
-use Rattle.keys.proofs.MarkLaws.{marked}
 use Rattle.meaning.specs.Kept.{rowAt}
 use Rattle.meaning.specs.Found.{Finds}
 use Rattle.judging.proofs.CircleMeaning.{no-code}
 use Rattle.judging.proofs.Resolved.{Answers, Named, absent, present, namesIn, Names}
 use Rattle.import.specs.Found.{rowOf}
 
-module _ (rows : List Entry) (few : length rows ≤ 14336) (marks : List ℕ)
-    (are : (j : ℕ) → j < length rows → getD marks j 0 ≡ marksOf (facts (rowAt rows j) .meets)) where
+module _ (rows : List Entry) (few : length rows ≤ 14336) where
   -- the row that was found
   module _ (n : Naming) (x : ℕ) (finds : Finds rows (n .key) x) where
     row-there : (y : ℕ) → x ≡ y → (rowOf y ≡ noRow → ⊥) → (rowOf y < length rows) × (holds (rowAt rows (rowOf y)) (n .key) ≡ true)
@@ -37,17 +35,15 @@ module _ (rows : List Entry) (few : length rows ≤ 14336) (marks : List ℕ)
     row-found zero e j p h z = false≢true (sym (finds .none e j p) ∙ h)
     row-found (suc k) e j p h z = omega (arith, finds .some k (omega arith) .0)
 
-    pub answers : (keys : List Key) → Listed keys n → (code found : ℕ) → code ≡ codeOf (mannerOf n) → found ≡ rowOf x → Answers rows marks n code found
+    pub answers : (keys : List Key) → Listed keys n → (code found : ℕ) → code ≡ codeOf (mannerOf n) → found ≡ rowOf x → Answers rows n code found
     answers keys l code found c f =
         let d : mannerAt code ≡ mannerOf n = ap mannerAt c ∙ l .decoded in
         record {
           column = sym (ap (λ m. m .column) d);
+          kind = sym (ap (λ m. m .kind) d);
           chained = sym (ap (λ m. m .chained) d);
           there = λ some. rw f (row-there x refl (λ z. some (f ∙ z)));
           finds = λ j p h z. row-found x refl j p h (sym f ∙ z);
-          meets = λ some.
-              let p = row-there x refl (λ z. some (f ∙ z)) .0 in
-              rw (d, f, are (rowOf x) p) (marked (facts (rowAt rows (rowOf x)) .meets) (n .condition));
         }
 
   -- what a row names, in its two places
@@ -55,7 +51,7 @@ module _ (rows : List Entry) (few : length rows ≤ 14336) (marks : List ℕ)
     pub names-are : (ns : List Naming) → NamesFit keys ns
         → ((n : Naming) (ms : List Naming) → ns ≡ n ∷ ms → Finds rows (n .key) x1)
         → ((n m : Naming) (ms : List Naming) → ns ≡ n ∷ m ∷ ms → Finds rows (m .key) x2)
-        → Names rows marks (namedOf ns .code) (rowOf x1) (namedOf (drop 1 ns) .code) (rowOf x2) ns
+        → Names rows (namedOf ns .code) (rowOf x1) (namedOf (drop 1 ns) .code) (rowOf x2) ns
     unfolding namedOf
     names-are [] l f g = record { one = absent refl; two = absent refl; are = refl; unchained = no-code 0 refl }
     names-are (n ∷ []) l f g =

@@ -28,6 +28,7 @@ use Rattle.keys.specs.Manners.{mannerOf, mannerAt, codeOf, marksOf}
 use Rattle.keys.specs.Says.{Bounded, rankIn, Says}
 use Rattle.keys.specs.Held.{slotOf, namedOf, countOf as countingOf, keysOf}
 use Rattle.keys.proofs.Fitting.{Fits, Listed, NamesFit, CountsFit}
+use Rattle.keys.proofs.MarkLaws.{marked}
 use Rattle.keys.proofs.SaysLaws.{fits-say}
 use Rattle.keys.proofs.RankLaws.{names-lower, chain-level}
 use Rattle.meaning.specs.Kept.{keyId, Known, rowAt}
@@ -138,11 +139,11 @@ module _ (rows : List Entry) (words links : List ℕ) (count : ℕ) (halves byte
     fit-second (a ∷ b ∷ []) l n m ms e = let q : b ≡ m = cc in subst (Listed (factsAt i .keys)) q (l .1)
     fit-second (a ∷ b ∷ c ∷ cs) l n m ms e = absurd l
 
-    named : Names rows (part bytes marksColumn) (getD (part bytes code1Column) i 0) (getD found1 i noRow) (getD (part bytes code2Column) i 0) (getD found2 i noRow) (factsAt i .names)
+    named : Names rows (getD (part bytes code1Column) i 0) (getD found1 i noRow) (getD (part bytes code2Column) i 0) (getD found2 i noRow) (factsAt i .names)
     named =
         let f = h .fits i p .names in
         rw (code1-is i p, code2-is i p, v .one i p, v .two i p)
-        (names-are rows (h .stored .few) (part bytes marksColumn) marks-is (factsAt i .keys) _ _ (factsAt i .names) f
+        (names-are rows (h .stored .few) (factsAt i .keys) _ _ (factsAt i .names) f
         (λ n ms e. found-one n ms e (fit-first (factsAt i .names) f n ms e))
         (λ n m ms e. found-two n m ms e (fit-second (factsAt i .names) f n m ms e)))
 
@@ -201,7 +202,7 @@ module _ (rows : List Entry) (words links : List ℕ) (count : ℕ) (halves byte
   layer i = rankIn (keysAt rows i)
 
   -- what a row names has a lower layer, or along the VALID chain the same
-  module _ (i : ℕ) (p : i < length rows) (n : Naming) (m : List·Memᴰ n (factsAt i .names)) (code found : ℕ) (r : Answers rows (part bytes marksColumn) n code found) where
+  module _ (i : ℕ) (p : i < length rows) (n : Naming) (m : List·Memᴰ n (factsAt i .names)) (code found : ℕ) (r : Answers rows n code found) where
     lower : mannerAt code .chained ≡ false → (found ≡ noRow → ⊥) → layer found < layer i
     lower c some =
         let g = r .there some in
@@ -239,27 +240,27 @@ module _ (rows : List Entry) (words links : List ℕ) (count : ℕ) (halves byte
     -- its first naming, and its second, are among what it names
     data InOne : Type 0 where
       nothing : c1 ≡ 0 → InOne
-      named-by : (n : Naming) → List·Memᴰ n (factsAt i .names) → Answers rows (part bytes marksColumn) n c1 f1 → InOne
+      named-by : (n : Naming) → List·Memᴰ n (factsAt i .names) → Answers rows n c1 f1 → InOne
 
     data InTwo : Type 0 where
       nothing : c2 ≡ 0 → InTwo
-      named-by : (n : Naming) → List·Memᴰ n (factsAt i .names) → Answers rows (part bytes marksColumn) n c2 f2 → InTwo
+      named-by : (n : Naming) → List·Memᴰ n (factsAt i .names) → Answers rows n c2 f2 → InTwo
 
     in-one : InOne
     in-one = go (named i p .one) refl
       where
-        go : (x : Named rows (part bytes marksColumn) c1 f1) → named i p .one ≡ x → InOne
+        go : (x : Named rows c1 f1) → named i p .one ≡ x → InOne
         go (absent e) q = nothing e
         go (present n e r) q = named-by n (rw (named i p .are, q) (List·Memᴰ·head refl)) r
 
     in-two : InTwo
     in-two = go (named i p .two) refl
       where
-        last-mem : {c f : ℕ} (n : Naming) (x : Named rows (part bytes marksColumn) c f) → List·Memᴰ n (namesIn x ++ n ∷ [])
+        last-mem : {c f : ℕ} (n : Naming) (x : Named rows c f) → List·Memᴰ n (namesIn x ++ n ∷ [])
         last-mem n (absent e) = List·Memᴰ·head refl
         last-mem n (present m e r) = List·Memᴰ·tail (List·Memᴰ·head refl)
 
-        go : (x : Named rows (part bytes marksColumn) c2 f2) → named i p .two ≡ x → InTwo
+        go : (x : Named rows c2 f2) → named i p .two ≡ x → InTwo
         go (absent e) q = nothing e
         go (present n e r) q = named-by n (rw (named i p .are, q) (last-mem n (named i p .one))) r
 
@@ -306,6 +307,7 @@ module _ (rows : List Entry) (words links : List ℕ) (count : ℕ) (halves byte
         short = v .short;
         counted = λ i p formed. count-is i p (factsAt i .counts) (factsAt i .keys) refl refl (h .fits i p .counts);
         named = λ i p formed. named i p;
+        marked = λ i p c. rw (marks-is i p) (marked (factsAt i .meets) c);
         layers = record {
           most = λ i p. rank-most _;
           quiet = quiet;

@@ -46,7 +46,8 @@ module _ (rows : List Entry) (w : Arrays) (layer : ℕ → ℕ) (v : Resolved ro
     chainOf = nextOf (w .sound) (code1 w i) (row1 w i)
 
     -- a row is followed by way of its first naming alone
-    by-second : (o : Entry) (code found : ℕ) → mannerAt code .chained ≡ false → (x : Named rows (w .marks) code found) → any (λ n. holds o (n .key) && n .chained) (namesIn x) ≡ false
+    by-second : (o : Entry) (code found : ℕ) → mannerAt code .chained ≡ false → (x : Named rows code found)
+        → any (λ n. holds o (n .key) && n .chained) (namesIn x) ≡ false
     by-second o code found u (absent e) = refl
     by-second o code found u (present n e r) = rw (r .chained, u) (go (holds o (n .key)))
       where
@@ -54,7 +55,7 @@ module _ (rows : List Entry) (w : Arrays) (layer : ℕ → ℕ) (v : Resolved ro
         go true = refl
         go false = refl
 
-    by-first : (o : Entry) (code found : ℕ) (x : Named rows (w .marks) code found) (l : List Naming) → any (λ n. holds o (n .key) && n .chained) l ≡ false
+    by-first : (o : Entry) (code found : ℕ) (x : Named rows code found) (l : List Naming) → any (λ n. holds o (n .key) && n .chained) l ≡ false
         → any (λ n. holds o (n .key) && n .chained) (namesIn x ++ l) ≡ any (λ n. holds o (n .key) && n .chained) (namesIn x)
     by-first o code found (absent e) l q = q
     by-first o code found (present n e r) l q = rw q
@@ -81,7 +82,7 @@ module _ (rows : List Entry) (w : Arrays) (layer : ℕ → ℕ) (v : Resolved ro
     unlinked u = rw u
 
     -- a naming of a chain: what it found is next, where that is sound
-    module _ (n : Naming) (r : Answers rows (w .marks) n (code1 w i) (row1 w i)) (chained : mannerAt (code1 w i) .chained ≡ true)
+    module _ (n : Naming) (r : Answers rows n (code1 w i) (row1 w i)) (chained : mannerAt (code1 w i) .chained ≡ true)
         (is : (o : Entry) → follows (rowAt rows i) o ≡ holds o (n .key)) where
       at : (j : ℕ) → j < length rows → follows (rowAt rows i) (rowAt rows j) ≡ true → sound rows (rowAt rows j) ≡ true → row1 w i ≡ j
       at j q g s = sole rows w layer v n _ _ r j q s (sym (is (rowAt rows j)) ∙ g)
@@ -120,7 +121,7 @@ module _ (rows : List Entry) (w : Arrays) (layer : ℕ → ℕ) (v : Resolved ro
         or-none true = refl
         or-none false = refl
 
-        go : (x : Named rows (w .marks) (code1 w i) (row1 w i)) → v .named i p formed .one ≡ x → NextIs
+        go : (x : Named rows (code1 w i) (row1 w i)) → v .named i p formed .one ≡ x → NextIs
         go (absent e) q = nothing (unlinked (no-code (code1 w i) e)) (none-next (λ j b g s. false≢true (sym (follows-one (rowAt rows j) ∙ ap (λ y. any (λ n. holds (rowAt rows j) (n .key) && n .chained) (namesIn y)) q) ∙ g)))
         go (present n e r) q = by (mannerAt (code1 w i) .chained) refl
           where

@@ -1,5 +1,6 @@
 pub mod CircleMeaning
 pub mod GoodMeaning
+pub mod KindMeaning
 pub mod Meaning
 pub mod PassLaws
 pub mod Resolved

@@ -1,26 +1,22 @@
 -- What the arrays say of the rows: which are sound, whether their counts differ, and the rows that their namings found.
-use mathlib.Core.Path.{_≡_, refl, ap, sym, _∙_}
-use mathlib.Core.Bool.{Bool, true, false, not, _&&_}
+use mathlib.Core.Path.{_≡_, refl, sym}
+use mathlib.Core.Bool.{Bool, true, false}
 use mathlib.Core.List.{List, [], _∷_, _++_, map}
 use Prim.Native.Nat.{ℕ, _≤_, _<_}
-use native.Mathlib.Omega.{arith}
 use lib.Dec.{eqb}
 use lib.ListN.{length, getD}
-use borrow.Author.Tests.{eq-eqb, ne-eqb, eqb-true, eqb-false}
-use Rattle.laws.specs.Lists.{any, first}
+use borrow.Author.Tests.{eq-eqb, eqb-true}
+use Rattle.laws.specs.Lists.{first}
 use Rattle.laws.specs.Prefix.{flag}
-use Rattle.laws.proofs.At.{same-test, any-place, place-any}
-use Rattle.laws.proofs.Cases.{and-left, and-right, and-both, false≢true}
 use Rattle.laws.proofs.Lists.{at-mem}
-use Rattle.laws.proofs.Tests.{any-keep}
-use Rattle.verdicts.specs.Facts.{Naming}
+use Rattle.verdicts.specs.Facts.{Condition, Naming}
 use Rattle.verdicts.specs.Entries.{Entry, bad, own, facts}
 use Rattle.verdicts.specs.Steps.{twin, holds}
-use Rattle.verdicts.specs.Verdicts.{sound, countCell, asked}
+use Rattle.verdicts.specs.Verdicts.{sound, countCell, verdict}
 use Rattle.verdicts.proofs.SoundLaws.{alone}
+use Rattle.verdicts.proofs.GoodLaw.{good-law}
 use Rattle.keys.specs.Manners.{mannerAt, weight, metBy}
 use Rattle.chains.specs.Chains.{noRow}
-use Rattle.judging.specs.Judged.{askedAt}
 
 abbrev pub noEntry : Entry
 noEntry = record { table = 0; row = 0; reading = bad 1 }
@@ -29,29 +25,29 @@ noEntry = record { table = 0; row = 0; reading = bad 1 }
 abbrev pub rowAt : List Entry → ℕ → Entry
 rowAt rows i = getD rows i noEntry
 
-module _ (rows : List Entry) (marks : List ℕ) where
+module _ (rows : List Entry) where
   -- a naming is kept by its code, and by the row that it found
   pub record Answers (n : Naming) (code found : ℕ) : Type 0 where
     pub column : n .column ≡ mannerAt code .column
+    pub kind : n .kind ≡ mannerAt code .kind
     pub chained : n .chained ≡ mannerAt code .chained
     -- what is found holds the key, and where some row holds it, one is found
     pub there : (found ≡ noRow → ⊥) → (found < length rows) × (holds (rowAt rows found) (n .key) ≡ true)
     pub finds : (j : ℕ) → j < length rows → holds (rowAt rows j) (n .key) ≡ true → found ≡ noRow → ⊥
-    pub meets : (found ≡ noRow → ⊥) → facts (rowAt rows found) .meets (n .condition) ≡ metBy (getD marks found 0) (weight (mannerAt code .condition))
 
   -- what a row names in one of its two places, if anything
   pub data Named (code found : ℕ) : Type 0 where
     absent : code ≡ 0 → Named code found
     present : (n : Naming) → (code ≡ 0 → ⊥) → Answers n code found → Named code found
 
-abbrev pub namesIn : {rows : List Entry} {marks : List ℕ} {code found : ℕ} → Named rows marks code found → List Naming
+abbrev pub namesIn : {rows : List Entry} {code found : ℕ} → Named rows code found → List Naming
 namesIn (absent e) = []
 namesIn (present n e r) = n ∷ []
 
 -- the namings of a row in both places; only the first is of a chain
-pub record Names (rows : List Entry) (marks : List ℕ) (code1 found1 code2 found2 : ℕ) (ns : List Naming) : Type 0 where
-  pub one : Named rows marks code1 found1
-  pub two : Named rows marks code2 found2
+pub record Names (rows : List Entry) (code1 found1 code2 found2 : ℕ) (ns : List Naming) : Type 0 where
+  pub one : Named rows code1 found1
+  pub two : Named rows code2 found2
   pub are : ns ≡ namesIn one ++ namesIn two
   pub unchained : mannerAt code2 .chained ≡ false
 
@@ -95,48 +91,26 @@ pub record Resolved (rows : List Entry) (w : Arrays) (layer : ℕ → ℕ) : Typ
   pub counted : (i : ℕ) → i < length rows → own (rowAt rows i .reading) ≡ 0
       → getD (w .counts) i 0 ≡ first (map (countCell rows) (facts (rowAt rows i) .counts))
   pub named : (i : ℕ) → i < length rows → own (rowAt rows i .reading) ≡ 0
-      → Names rows (w .marks) (code1 w i) (row1 w i) (code2 w i) (row2 w i) (facts (rowAt rows i) .names)
+      → Names rows (code1 w i) (row1 w i) (code2 w i) (row2 w i) (facts (rowAt rows i) .names)
+  -- what is marked of a row is the conditions that it meets
+  pub marked : (i : ℕ) → i < length rows → (c : Condition) → facts (rowAt rows i) .meets c ≡ metBy (getD (w .marks) i 0) (weight c)
   pub layers : Layers w (length rows) layer
+
+-- good is a verdict of 0
+abbrev pub isGood : List Entry → Entry → Bool
+isGood rows o = eqb (verdict rows o) 0
+
+pub good-sound : (rows : List Entry) (o : Entry) → isGood rows o ≡ true → sound rows o ≡ true
+good-sound rows o t = good-law rows o .0 (eqb-true _ _ t) .isSound
 
 -- a row is itself
 pub twin-self : (e : Entry) → twin e e ≡ true
 unfolding twin
 twin-self e = rw (eq-eqb (e .table) (e .table) refl, eq-eqb (e .row) (e .row) refl)
 
-module _ (rows : List Entry) (w : Arrays) (layer : ℕ → ℕ) (v : Resolved rows w layer) (n : Naming) (code found : ℕ) (r : Answers rows (w .marks) n code found) where
+module _ (rows : List Entry) (w : Arrays) (layer : ℕ → ℕ) (v : Resolved rows w layer) (n : Naming) (code found : ℕ) (r : Answers rows n code found) where
   -- a sound row that holds the key is what is found
   pub sole : (j : ℕ) → j < length rows → sound rows (rowAt rows j) ≡ true → holds (rowAt rows j) (n .key) ≡ true → found ≡ j
   sole j q s h =
       let g = r .there (r .finds j q h) in
       sym (v .twins j found q (g .0) (alone rows (rowAt rows j) (rowAt rows found) (n .key) (at-mem rows found noEntry (g .0)) s h (g .1)))
-
-  -- a naming is met just where what is found is of the kind asked and good; good rows are sound
-  module _ (good : Entry → Bool) (lone : (o : Entry) → good o ≡ true → sound rows o ≡ true) where
-    abbrev asks : Entry → Bool
-    asks o = holds o (n .key) && facts o .meets (n .condition)
-
-    to-found : any good (asked rows n) ≡ true → (askedAt (w .marks) code found && good (rowAt rows found)) ≡ true
-    unfolding asked askedAt
-    to-found t =
-        let p = any-place noEntry (λ o. asks o && good o) rows (sym (any-keep asks good rows) ∙ t) in
-        let a : asks (rowAt rows (p .at)) ≡ true = and-left _ _ (p .holds) in
-        let g : good (rowAt rows (p .at)) ≡ true = and-right (asks (rowAt rows (p .at))) _ (p .holds) in
-        let h : holds (rowAt rows (p .at)) (n .key) ≡ true = and-left _ _ a in
-        let m : facts (rowAt rows (p .at)) .meets (n .condition) ≡ true = and-right (holds (rowAt rows (p .at)) (n .key)) _ a in
-        let e : found ≡ p .at = sole (p .at) (p .below) (lone (rowAt rows (p .at)) g) h in
-        let some : found ≡ noRow → ⊥ = r .finds (p .at) (p .below) h in
-        and-both (and-both (ap not (ne-eqb found noRow some)) (sym (r .meets some) ∙ rw e m)) (rw e g)
-
-    from-found : (askedAt (w .marks) code found && good (rowAt rows found)) ≡ true → any good (asked rows n) ≡ true
-    unfolding asked askedAt
-    from-found t =
-        let a : (not (eqb found noRow) && metBy (getD (w .marks) found 0) (weight (mannerAt code .condition))) ≡ true = and-left _ _ t in
-        let some : found ≡ noRow → ⊥ = λ q. false≢true (sym (ap not (eq-eqb found noRow q)) ∙ and-left _ _ a) in
-        let h = r .there some in
-        any-keep asks good rows
-        ∙ place-any noEntry (λ o. asks o && good o) rows found (h .0)
-        (and-both (and-both (h .1) (r .meets some ∙ and-right (not (eqb found noRow)) _ a))
-        (and-right (not (eqb found noRow) && metBy (getD (w .marks) found 0) (weight (mannerAt code .condition))) _ t))
-
-    pub met-is : any good (asked rows n) ≡ (askedAt (w .marks) code found && good (rowAt rows found))
-    met-is = same-test _ _ to-found from-found

@@ -6,7 +6,7 @@ use Prim.Native.Nat.{ℕ, zero, suc, _+_, _*_, _≤_, _<_}
 use native.Mathlib.Omega.{arith}
 use lib.Dec.{eqb}
 use lib.ListN.{length, getD}
-use borrow.Author.Tests.{eq-eqb, ne-eqb, eqb-true, eqb-false}
+use borrow.Author.Tests.{ne-eqb, eqb-false}
 use Rattle.laws.specs.Lists.{any, orElse, first}
 use Rattle.laws.specs.Prefix.{flag}
 use Rattle.laws.proofs.Cases.{bool-cases}
@@ -16,10 +16,11 @@ use Rattle.verdicts.specs.Facts.{Naming}
 use Rattle.verdicts.specs.Entries.{Entry, own, facts}
 use Rattle.verdicts.specs.Verdicts.{shared, sound, countCell, circle, asked, nameCell, judge, verdict}
 use Rattle.verdicts.proofs.VerdictLaw.{verdict-law}
-use Rattle.keys.specs.Manners.{mannerAt, weight, metBy}
+use Rattle.keys.specs.Manners.{mannerAt, kindWeight, metBy}
 use Rattle.chains.specs.Chains.{noRow, comesTo}
 use Rattle.judging.specs.Judged.{nextOf, baseOf, askedAt, metAt, nameAt, finalOf}
-use Rattle.judging.proofs.Resolved.{noEntry, rowAt, Answers, Named, absent, present, namesIn, Names, Arrays, code1, row1, code2, row2, Resolved, met-is}
+use Rattle.judging.proofs.Resolved.{noEntry, rowAt, Answers, Named, absent, present, namesIn, Names, Arrays, code1, row1, code2, row2, Resolved, isGood}
+use Rattle.judging.proofs.KindMeaning.{kindsIn, met-is}
 use Rattle.judging.proofs.CircleMeaning.{flag-one, circle-is}
 
 or-else-assoc : (a b c : ℕ) → orElse (orElse a b) c ≡ orElse a (orElse b c)
@@ -45,10 +46,6 @@ judge-split rows good e =
     (or-else-assoc (own (e .reading)) _ _
     ∙ ap (orElse (own (e .reading))) (or-else-assoc (cond (shared rows e) (verdictOf 9 0) 0) _ _ ∙ ap (orElse (cond (shared rows e) (verdictOf 9 0) 0)) (or-else-assoc (first (map (countCell rows) (facts e .counts))) _ _)))
 
--- good is a verdict of 0
-abbrev pub isGood : List Entry → Entry → Bool
-isGood rows o = eqb (verdict rows o) 0
-
 pub verdict-split : (rows : List Entry) (e : Entry) → verdict rows e ≡ orElse (baseIn rows e) (first (map (nameCell rows (isGood rows)) (facts e .names)))
 verdict-split rows e = verdict-law rows e ∙ judge-split rows (isGood rows) e
 
@@ -62,9 +59,6 @@ base-sound rows e z =
     let a = or-else-zero (own (e .reading)) _ z in
     let b = or-else-zero (cond (shared rows e) (verdictOf 9 0) 0) _ (a .1) in
     (a .0, rw (a .0, when-zero (shared rows e) (verdictOf 9 0) (omega arith) (b .0)))
-
-pub verdict-sound : (rows : List Entry) (o : Entry) → isGood rows o ≡ true → sound rows o ≡ true
-verdict-sound rows o t = base-sound rows o (or-else-zero (baseIn rows o) _ (sym (verdict-split rows o) ∙ eqb-true _ _ t) .0) .1
 
 -- a row with another reason isn't good
 pub not-good : (rows : List Entry) (e : Entry) → (baseIn rows e ≡ 0 → ⊥) → isGood rows e ≡ false
@@ -96,11 +90,11 @@ module _ (rows : List Entry) (w : Arrays) (layer : ℕ → ℕ) (v : Resolved ro
 -- ---- names
 
 -- the reason of what a row names in one of its places
-abbrev pub cellIn : (rows : List Entry) {marks : List ℕ} {code found : ℕ} → (Entry → Bool) → Named rows marks code found → ℕ
+abbrev pub cellIn : (rows : List Entry) {code found : ℕ} → (Entry → Bool) → Named rows code found → ℕ
 cellIn rows good (absent e) = 0
 cellIn rows good (present n e r) = nameCell rows good n
 
-pub cells-in : (rows : List Entry) {marks : List ℕ} {c f d g : ℕ} (good : Entry → Bool) (x : Named rows marks c f) (y : Named rows marks d g)
+pub cells-in : (rows : List Entry) {c f d g : ℕ} (good : Entry → Bool) (x : Named rows c f) (y : Named rows d g)
     → first (map (nameCell rows good) (namesIn x ++ namesIn y)) ≡ orElse (cellIn rows good x) (cellIn rows good y)
 cells-in rows good (absent e) (absent q) = refl
 cells-in rows good (absent e) (present n q r) = or-else-none (nameCell rows good n)
@@ -108,34 +102,38 @@ cells-in rows good (present n e r) (absent q) = refl
 cells-in rows good (present n e r) (present l q u) = ap (orElse (nameCell rows good n)) (or-else-none (nameCell rows good l))
 
 -- the verdict of a row without other reasons is that of its names
-pub names-verdict : (rows : List Entry) {marks : List ℕ} {c f d g : ℕ} (e : Entry) → baseIn rows e ≡ 0 → (s : Names rows marks c f d g (facts e .names))
+pub names-verdict : (rows : List Entry) {c f d g : ℕ} (e : Entry) → baseIn rows e ≡ 0 → (s : Names rows c f d g (facts e .names))
     → verdict rows e ≡ orElse (cellIn rows (isGood rows) (s .one)) (cellIn rows (isGood rows) (s .two))
 names-verdict rows e z s =
     verdict-split rows e
     ∙ ap₂ orElse z (ap (λ (l : List Naming). first (map (nameCell rows (isGood rows)) l)) (s .are) ∙ cells-in rows (isGood rows) (s .one) (s .two))
 
-module _ (rows : List Entry) (w : Arrays) (layer : ℕ → ℕ) (v : Resolved rows w layer) (good : Entry → Bool) (lone : (o : Entry) → good o ≡ true → sound rows o ≡ true)
-    (code found : ℕ) (g : List ℕ) (gm : (found ≡ noRow → ⊥) → found < length rows → getD g found 0 ≡ flag (good (rowAt rows found))) where
-  met-words : (n : Naming) (e : code ≡ 0 → ⊥) (r : Answers rows (w .marks) n code found) → metAt (w .marks) g code found ≡ any good (asked rows n)
+module _ (rows : List Entry) (w : Arrays) (layer : ℕ → ℕ) (v : Resolved rows w layer) (good : Entry → Bool)
+    (fine : (o : Entry) → good o ≡ true → isGood rows o ≡ true) (code found : ℕ) (g : List ℕ)
+    (gm : (found ≡ noRow → ⊥) → found < length rows → getD g found 0 ≡ flag (good (rowAt rows found))) where
+  abbrev kinds : List ℕ
+  kinds = kindsIn rows w
+
+  met-words : (n : Naming) (e : code ≡ 0 → ⊥) (r : Answers rows n code found) → metAt kinds g code found ≡ any good (asked rows n)
   unfolding metAt askedAt
-  met-words n e r = rw (ne-eqb code 0 e, met-is rows w layer v n code found r good lone) (go (eqb found noRow) refl)
+  met-words n e r = rw (ne-eqb code 0 e, met-is rows w layer v n code found r good fine) (go (eqb found noRow) refl)
     where
       go : (b : Bool) → eqb found noRow ≡ b
-          → ((not b && metBy (getD (w .marks) found 0) (weight (mannerAt code .condition))) && eqb (getD g found 0) 1)
-          ≡ ((not b && metBy (getD (w .marks) found 0) (weight (mannerAt code .condition))) && good (rowAt rows found))
+          → ((not b && metBy (getD kinds found 0) (kindWeight (mannerAt code .kind))) && eqb (getD g found 0) 1)
+          ≡ ((not b && metBy (getD kinds found 0) (kindWeight (mannerAt code .kind))) && good (rowAt rows found))
       go true q = refl
       go false q =
           let some : found ≡ noRow → ⊥ = eqb-false _ _ q in
           rw (gm some (r .there some .0), flag-one (good (rowAt rows found)))
 
   -- a place's reason is that of its naming
-  pub cell-is : (x : Named rows (w .marks) code found) → nameAt (w .marks) g code found ≡ cellIn rows good x
+  pub cell-is : (x : Named rows code found) → nameAt kinds g code found ≡ cellIn rows good x
   unfolding nameAt nameCell metAt
   cell-is (absent e) = rw e
   cell-is (present n e r) = rw (met-words n e r, r .column)
 
   -- and it is met where its naming has no reason
-  pub met-cell : (x : Named rows (w .marks) code found) → metAt (w .marks) g code found ≡ eqb (cellIn rows good x) 0
+  pub met-cell : (x : Named rows code found) → metAt kinds g code found ≡ eqb (cellIn rows good x) 0
   unfolding nameCell metAt
   met-cell (absent e) = rw e
   met-cell (present n e r) = met-words n e r ∙ go (any good (asked rows n))

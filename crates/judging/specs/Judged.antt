@@ -11,7 +11,7 @@ use Rattle.laws.specs.Lists.{orElse}
 use Rattle.laws.specs.Prefix.{flag}
 use Rattle.laws.specs.Values.{tabulate}
 use Rattle.schemas.specs.Reasons.{verdict}
-use Rattle.keys.specs.Manners.{mannerAt, weight, metBy}
+use Rattle.keys.specs.Manners.{mannerAt, kindWeight, metBy, isSecond, withSecond}
 use Rattle.chains.specs.Chains.{noRow, comesTo, firmFrom}
 
 -- ---- reasons 1 to 10 and 12
@@ -25,30 +25,40 @@ unfoldable pub baseOf : (own sound count circle : ℕ) → ℕ
 baseOf own sound count circle =
     orElse own (orElse (cond (eqb sound 1) 0 (verdict 9 0)) (orElse count (cond (eqb circle 1) (verdict 12 8) 0)))
 
+-- ---- kinds
+
+-- what a naming found is there, and is the second row that others ask about
+unfoldable pub secondAt : (marks : List ℕ) → (code found : ℕ) → Bool
+secondAt marks code found = not (eqb found noRow) && isSecond code (getD marks found 0)
+
+-- the kinds that a row is of: the conditions that it meets, and whether one of its two namings leads to a second row
+unfoldable pub kindsOf : (marks : List ℕ) → (own code1 found1 code2 found2 : ℕ) → ℕ
+kindsOf marks own code1 found1 code2 found2 = withSecond own (secondAt marks code1 found1 || secondAt marks code2 found2)
+
 -- ---- names
 
 -- what a naming found is there, and of the kind asked
-unfoldable pub askedAt : (marks : List ℕ) → (code found : ℕ) → Bool
-askedAt marks code found = not (eqb found noRow) && metBy (getD marks found 0) (weight (mannerAt code .condition))
+unfoldable pub askedAt : (kinds : List ℕ) → (code found : ℕ) → Bool
+askedAt kinds code found = not (eqb found noRow) && metBy (getD kinds found 0) (kindWeight (mannerAt code .kind))
 
 -- a naming is met: there is none, or what it found is of the kind asked and marked good
-unfoldable pub metAt : (marks good : List ℕ) → (code found : ℕ) → Bool
-metAt marks good code found = eqb code 0 || (askedAt marks code found && eqb (getD good found 0) 1)
+unfoldable pub metAt : (kinds good : List ℕ) → (code found : ℕ) → Bool
+metAt kinds good code found = eqb code 0 || (askedAt kinds code found && eqb (getD good found 0) 1)
 
 -- 0, or reason 11 at its column
-unfoldable pub nameAt : (marks good : List ℕ) → (code found : ℕ) → ℕ
-nameAt marks good code found = cond (metAt marks good code found) 0 (verdict 11 (mannerAt code .column))
+unfoldable pub nameAt : (kinds good : List ℕ) → (code found : ℕ) → ℕ
+nameAt kinds good code found = cond (metAt kinds good code found) 0 (verdict 11 (mannerAt code .column))
 
 -- the verdict of a row, by what stands before its names and by its two namings
-unfoldable pub finalOf : (marks good : List ℕ) → (base code1 found1 code2 found2 : ℕ) → ℕ
-finalOf marks good base code1 found1 code2 found2 =
-    orElse base (orElse (nameAt marks good code1 found1) (nameAt marks good code2 found2))
+unfoldable pub finalOf : (kinds good : List ℕ) → (base code1 found1 code2 found2 : ℕ) → ℕ
+finalOf kinds good base code1 found1 code2 found2 =
+    orElse base (orElse (nameAt kinds good code1 found1) (nameAt kinds good code2 found2))
 
 -- a row of a chain is firm: it has no reason, the next row is of the kind asked, and what it names beside is met by rows without reasons
-unfoldable pub firmOf : (marks clean : List ℕ) → (base code1 found1 next code2 found2 : ℕ) → Bool
-firmOf marks clean base code1 found1 next code2 found2 =
+unfoldable pub firmOf : (kinds clean : List ℕ) → (base code1 found1 next code2 found2 : ℕ) → Bool
+firmOf kinds clean base code1 found1 next code2 found2 =
     eqb base 0
-    && (cond (mannerAt code1 .chained) (askedAt marks code1 next) (metAt marks clean code1 found1) && metAt marks clean code2 found2)
+    && (cond (mannerAt code1 .chained) (askedAt kinds code1 next) (metAt kinds clean code1 found1) && metAt kinds clean code2 found2)
 
 -- ---- the arrays that the passes fill, from the front
 
@@ -64,11 +74,18 @@ abbrev pub circlesOf : (next : List ℕ) → (n : ℕ) → List ℕ
 circlesOf next n = filled 0 (λ i. flag (comesTo next i n i)) n
 
 -- codes and found: each row's two namings and the rows that they found; marks: the conditions that each row meets
-module _ (marks base codes1 found1 codes2 found2 : List ℕ) where
+abbrev pub kindsAt : (marks codes1 found1 codes2 found2 : List ℕ) → ℕ → ℕ
+kindsAt marks codes1 found1 codes2 found2 i =
+    kindsOf marks (getD marks i 0) (getD codes1 i 0) (getD found1 i noRow) (getD codes2 i 0) (getD found2 i noRow)
+
+abbrev pub kindRows : (marks codes1 found1 codes2 found2 : List ℕ) → (n : ℕ) → List ℕ
+kindRows marks codes1 found1 codes2 found2 n = filled 0 (kindsAt marks codes1 found1 codes2 found2) n
+
+module _ (kinds base codes1 found1 codes2 found2 : List ℕ) where
   -- the verdict of row i, where it is marked which rows are good
   abbrev pub finalBy : (good : List ℕ) → ℕ → ℕ
   finalBy good i =
-      finalOf marks good (getD base i 0) (getD codes1 i 0) (getD found1 i noRow) (getD codes2 i 0) (getD found2 i noRow)
+      finalOf kinds good (getD base i 0) (getD codes1 i 0) (getD found1 i noRow) (getD codes2 i 0) (getD found2 i noRow)
 
   module _ (next : List ℕ) (n : ℕ) where
     -- rows without reasons 1 to 10 and 12: good where they name nothing
@@ -78,7 +95,7 @@ module _ (marks base codes1 found1 codes2 found2 : List ℕ) where
     abbrev pub firmBy : List ℕ
     firmBy =
         filled 0
-        (λ i. flag (firmOf marks cleanBy (getD base i 0) (getD codes1 i 0) (getD found1 i noRow) (getD next i noRow) (getD codes2 i 0) (getD found2 i noRow)))
+        (λ i. flag (firmOf kinds cleanBy (getD base i 0) (getD codes1 i 0) (getD found1 i noRow) (getD next i noRow) (getD codes2 i 0) (getD found2 i noRow)))
         n
 
     -- good along VALID chains
@@ -90,7 +107,7 @@ module _ (marks base codes1 found1 codes2 found2 : List ℕ) where
     goodBy = tabulate (zeroOf (filled 0 (finalBy chainedBy) n)) 0 n
 
 -- own: reasons 1 to 8; sound: 1 without reasons 1 to 9; counts: 0 or reason 10
-module _ (own sound counts codes1 found1 codes2 found2 marks : List ℕ) (n : ℕ) where
+module _ (own sound counts codes1 found1 codes2 found2 kinds : List ℕ) (n : ℕ) where
   abbrev pub nextRows : List ℕ
   nextRows = filled noRow (λ i. nextOf sound (getD codes1 i 0) (getD found1 i noRow)) n
 
@@ -99,7 +116,12 @@ module _ (own sound counts codes1 found1 codes2 found2 marks : List ℕ) (n : �
       filled 0 (λ i. baseOf (getD own i 0) (getD sound i 0) (getD counts i 0) (getD (circlesOf nextRows n) i 0)) n
 
   abbrev pub goodRows : List ℕ
-  goodRows = sets (replicate 14336 0) 0 (goodBy marks baseRows codes1 found1 codes2 found2 nextRows n)
+  goodRows = sets (replicate 14336 0) 0 (goodBy kinds baseRows codes1 found1 codes2 found2 nextRows n)
 
-  unfoldable pub judgedCells : List ℕ
-  judgedCells = tabulate (finalBy marks baseRows codes1 found1 codes2 found2 goodRows) 0 n
+  unfoldable pub cellsBy : List ℕ
+  cellsBy = tabulate (finalBy kinds baseRows codes1 found1 codes2 found2 goodRows) 0 n
+
+-- the same by the conditions that rows meet
+unfoldable pub judgedCells : (own sound counts codes1 found1 codes2 found2 marks : List ℕ) → (n : ℕ) → List ℕ
+judgedCells own sound counts codes1 found1 codes2 found2 marks n =
+    cellsBy own sound counts codes1 found1 codes2 found2 (kindRows marks codes1 found1 codes2 found2 n) n

@@ -2,6 +2,7 @@
 use crate::base::base_rows;
 use crate::base::next_rows;
 use crate::base::zero_rows;
+use crate::kinds::kind_rows;
 use crate::names::final_rows;
 use crate::names::firm_rows;
 use chains::mark_circles;
@@ -10,9 +11,10 @@ ghost use mathlib.Core.Path.{_≡_};
 ghost use lib.ListN.{getD};
 ghost use lib.Seq.{sets};
 ghost use Rattle.laws.specs.Values.{tabulate};
-ghost use Rattle.judging.specs.Judged.{circlesOf, baseOf, goodBy, finalBy, judgedCells};
+ghost use Rattle.judging.specs.Judged.{circlesOf, baseOf, goodBy, finalBy, cellsBy, judgedCells};
 
 mod base;
+mod kinds;
 mod names;
 mod reads;
 
@@ -35,7 +37,7 @@ fn judge_bases(own: &[u16], sound: &[u8], counts: &[u16], next: &[u16], base: &m
 
 // Which of the first n rows are good, of those that no other names but rows which aren't named themselves.
 fn judge_good(
-    marks: &[u8],
+    kinds: &[u8],
     base: &[u16],
     codes1: &[u8],
     found1: &[u16],
@@ -45,7 +47,7 @@ fn judge_good(
     good: &mut [u8],
     n: usize,
 )
-    ensures { λ _. ⌜ now (good .exit) ≡ sets (now (good .entry)) 0 (goodBy (now (marks .entry)) (now (base .entry)) (now (codes1 .entry)) (now (found1 .entry)) (now (codes2 .entry)) (now (found2 .entry)) (now (next .entry)) n) ⌝ }
+    ensures { λ _. ⌜ now (good .exit) ≡ sets (now (good .entry)) 0 (goodBy (now (kinds .entry)) (now (base .entry)) (now (codes1 .entry)) (now (found1 .entry)) (now (codes2 .entry)) (now (found2 .entry)) (now (next .entry)) n) ⌝ }
 {
     let mut clean = [0u8; ROWS];
     let mut firm = [0u8; ROWS];
@@ -53,7 +55,7 @@ fn judge_good(
     let mut cells = [0u16; ROWS];
     zero_rows(base, &mut clean, n);
     firm_rows(
-        marks,
+        kinds,
         &clean,
         base,
         codes1,
@@ -66,7 +68,7 @@ fn judge_good(
     );
     mark_firm(next, &firm, &mut chained, LONGEST, n);
     final_rows(
-        marks,
+        kinds,
         &chained,
         base,
         codes1,
@@ -77,6 +79,50 @@ fn judge_good(
         n,
     );
     zero_rows(&cells, good, n);
+}
+
+// The verdicts of the first n rows by the kinds that rows are of, put to the cells.
+fn judge_kinds(
+    own: &[u16],
+    sound: &[u8],
+    counts: &[u16],
+    codes1: &[u8],
+    found1: &[u16],
+    codes2: &[u8],
+    found2: &[u16],
+    kinds: &[u8],
+    cells: &mut [u16],
+    n: usize,
+)
+    ensures { λ _. ⌜ now (cells .exit) ≡ sets (now (cells .entry)) 0 (cellsBy (now (own .entry)) (now (sound .entry)) (now (counts .entry)) (now (codes1 .entry)) (now (found1 .entry)) (now (codes2 .entry)) (now (found2 .entry)) (now (kinds .entry)) n) ⌝ }
+{
+    let mut next = [NO_ROW; ROWS];
+    let mut base = [0u16; ROWS];
+    let mut good = [0u8; ROWS];
+    next_rows(sound, codes1, found1, &mut next, n);
+    judge_bases(own, sound, counts, &next, &mut base, n);
+    judge_good(
+        kinds,
+        &base,
+        codes1,
+        found1,
+        codes2,
+        found2,
+        &next,
+        &mut good,
+        n,
+    );
+    final_rows(
+        kinds,
+        &good,
+        &base,
+        codes1,
+        found1,
+        codes2,
+        found2,
+        cells,
+        n,
+    );
 }
 
 // The verdicts of the first n rows, put to the cells. own: reasons 1 to 8; sound: 1 without reasons 1 to 9; counts: 0 or
@@ -95,30 +141,17 @@ pub fn judge_rows(
 )
     ensures { λ _. ⌜ now (cells .exit) ≡ sets (now (cells .entry)) 0 (judgedCells (now (own .entry)) (now (sound .entry)) (now (counts .entry)) (now (codes1 .entry)) (now (found1 .entry)) (now (codes2 .entry)) (now (found2 .entry)) (now (marks .entry)) n) ⌝ }
 {
-    let mut next = [NO_ROW; ROWS];
-    let mut base = [0u16; ROWS];
-    let mut good = [0u8; ROWS];
-    next_rows(sound, codes1, found1, &mut next, n);
-    judge_bases(own, sound, counts, &next, &mut base, n);
-    judge_good(
-        marks,
-        &base,
+    let mut kinds = [0u8; ROWS];
+    kind_rows(marks, codes1, found1, codes2, found2, &mut kinds, n);
+    judge_kinds(
+        own,
+        sound,
+        counts,
         codes1,
         found1,
         codes2,
         found2,
-        &next,
-        &mut good,
-        n,
-    );
-    final_rows(
-        marks,
-        &good,
-        &base,
-        codes1,
-        found1,
-        codes2,
-        found2,
+        &kinds,
         cells,
         n,
     );

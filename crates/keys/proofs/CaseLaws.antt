@@ -20,7 +20,7 @@ use Rattle.rows.specs.declared.letters.LimitValue.{LimitValue}
 use Rattle.rows.specs.declared.letters.LimitValue.the-variants as LV
 use Rattle.symbols.specs.declared.Symbol.{Symbol}
 use Rattle.verdicts.specs.Key.{Key, packet, structure}
-use Rattle.verdicts.specs.Facts.{Condition, Facts, Naming, factsOf, pidKeys, curtxKey, pcfFacts, ofEngineering}
+use Rattle.verdicts.specs.Facts.{Kind, Facts, Naming, factsOf, pidKeys, curtxKey, pcfFacts, ofEngineering}
 use Rattle.verdicts.specs.Entries.{readingOf, own, said, fine, bad}
 use Rattle.keys.specs.Keyed.{nameSymbol, curveSymbol, symbolOf}
 use Rattle.keys.specs.Manners.{manners, weight, sameManner, codeFrom, codeOf, marksOf}
@@ -41,8 +41,8 @@ module _ (r : PidRow) {yes : Bool} {s : Symbol} where
   pid-second No e f = rw e
 
 -- a naming that isn't chained
-abbrev pub unchained : ℕ → Key → Condition → Naming
-unchained column key condition = record { column = column; key = key; condition = condition; chained = false }
+abbrev pub unchained : ℕ → Key → Kind → Naming
+unchained column key kind = record { column = column; key = key; kind = kind; chained = false }
 
 -- two namings that may not be given
 module _ (m n : Naming) where

@@ -1,12 +1,13 @@
--- The marks of a row and the conditions that it meets.
+-- The marks of a row, the conditions that it meets, and the mark of a second row.
 use mathlib.Core.Path.{_≡_, refl, sym, ap, _∙_}
 use mathlib.Core.Bool.{Bool, true, false}
 use Prim.Native.Nat.{ℕ, _+_, _*_, _/_, _%_, _≤_}
 use native.Mathlib.Omega.{arith}
 use lib.Dec.{eqb}
+use borrow.Author.Tests.{eq-eqb, ne-eqb}
 use Rattle.laws.proofs.Cases.{cond-cases}
-use Rattle.verdicts.specs.Facts.{Condition, anyRow, raw, whole, numeric, calibrated}
-use Rattle.keys.specs.Manners.{bit, mark, weight, marksOf, metBy}
+use Rattle.verdicts.specs.Facts.{Condition, anyRow, raw, whole, numeric}
+use Rattle.keys.specs.Manners.{bit, mark, weight, mannerAt, marksOf, metBy, isSecond, withSecond}
 
 -- a mark is at most its weight
 pub mark-most : (met : Bool) {r : ℕ} (weight : ℕ) → r ≡ mark met weight → r ≤ weight
@@ -28,10 +29,10 @@ module _ (meets : Condition → Bool) where
   abbrev at : Condition → ℕ
   at c = bit (meets c)
 
-  bits : marksOf meets ≡ at anyRow + at raw * 2 + at whole * 4 + at numeric * 8 + at calibrated * 16
+  bits : marksOf meets ≡ at anyRow + at raw * 2 + at whole * 4 + at numeric * 8
   unfolding marksOf
   bits =
-      rw (mark-bit (meets anyRow) 1, mark-bit (meets raw) 2, mark-bit (meets whole) 4, mark-bit (meets numeric) 8, mark-bit (meets calibrated) 16)
+      rw (mark-bit (meets anyRow) 1, mark-bit (meets raw) 2, mark-bit (meets whole) 4, mark-bit (meets numeric) 8)
       (omega arith)
 
   -- the bit of a condition in the sum
@@ -41,11 +42,47 @@ module _ (meets : Condition → Bool) where
   bit-of raw = rw bits (omega (arith, bit-most (meets anyRow), bit-most (meets raw), bit-most (meets whole), bit-most (meets numeric)))
   bit-of whole = rw bits (omega (arith, bit-most (meets anyRow), bit-most (meets raw), bit-most (meets whole), bit-most (meets numeric)))
   bit-of numeric = rw bits (omega (arith, bit-most (meets anyRow), bit-most (meets raw), bit-most (meets whole), bit-most (meets numeric)))
-  bit-of calibrated =
-      rw bits
-      (omega (arith, bit-most (meets anyRow), bit-most (meets raw), bit-most (meets whole), bit-most (meets numeric), bit-most (meets calibrated)))
 
   -- a condition is met where its mark says so
   pub marked : (c : Condition) → meets c ≡ metBy (marksOf meets) (weight c)
   unfolding metBy
   marked c = sym (bit-back (meets c)) ∙ ap (λ (n : ℕ). eqb n 1) (sym (bit-of c))
+
+-- whether what a naming found is a second row, by the naming's column
+module _ (code marks column : ℕ) (is : column ≡ mannerAt code .column) where
+  pub second-column : column ≡ 12 → (b : Bool) → b ≡ metBy marks 1 → b ≡ isSecond code marks
+  unfolding isSecond weight
+  second-column h b met = rw (← is, eq-eqb column 12 h) met
+
+  pub second-other : (column ≡ 12 → ⊥) → false ≡ isSecond code marks
+  unfolding isSecond
+  second-other h = rw (← is, ne-eqb column 12 h)
+
+module _ (marks : ℕ) (t : Bool) where
+  pub second-yes : t ≡ true → marks % 16 + 16 ≡ withSecond marks t
+  unfolding withSecond
+  second-yes h = rw h
+
+  pub second-no : t ≡ false → marks % 16 ≡ withSecond marks t
+  unfolding withSecond
+  second-no h = rw h (omega arith)
+
+  -- the mark of a second row leaves the others
+  other-bits : (c : Condition) → (marks % 16 + bit t * 16) / weight c % 2 ≡ marks / weight c % 2
+  unfolding weight
+  other-bits anyRow = omega (arith, bit-most t)
+  other-bits raw = omega (arith, bit-most t)
+  other-bits whole = omega (arith, bit-most t)
+  other-bits numeric = omega (arith, bit-most t)
+
+  pub second-apart : (c : Condition) → metBy (withSecond marks t) (weight c) ≡ metBy marks (weight c)
+  unfolding metBy withSecond
+  second-apart c = rw (mark-bit t 16, other-bits c)
+
+  -- and tells of itself
+  last-bit : (marks % 16 + bit t * 16) / 16 % 2 ≡ bit t
+  last-bit = omega (arith, bit-most t)
+
+  pub second-told : metBy (withSecond marks t) 16 ≡ t
+  unfolding metBy withSecond
+  second-told = rw (mark-bit t 16, last-bit) (bit-back t)

@@ -21,7 +21,7 @@ use Rattle.rows.specs.declared.letters.Valid.the-variants.{Yes, No}
 use Rattle.rows.specs.declared.letters.Category.{Category}
 use Rattle.rows.specs.declared.letters.Category.the-variants.{Numeric, Status, Text}
 use Rattle.verdicts.specs.Key.{packet, parameter, limits, check}
-use Rattle.verdicts.specs.Facts.{Facts, anyRow, whole, numeric, calibrated, pidKeys, curtxKey, factsOf}
+use Rattle.verdicts.specs.Facts.{anyRow, whole, numeric, itself, through, Facts, pidKeys, curtxKey, factsOf}
 use Rattle.verdicts.specs.Facts.{pidFacts, picFacts, plfFacts, pcfFacts, cafFacts, capFacts, txfFacts, txpFacts, ocfFacts, ocpFacts}
 use Rattle.verdicts.specs.Entries.{readingOf, said, fine, bad}
 use Rattle.keys.specs.Keyed.{nameSymbol, curveSymbol, symbolOf, ranks, rank}
@@ -38,7 +38,7 @@ pid-keys No r h = tt
 
 -- the VALID chain goes from parameter to parameter
 pcf-valid : (r : PcfRow) → NameBounded (r .valid .name)
-    → Listed (parameter (r .name) ∷ []) (record { column = 8; key = parameter (r .valid .name); condition = whole; chained = true })
+    → Listed (parameter (r .name) ∷ []) (record { column = 8; key = parameter (r .valid .name); kind = itself whole; chained = true })
 unfolding Bounded symbolOf nameSymbol manners mannerAt weight sameManner codeFrom codeOf
 pcf-valid r h =
     record {
@@ -49,7 +49,7 @@ pcf-valid r h =
     }
 
 pcf-curtx : (g : Category) (r : PcfRow) → CurveBounded (r .curtx .name)
-    → Listed (parameter (r .name) ∷ []) (unchained 12 (curtxKey g (r .curtx)) anyRow)
+    → Listed (parameter (r .name) ∷ []) (unchained 12 (curtxKey g (r .curtx)) (itself anyRow))
 unfolding Bounded symbolOf nameSymbol curveSymbol ranks rank manners mannerAt weight sameManner codeFrom codeOf
 pcf-curtx Numeric r h = listed _ _ h (omega arith) refl refl refl
 pcf-curtx Status r h = listed _ _ h (omega arith) refl refl refl
@@ -92,7 +92,7 @@ module _ (line : List ℕ) (h : (i : ℕ) → getD line i 0 < 256) where
       record {
         keys = name-at 0;
         names =
-            under-c (limits n ∷ []) (unchained 1 (parameter n) numeric) (unchained 4 (parameter n) calibrated)
+            under-c (limits n ∷ []) (unchained 1 (parameter n) (itself numeric)) (unchained 4 (parameter n) (through 12 anyRow))
             (listed _ _ (name-at 0) (omega arith) refl refl refl)
             (listed _ _ (name-at 0) (omega arith) refl refl refl)
             refl
@@ -105,7 +105,8 @@ module _ (line : List ℕ) (h : (i : ℕ) → getD line i 0 < 256) where
       record {
         keys = name-at 0;
         names =
-            second-given (check (r .name) (r .pos) ∷ []) (unchained 1 (limits (r .name)) anyRow) (unchained 6 (parameter (r .rlchk .name)) whole)
+            second-given (check (r .name) (r .pos) ∷ [])
+            (unchained 1 (limits (r .name)) (itself anyRow)) (unchained 6 (parameter (r .rlchk .name)) (itself whole))
             (listed _ _ (name-at 0) (omega arith) refl refl refl)
             (listed _ _ (name-at 5) (omega arith) refl refl refl)
             refl

@@ -1,14 +1,21 @@
-// The manners of naming by their code, the conditions that they ask of the named row, and the ranks of key spaces.
+// The manners of naming by their code, the kinds of rows that they ask for, and the ranks of key spaces.
 ghost use mathlib.Core.Path.{_≡_};
 ghost use lib.ListN.{getD};
 ghost use Rattle.keys.specs.Keyed.{rank};
-ghost use Rattle.keys.specs.Manners.{mannerAt, weight, metBy};
+ghost use Rattle.keys.specs.Manners.{mannerAt, kindWeight, metBy, isSecond, withSecond};
 
 const COLUMNS: [u8; 9] = [0, 1, 2, 8, 12, 1, 1, 4, 6];
 
-const CONDITIONS: [u8; 9] = [1, 2, 1, 4, 1, 1, 8, 16, 4];
+const KINDS: [u8; 9] = [1, 2, 1, 4, 1, 1, 8, 16, 4];
 
 const CHAINED: [u8; 9] = [0, 0, 0, 1, 0, 0, 0, 0, 0];
+
+// The second row that is asked about: the column that names it, the weight of the condition on it, and that of having one.
+const SECOND_COLUMN: u8 = 12;
+
+const SECOND_CONDITION: u8 = 1;
+
+const SECOND: u8 = 16;
 
 const RANKS: [u8; 11] = [0, 0, 0, 2, 1, 0, 2, 0, 2, 2, 3];
 
@@ -29,11 +36,11 @@ pub fn naming_column(code: u8) -> u8
     at_or(&COLUMNS, code as u64, 0)
 }
 
-// The weight of the condition on the named row.
-pub fn naming_condition(code: u8) -> u8
-    ensures { λ r. ⌜ r ≡ weight (mannerAt code .condition) ⌝ }
+// The weight of the kind of row that it asks for.
+pub fn naming_kind(code: u8) -> u8
+    ensures { λ r. ⌜ r ≡ kindWeight (mannerAt code .kind) ⌝ }
 {
-    at_or(&CONDITIONS, code as u64, 1)
+    at_or(&KINDS, code as u64, 1)
 }
 
 // Whether the VALID chain goes through it.
@@ -43,14 +50,34 @@ pub fn naming_chained(code: u8) -> bool
     at_or(&CHAINED, code as u64, 0) == 1
 }
 
-// Whether a row with these marks meets the condition of a weight.
-pub fn meets(marks: u8, condition: u8) -> bool
-    ensures { λ r. ⌜ r ≡ metBy marks condition ⌝ }
+// Whether a row with these marks meets the condition, or is of the kind, of a weight.
+pub fn meets(marks: u8, weight: u8) -> bool
+    ensures { λ r. ⌜ r ≡ metBy marks weight ⌝ }
 {
-    if condition == 0 {
+    if weight == 0 {
         return false;
     }
-    marks / condition % 2 == 1
+    marks / weight % 2 == 1
+}
+
+// Whether what a naming found, a row with these marks, is the second row that is asked about.
+pub fn is_second(code: u8, marks: u8) -> bool
+    ensures { λ r. ⌜ r ≡ isSecond code marks ⌝ }
+{
+    if naming_column(code) == SECOND_COLUMN {
+        return meets(marks, SECOND_CONDITION);
+    }
+    false
+}
+
+// The marks of a row, with that of a second row or without.
+pub fn with_second(marks: u8, second: bool) -> u8
+    ensures { λ r. ⌜ r ≡ withSecond marks second ⌝ }
+{
+    if second {
+        return marks % SECOND + SECOND;
+    }
+    marks % SECOND
 }
 
 // But for the VALID chain, what a row names has a lower rank than the keys that it holds.

@@ -50,6 +50,5 @@ pub(crate) fn pcf_marks(row: PcfRow) -> u8
     let raw = mark(is_raw(row), 2);
     let whole = mark(is_whole(row.ptc), 4);
     let numeric = mark(is_numeric(row), 8);
-    let calibrated = mark(row.curtx.given, 16);
-    1 + raw + whole + numeric + calibrated
+    1 + raw + whole + numeric
 }

@@ -15,9 +15,9 @@ use Rattle.laws.proofs.Count.{any-none, any-one, any-which}
 use Rattle.laws.proofs.Places.{any-places, keep-all, all-none, all-one}
 use Rattle.verdicts.specs.Key.{Key}
 use Rattle.verdicts.specs.Facts.{Naming}
-use Rattle.verdicts.specs.Entries.{Entry, own, facts}
+use Rattle.verdicts.specs.Entries.{Entry, own}
 use Rattle.verdicts.specs.Steps.{holds}
-use Rattle.verdicts.specs.Verdicts.{shared, sound, follows, next, asked}
+use Rattle.verdicts.specs.Verdicts.{shared, sound, follows, next, ofKind, asked}
 use Rattle.meaning.specs.Kept.{noEntry, rowAt}
 use Rattle.meaning.specs.Found.{Finds}
 use Rattle.meaning.proofs.TestLaws.{same-test}
@@ -100,6 +100,6 @@ module _ (rows : List Entry) (k : Key) where
 -- THE LAW OF NAMES: a naming is met just where the row found is of the kind asked and good
 pub asked-law : (rows : List Entry) (m : Naming) (good : Entry → Bool) → ((o : Entry) → good o ≡ true → sound rows o ≡ true)
     → (found : ℕ) → Finds rows (m .key) found
-    → any good (asked rows m) ≡ (ltb 0 found && (facts (rowAt rows (found - 1)) .meets (m .condition) && good (rowAt rows (found - 1))))
+    → any good (asked rows m) ≡ (ltb 0 found && (ofKind rows (m .kind) (rowAt rows (found - 1)) && good (rowAt rows (found - 1))))
 unfolding asked
-asked-law rows m good lone found w = held-any rows (m .key) (λ o. facts o .meets (m .condition)) good lone found w
+asked-law rows m good lone found w = held-any rows (m .key) (ofKind rows (m .kind)) good lone found w

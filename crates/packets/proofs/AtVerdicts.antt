@@ -22,10 +22,10 @@ use Rattle.fields.specs.Width.{widthOf}
 use Rattle.formed.specs.Formed.{formed}
 use Rattle.rows.specs.declared.letters.Nature.the-variants.{Raw}
 use Rattle.verdicts.specs.Key.{Key, location, parameter, sameKey}
-use Rattle.verdicts.specs.Facts.{Naming, Facts, raw, factsOf, plfFacts}
+use Rattle.verdicts.specs.Facts.{raw, Kind, itself, Naming, Facts, factsOf, plfFacts}
 use Rattle.verdicts.specs.Entries.{Entry, own, facts, readingOf, carried, allRows}
 use Rattle.verdicts.specs.Steps.{holds}
-use Rattle.verdicts.specs.Verdicts.{sound, verdict, verdicts}
+use Rattle.verdicts.specs.Verdicts.{sound, ofKind, verdict, verdicts}
 use Rattle.verdicts.specs.Good.{Meets, Good}
 use Rattle.verdicts.specs.Places.{textAt, noLine, IsRow, entryAt, verdictAt, rowsBefore, place}
 use Rattle.verdicts.proofs.EntryLaws.{own-reading, place-there, row-in, row-of}
@@ -241,8 +241,8 @@ module _ (texts : List (List ℕ)) (name : Name) where
       in
       by-pcf n (subst (λ (u : ℕ). Asked texts name u n) (only-pcf t (a .is .table) name line k) a)
 
-  by-met : (n : Naming) (o : Entry) → n .key ≡ parameter name → n .condition ≡ raw → Meets (allRows texts) n o → Described texts name
-  unfolding verdictAt
+  by-met : (n : Naming) (o : Entry) → n .key ≡ parameter name → n .kind ≡ itself raw → Meets (allRows texts) n o → Described texts name
+  unfolding verdictAt ofKind
   by-met n o k c m =
       let w = row-of texts o (m .there) in
       by-asked (o .table) (o .row)
@@ -250,12 +250,12 @@ module _ (texts : List (List ℕ)) (name : Name) where
         is = w .0;
         verdict = ap (verdict (allRows texts)) (sym (w .1)) ∙ m .good;
         held = ap (λ (e : Entry). holds e (parameter name)) (sym (w .1)) ∙ ap (holds o) (sym k) ∙ m .held;
-        kind = ap (λ (e : Entry). facts e .meets raw) (sym (w .1)) ∙ ap (facts o .meets) (sym c) ∙ m .kind;
+        kind = ap (λ (e : Entry). facts e .meets raw) (sym (w .1)) ∙ ap (λ (x : Kind). ofKind (allRows texts) x o) (sym c) ∙ m .kind;
       })
 
 -- the first column of a plf row. 01: "NAME names a pcf row with NATUR R"
 abbrev nameIn : List ℕ → Naming
-nameIn line = record { column = 1; key = parameter (plfRow line .name); condition = raw; chained = false }
+nameIn line = record { column = 1; key = parameter (plfRow line .name); kind = itself raw; chained = false }
 
 names-first : (line : List ℕ) → List·Memᴰ (nameIn line) (factsOf Plf line .names)
 unfolding factsOf plfFacts

@@ -14,7 +14,7 @@ use Rattle.laws.proofs.Tests.{any-mem, any-witness, any-keep, keep-mem}
 use Rattle.verdicts.specs.Facts.{Naming}
 use Rattle.verdicts.specs.Entries.{Entry, own, facts}
 use Rattle.verdicts.specs.Steps.{holds}
-use Rattle.verdicts.specs.Verdicts.{shared, sound, countCell, circle, asked, nameCell, judge, verdict}
+use Rattle.verdicts.specs.Verdicts.{shared, sound, countCell, circle, ofKind, asked, nameCell, judge, verdict}
 use Rattle.verdicts.specs.Good.{Meets, Good}
 use Rattle.verdicts.proofs.VerdictLaw.{verdict-law}
 
@@ -28,14 +28,14 @@ module _ (rows : List Entry) where
   unfolding nameCell asked
   name-met n z =
       let w = any-witness isGood (asked rows n) (unless-zero _ (2816 + n .column) (omega arith) z) in
-      let i = keep-mem (λ o. holds o (n .key) && facts o .meets (n .condition)) rows (w .1) in
+      let i = keep-mem (λ o. holds o (n .key) && ofKind rows (n .kind) o) rows (w .1) in
       (w .0, record { there = i .0; held = and-left _ _ (i .1); kind = and-right (holds (w .0) (n .key)) _ (i .1); good = eqb-true _ _ (w .2) })
 
   -- and the other way round
   pub met-name : (n : Naming) (o : Entry) → Meets rows n o → nameCell rows isGood n ≡ 0
   unfolding nameCell asked
   met-name n o m =
-      let f : Entry → Bool = λ o. holds o (n .key) && facts o .meets (n .condition) in
+      let f : Entry → Bool = λ o. holds o (n .key) && ofKind rows (n .kind) o in
       rw (any-keep f isGood rows, any-mem (λ o. f o && isGood o) (m .there) (rw (m .held, m .kind, eq-eqb _ _ (m .good))))
 
   module _ (e : Entry) where

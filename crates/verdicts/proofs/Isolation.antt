@@ -8,11 +8,12 @@ use lib.ListN.{length}
 use Rattle.laws.specs.Lists.{any, keep, nonempty}
 use Rattle.laws.proofs.Cases.{bool-cases, false≢true, false-of, and-left}
 use Rattle.laws.proofs.Tests.{any-same, map-same, keep-mem}
-use Rattle.verdicts.specs.Facts.{Naming, Count}
+use Rattle.verdicts.specs.Facts.{Kind, itself, through, Naming, Count}
 use Rattle.verdicts.specs.Entries.{Entry, facts}
-use Rattle.verdicts.specs.Steps.{twin, holds, belongs, rivals, step, Reach, one, more}
-use Rattle.verdicts.specs.Verdicts.{shared, sound, tally, countCell, follows, next, leads, circle, asked, nameCell, judge, within, verdict}
-use Rattle.verdicts.proofs.StepLaws.{rival-step, name-step, count-step, chain-step}
+use Rattle.verdicts.specs.Steps.{twin, holds, belongs, rivals, namesAt, step, Reach, one, more}
+use Rattle.verdicts.specs.Verdicts.{shared, sound, tally, countCell, follows, next, leads, circle}
+use Rattle.verdicts.specs.Verdicts.{ofKind, asked, nameCell, judge, within, verdict}
+use Rattle.verdicts.proofs.StepLaws.{rival-step, name-step, count-step, chain-step, column-step}
 
 -- the same rows in the same order, but where a row that is Out stood one that is In may stand
 pub data Like (Out In : Entry → Type 0) : List Entry → List Entry → Type 0 where
@@ -115,16 +116,25 @@ module _ (Out In : Entry → Type 0) (l l′ : List Entry) (alike : Like Out In 
   unfolding circle
   circle-same e s = rw (← like-length alike) (leads-same (length l) e e s)
 
+  -- and is of a kind alike: a second row is one step away from it
+  kind-same : (k : Kind) (o : Entry) → Safe o → ofKind l k o ≡ ofKind l′ k o
+  unfolding ofKind
+  kind-same (itself c) o s = refl
+  kind-same (through column c) o s =
+      rw (kept o s (namesAt column o) (namesAt column o) (column-step column o) (column-step column o) (λ q _. refl))
+
   -- where before and after the same safe rows are good
   module _ (good good′ : Entry → Bool) (h : (o : Entry) → Safe o → good o ≡ good′ o) (e : Entry) (s : Safe e) where
     name-same : (n : Naming) → List·Memᴰ n (facts e .names) → nameCell l good n ≡ nameCell l′ good′ n
     unfolding nameCell asked
     name-same n m =
-        let f : Entry → Bool = λ o. holds o (n .key) && facts o .meets (n .condition) in
+        let f : Entry → Bool = λ o. holds o (n .key) && ofKind l (n .kind) o in
+        let g : Entry → Bool = λ o. holds o (n .key) && ofKind l′ (n .kind) o in
         let hf : (o : Entry) → f o ≡ true → step e o ≡ true = λ o t. name-step e o n m (and-left _ _ t) in
-        let q : keep f l ≡ keep f l′ = kept e s f f hf hf (λ o _. refl) in
+        let hg : (o : Entry) → g o ≡ true → step e o ≡ true = λ o t. name-step e o n m (and-left _ _ t) in
+        let q : keep f l ≡ keep g l′ = kept e s f g hf hg (λ o s′. rw (kind-same (n .kind) o s′)) in
         ap (λ (b : Bool). cond b 0 (2816 + n .column))
-        (any-same good good′ (keep f l) (λ o i. h o (kept-safe e s f f hf q o i)) ∙ ap (any good′) q)
+        (any-same good good′ (keep f l) (λ o i. h o (kept-safe e s f g hf q o i)) ∙ ap (any good′) q)
 
     judge-same : judge l good e ≡ judge l′ good′ e
     unfolding judge

@@ -5,6 +5,7 @@ pub mod CircleLaw
 pub mod EntryLaws
 pub mod SoundLaws
 pub mod GoodLaw
+pub mod KindLaws
 pub mod CellLaws
 pub mod Isolation
 pub mod EditLaws

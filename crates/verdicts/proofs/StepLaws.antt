@@ -3,12 +3,13 @@ use mathlib.Core.Path.{_≡_, sym, _∙_}
 use mathlib.Core.Bool.{true, false, _&&_, _||_}
 use mathlib.Core.List.{List, List·Memᴰ}
 use Prim.Native.Nat.{ℕ}
-use Rattle.laws.proofs.Cases.{false≢true, and-left, or-left, or-right, and-false}
+use lib.Dec.{eqb}
+use Rattle.laws.proofs.Cases.{false≢true, and-left, and-right, or-left, or-right, and-false}
 use Rattle.laws.proofs.Tests.{any-mem, any-witness, any-never}
 use Rattle.verdicts.specs.Key.{Key}
 use Rattle.verdicts.specs.Facts.{Naming, Count}
 use Rattle.verdicts.specs.Entries.{Entry, bad, facts}
-use Rattle.verdicts.specs.Steps.{holds, belongs, rivals, names, counts, step, Reach, one, more}
+use Rattle.verdicts.specs.Steps.{holds, belongs, rivals, names, namesAt, counts, step, Reach, one, more}
 use Rattle.verdicts.specs.Verdicts.{follows}
 
 -- to another row that holds one of its keys
@@ -32,6 +33,13 @@ unfolding follows
 chain-step e o t =
     let w = any-witness (λ n. holds o (n .key) && n .chained) (facts e .names) t in
     name-step e o (w .0) (w .1) (and-left _ _ (w .2))
+
+-- to a row that one of its columns names
+pub column-step : (column : ℕ) (e o : Entry) → namesAt column e o ≡ true → step e o ≡ true
+unfolding namesAt
+column-step column e o t =
+    let w = any-witness (λ n. eqb (n .column) column && holds o (n .key)) (facts e .names) t in
+    name-step e o (w .0) (w .1) (and-right (eqb (w .0 .column) column) _ (w .2))
 
 -- a row with one of reasons 1 to 8 holds no key
 pub bad-holds : (o : Entry) (v : ℕ) → o .reading ≡ bad v → (k : Key) → holds o k ≡ false

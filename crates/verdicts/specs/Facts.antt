@@ -28,7 +28,7 @@ use Rattle.rows.specs.declared.letters.LimitValue.{LimitValue}
 use Rattle.rows.specs.declared.letters.LimitValue.the-variants as LV
 use Rattle.verdicts.specs.Key.{Key, packet, structure, identification, location, parameter, curve, point, texts, range, limits, check}
 
--- what is asked of a named row beside being there and good
+-- what a row says of itself to those that name it
 pub data Condition : Type 0 where
   -- nothing more
   anyRow : Condition
@@ -38,14 +38,19 @@ pub data Condition : Type 0 where
   whole : Condition
   -- 01: "a pcf row of PTC 1–4, CATEG N"
   numeric : Condition
-  -- 01: "C needs CURTX in that pcf row"
-  calibrated : Condition
 
--- a column that names a row: the key it names and the condition. Through a column of the VALID chain circles are sought
+-- what is asked of a named row beside being there and good. 01: "of the kind asked"
+pub data Kind : Type 0 where
+  -- the row itself meets a condition
+  itself : Condition → Kind
+  -- what its own column names meets a condition, as in 01: "C needs CURTX in that pcf row"
+  through : (column : ℕ) → Condition → Kind
+
+-- a column that names a row: the key it names and the kind it asks for. Through a column of the VALID chain circles are sought
 pub record Naming : Type 0 where
   pub column : ℕ
   pub key : Key
-  pub condition : Condition
+  pub kind : Kind
   pub chained : Bool
 
 -- a column that gives the number of rows in a group; a group goes by the key of the row that counts it
@@ -65,12 +70,12 @@ pub record Facts : Type 0 where
   -- the conditions that it meets
   pub meets : Condition → Bool
 
-abbrev plainly : Condition → Bool
+-- of a row of which nothing more can be asked
+abbrev pub plainly : Condition → Bool
 plainly anyRow = true
 plainly raw = false
 plainly whole = false
 plainly numeric = false
-plainly calibrated = false
 
 -- a name in a column that may be empty
 abbrev when : Bool → Naming → List Naming
@@ -93,8 +98,8 @@ plfFacts r =
     record {
       keys = location (r .name) (r .spid .0) ∷ [];
       names =
-          record { column = 1; key = parameter (r .name); condition = raw; chained = false }
-          ∷ record { column = 2; key = structure (r .spid .0); condition = anyRow; chained = false } ∷ [];
+          record { column = 1; key = parameter (r .name); kind = itself raw; chained = false }
+          ∷ record { column = 2; key = structure (r .spid .0); kind = itself anyRow; chained = false } ∷ [];
       counts = [];
       groups = [];
       meets = plainly;
@@ -118,7 +123,6 @@ pcfMeets r anyRow = true
 pcfMeets r raw = isRaw (r .natur)
 pcfMeets r whole = isWhole (r .ptc)
 pcfMeets r numeric = isWhole (r .ptc) && isNumeric (r .categ)
-pcfMeets r calibrated = r .curtx .given
 
 -- 01: "S needs CURTX, naming a txf row; N may name a caf row"; T has none
 abbrev pub curtxKey : Category → OptionalCurve → Key
@@ -132,8 +136,8 @@ pcfFacts r =
     record {
       keys = parameter (r .name) ∷ [];
       names =
-          when (r .valid .given) (record { column = 8; key = parameter (r .valid .name); condition = whole; chained = true })
-          ++ when (r .curtx .given) (record { column = 12; key = curtxKey (r .categ) (r .curtx); condition = anyRow; chained = false });
+          when (r .valid .given) (record { column = 8; key = parameter (r .valid .name); kind = itself whole; chained = true })
+          ++ when (r .curtx .given) (record { column = 12; key = curtxKey (r .categ) (r .curtx); kind = itself anyRow; chained = false });
       counts = [];
       groups = [];
       meets = pcfMeets r;
@@ -155,7 +159,7 @@ unfoldable pub capFacts : CapRow → Facts
 capFacts r =
     record {
       keys = point (r .numbr) (r .xvals) ∷ [];
-      names = record { column = 1; key = curve (r .numbr); condition = anyRow; chained = false } ∷ [];
+      names = record { column = 1; key = curve (r .numbr); kind = itself anyRow; chained = false } ∷ [];
       counts = [];
       groups = curve (r .numbr) ∷ [];
       meets = plainly;
@@ -177,7 +181,7 @@ unfoldable pub txpFacts : TxpRow → Facts
 txpFacts r =
     record {
       keys = range (r .numbr) (r .from) ∷ [];
-      names = record { column = 1; key = texts (r .numbr); condition = anyRow; chained = false } ∷ [];
+      names = record { column = 1; key = texts (r .numbr); kind = itself anyRow; chained = false } ∷ [];
       counts = [];
       groups = texts (r .numbr) ∷ [];
       meets = plainly;
@@ -194,8 +198,8 @@ ocfFacts r =
     record {
       keys = limits (r .name) ∷ [];
       names =
-          record { column = 1; key = parameter (r .name); condition = numeric; chained = false }
-          ∷ ofEngineering (r .inter) (record { column = 4; key = parameter (r .name); condition = calibrated; chained = false });
+          record { column = 1; key = parameter (r .name); kind = itself numeric; chained = false }
+          ∷ ofEngineering (r .inter) (record { column = 4; key = parameter (r .name); kind = through 12 anyRow; chained = false });
       counts = record { column = 3; number = r .nbool; group = limits (r .name) } ∷ [];
       groups = [];
       meets = plainly;
@@ -207,8 +211,8 @@ ocpFacts r =
     record {
       keys = check (r .name) (r .pos) ∷ [];
       names =
-          record { column = 1; key = limits (r .name); condition = anyRow; chained = false }
-          ∷ when (r .rlchk .given) (record { column = 6; key = parameter (r .rlchk .name); condition = whole; chained = false });
+          record { column = 1; key = limits (r .name); kind = itself anyRow; chained = false }
+          ∷ when (r .rlchk .given) (record { column = 6; key = parameter (r .rlchk .name); kind = itself whole; chained = false });
       counts = [];
       groups = limits (r .name) ∷ [];
       meets = plainly;

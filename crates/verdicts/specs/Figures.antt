@@ -15,11 +15,12 @@ use Rattle.rows.specs.Values.{naturalFrom, naturalOr, integerFrom, integerOr, l
 use Rattle.rows.specs.Records.{column, cafRow, capRow}
 use Rattle.formed.specs.Contradictions.{isReal, cafContradiction, contradiction}
 use Rattle.formed.specs.Formed.{orContradiction, formed}
-use Rattle.verdicts.specs.Key.{curve, parameter, keyWords, sameKey}
-use Rattle.verdicts.specs.Facts.{Naming, anyRow, whole, factsOf, cafFacts, capFacts}
+use Rattle.verdicts.specs.Key.{curve, parameter, limits, keyWords, sameKey}
+use Rattle.verdicts.specs.Facts.{anyRow, whole, Kind, itself, through, Naming, plainly, factsOf, cafFacts, capFacts}
 use Rattle.verdicts.specs.Entries.{Entry, bad, fine, readingOf, entriesOf, entriesFrom, allRows}
-use Rattle.verdicts.specs.Steps.{twin, holds, belongs, rivals}
-use Rattle.verdicts.specs.Verdicts.{shared, sound, tally, countCell, follows, next, leads, circle, asked, nameCell, judge, within, verdict, verdicts}
+use Rattle.verdicts.specs.Steps.{twin, holds, belongs, rivals, namesAt}
+use Rattle.verdicts.specs.Verdicts.{shared, sound, tally, countCell, follows, next, leads, circle}
+use Rattle.verdicts.specs.Verdicts.{ofKind, asked, nameCell, judge, within, verdict, verdicts}
 use Rattle.verdicts.specs.Answer.{taken, refused, firstTable, tooLong, tooManyRows, zeros, importOf}
 
 -- a row by its columns
@@ -52,7 +53,7 @@ unfolding
     digitOf digitOn after spelt meaning numberOf columnsFrom columnsOf onFirst lead linesOf nameOf curveNameOf sameBytes
     caf cap schema printable allowed foreignIn isIn listed numberReason kindReason columnReason firstReason shape naturalFrom naturalOr integerFrom integerOr letterOf formatOf offEndsOf
     column cafRow capRow isReal cafContradiction contradiction orContradiction formed keyWords sameKey factsOf cafFacts capFacts readingOf entriesOf entriesFrom allRows
-    twin holds belongs rivals shared sound tally countCell follows next leads circle asked nameCell judge within verdict verdicts
+    twin holds belongs rivals shared sound tally countCell follows next leads circle namesAt ofKind asked nameCell judge within verdict verdicts
     firstTable tooLong tooManyRows zeros importOf
 fromBytes = record { miscounted = refl; answered = refl; counted = refl; noRoom = refl }
 
@@ -64,14 +65,44 @@ pcfRow r name named =
     record { table = 3; row = r; reading = fine (record { keys = parameter (nameOf (ascii name)) ∷ []; names = named; counts = []; groups = []; meets = λ c. true }) }
 
 abbrev valid : String → Naming
-valid name = record { column = 8; key = parameter (nameOf (ascii name)); condition = whole; chained = true }
+valid name = record { column = 8; key = parameter (nameOf (ascii name)); kind = itself whole; chained = true }
 
 abbrev curtx : String → Naming
-curtx name = record { column = 12; key = curve (curveNameOf (ascii name)); condition = anyRow; chained = false }
+curtx name = record { column = 12; key = curve (curveNameOf (ascii name)); kind = itself anyRow; chained = false }
 
 -- a pcf row that meets no condition
 abbrev odd : ℕ → String → Entry
 odd r name = record { table = 3; row = r; reading = fine (record { keys = parameter (nameOf (ascii name)) ∷ []; names = []; counts = []; groups = []; meets = λ c. false }) }
+
+-- a caf row that meets anyRow alone
+abbrev curveRow : String → Entry
+curveRow name =
+    record {
+      table = 4;
+      row = 1;
+      reading = fine (record {
+        keys = curve (curveNameOf (ascii name)) ∷ [];
+        names = [];
+        counts = [];
+        groups = [];
+        meets = plainly;
+      });
+    }
+
+-- an ocf row that asks at column 4 for a parameter of this kind
+abbrev limitOn : String → Kind → Entry
+limitOn name k =
+    record {
+      table = 8;
+      row = 1;
+      reading = fine (record {
+        keys = limits (nameOf (ascii name)) ∷ [];
+        names = record { column = 4; key = parameter (nameOf (ascii name)); kind = k; chained = false } ∷ [];
+        counts = [];
+        groups = [];
+        meets = plainly;
+      });
+    }
 
 abbrev cellsOf : List Entry → List ℕ
 cellsOf rows = map (verdict rows) rows
@@ -81,11 +112,17 @@ pub record FromFacts : Type 0 where
   pub circleOfThree : cellsOf (pcfRow 1 "A" (valid "B" ∷ []) ∷ pcfRow 2 "B" (valid "C" ∷ curtx "K" ∷ []) ∷ pcfRow 3 "C" (valid "A" ∷ [])
       ∷ pcfRow 4 "D" (valid "A" ∷ []) ∷ []) ≡ 3080 ∷ 3080 ∷ 3080 ∷ 2824 ∷ []
   -- one that names itself is on a circle
-  pub itself : cellsOf (pcfRow 1 "A" (valid "A" ∷ []) ∷ []) ≡ 3080 ∷ []
+  pub onItself : cellsOf (pcfRow 1 "A" (valid "A" ∷ []) ∷ []) ≡ 3080 ∷ []
   -- two that hold a key: both 9, and what would be a circle through them is cut; one that names them: 11
   pub twoHolders : cellsOf (pcfRow 1 "A" (valid "B" ∷ []) ∷ pcfRow 2 "B" (valid "A" ∷ []) ∷ pcfRow 3 "B" [] ∷ []) ≡ 2824 ∷ 2304 ∷ 2304 ∷ []
   -- the named row is there and good, but not of the kind asked
   pub otherKind : cellsOf (pcfRow 1 "A" (valid "B" ∷ []) ∷ odd 2 "B" ∷ []) ≡ 2824 ∷ 0 ∷ []
+  -- 01: "C needs CURTX in that pcf row": it names a row; it names none; and a good VALID is no CURTX
+  pub secondRow : cellsOf (limitOn "A" (through 12 anyRow) ∷ pcfRow 1 "A" (curtx "K" ∷ []) ∷ curveRow "K" ∷ []) ≡ 0 ∷ 0 ∷ 0 ∷ []
+  pub noSecondRow : cellsOf (limitOn "A" (through 12 anyRow) ∷ pcfRow 1 "A" [] ∷ curveRow "K" ∷ []) ≡ 2820 ∷ 0 ∷ 0 ∷ []
+  pub otherColumn : cellsOf (limitOn "A" (through 12 anyRow) ∷ pcfRow 1 "A" (valid "B" ∷ []) ∷ pcfRow 2 "B" [] ∷ []) ≡ 2820 ∷ 0 ∷ 0 ∷ []
+  -- the second row is there and good, but doesn't meet the condition, which the first does
+  pub otherSecond : cellsOf (limitOn "A" (through 12 whole) ∷ pcfRow 1 "A" (curtx "K" ∷ []) ∷ curveRow "K" ∷ []) ≡ 2820 ∷ 0 ∷ 0 ∷ []
   -- of two names the lowest column decides
   pub lowestColumn : cellsOf (pcfRow 1 "A" (valid "B" ∷ curtx "K" ∷ []) ∷ []) ≡ 2824 ∷ []
   -- a row with one of reasons 1 to 8 holds nothing
@@ -94,5 +131,17 @@ pub record FromFacts : Type 0 where
 pub fromFacts : FromFacts
 unfolding
     nameOf curveNameOf sameBytes keyWords sameKey
-    twin holds belongs rivals shared sound tally countCell follows next leads circle asked nameCell judge within verdict
-fromFacts = record { circleOfThree = refl; itself = refl; twoHolders = refl; otherKind = refl; lowestColumn = refl; badHoldsNothing = refl }
+    twin holds belongs rivals shared sound tally countCell follows next leads circle namesAt ofKind asked nameCell judge within verdict
+fromFacts =
+    record {
+      circleOfThree = refl;
+      onItself = refl;
+      twoHolders = refl;
+      otherKind = refl;
+      secondRow = refl;
+      noSecondRow = refl;
+      otherColumn = refl;
+      otherSecond = refl;
+      lowestColumn = refl;
+      badHoldsNothing = refl;
+    }

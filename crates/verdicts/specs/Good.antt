@@ -5,7 +5,7 @@ use mathlib.Core.List.{List, List·Memᴰ}
 use Rattle.verdicts.specs.Facts.{Naming, Count}
 use Rattle.verdicts.specs.Entries.{Entry, facts}
 use Rattle.verdicts.specs.Steps.{twin, holds}
-use Rattle.verdicts.specs.Verdicts.{sound, tally, next, circle, verdict}
+use Rattle.verdicts.specs.Verdicts.{sound, tally, next, circle, ofKind, verdict}
 
 -- one or more steps of a VALID chain from e to the row z, each to a row without reasons 1 to 9
 pub data Chain (rows : List Entry) (z : Entry) : Entry → Type 0 where
@@ -16,7 +16,7 @@ pub data Chain (rows : List Entry) (z : Entry) : Entry → Type 0 where
 pub record Meets (rows : List Entry) (n : Naming) (o : Entry) : Type 0 where
   pub there : List·Memᴰ o rows
   pub held : holds o (n .key) ≡ true
-  pub kind : facts o .meets (n .condition) ≡ true
+  pub kind : ofKind rows (n .kind) o ≡ true
   pub good : verdict rows o ≡ 0
 
 pub record Good (rows : List Entry) (e : Entry) : Type 0 where

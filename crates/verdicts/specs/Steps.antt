@@ -1,4 +1,5 @@
 -- Steps between rows, and reaching.
+use Prim.Native.Nat.{ℕ}
 use mathlib.Core.Path.{_≡_}
 use mathlib.Core.Bool.{Bool, true, not, _&&_, _||_}
 use mathlib.Core.List.{List, List·Memᴰ}
@@ -24,6 +25,10 @@ rivals e o = not (twin e o) && any (holds o) (facts e .keys)
 -- 01: "to every row holding a key it names, met conditions or not"
 unfoldable pub names : Entry → Entry → Bool
 names e o = any (λ n. holds o (n .key)) (facts e .names)
+
+-- the same by one of its columns
+unfoldable pub namesAt : ℕ → Entry → Entry → Bool
+namesAt column e o = any (λ n. eqb (n .column) column && holds o (n .key)) (facts e .names)
 
 -- 01: "and from caf, txf and ocf to every row of their name in cap, txp and ocp"
 unfoldable pub counts : Entry → Entry → Bool

@@ -7,9 +7,9 @@ use lib.ListN.{length}
 use Rattle.laws.specs.Lists.{any, keep, nonempty, orElse, first}
 use Rattle.schemas.specs.Reasons.{verdict as verdictOf}
 use Rattle.verdicts.specs.Key.{Key}
-use Rattle.verdicts.specs.Facts.{Naming, Count}
+use Rattle.verdicts.specs.Facts.{Kind, itself, through, Naming, Count}
 use Rattle.verdicts.specs.Entries.{Entry, own, facts, allRows}
-use Rattle.verdicts.specs.Steps.{twin, holds, belongs, rivals}
+use Rattle.verdicts.specs.Steps.{twin, holds, belongs, rivals, namesAt}
 
 -- 01: "9 key held by another row too, all holders alike"
 unfoldable pub shared : List Entry → Entry → Bool
@@ -43,9 +43,14 @@ leads (suc n) rows e z = any (λ o. twin o z || leads n rows o z) (next rows e)
 unfoldable pub circle : List Entry → Entry → Bool
 circle rows e = leads (length rows) rows e e
 
--- the rows that hold the key which a column names and meet its condition
+-- 01: "of the kind asked": the row itself meets a condition, or a second row does, one that this column of it names
+unfoldable pub ofKind : List Entry → Kind → Entry → Bool
+ofKind rows (itself c) o = facts o .meets c
+ofKind rows (through column c) o = any (λ q. facts q .meets c) (keep (namesAt column o) rows)
+
+-- the rows that hold the key which a column names and are of the kind it asks for
 unfoldable pub asked : List Entry → Naming → List Entry
-asked rows n = keep (λ o. holds o (n .key) && facts o .meets (n .condition)) rows
+asked rows n = keep (λ o. holds o (n .key) && ofKind rows (n .kind) o) rows
 
 -- 01: "11 a named row isn't there, good and of the kind asked, lowest column"
 unfoldable pub nameCell : List Entry → (Entry → Bool) → Naming → ℕ

@@ -49,7 +49,7 @@ same-length c = search needs
 returns : tie.Need-returns
 returns c =
     let a = c .before .before .before .before .before .before .before .before .before .before .before .before .before .before .before .before .before .before .before .before .before .before .before .before .before .before .before .before .args in
-    good-law (a .marks .now) (a .base .now) (a .codes1 .now) (a .found1 .now) (a .codes2 .now) (a .found2 .now) (a .next .now) (a .n) (a .good .now) _ _ _ _ _
+    good-law (a .kinds .now) (a .base .now) (a .codes1 .now) (a .found1 .now) (a .codes2 .now) (a .found2 .now) (a .next .now) (a .n) (a .good .now) _ _ _ _ _
     (c .before .before .before .before .before .before .before .before .before .before .before .before .before .before .before .before .before .before .zero-rows .ensures)
     (c .before .before .before .before .before .before .before .before .before .before .before .before .before .before .firm-rows .ensures)
     (c .before .before .before .before .before .before .before .before .before .before .mark-firm .ensures)

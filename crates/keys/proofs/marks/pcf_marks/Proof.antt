@@ -1,4 +1,4 @@
--- The four marks together.
+-- The marks together.
 use Prim.Native.Nat.{_≤_}
 use native.Mathlib.Omega.{arith}
 use Rattle.verdicts.specs.Facts.{pcfFacts}
@@ -8,14 +8,12 @@ use Rattle.keys.proofs.marks.pcf_marks.Statement.{statement}
 use Rattle.keys.proofs.marks.pcf_marks.Tie as tie
 
 -- each mark is at most its weight
-small : (c : tie.After-mark4)
-    → (c .before .before .before .before .before .mark .result ≤ 2) × (c .before .before .before .mark2 .result ≤ 4)
-    × (c .before .mark3 .result ≤ 8) × (c .mark4 .result ≤ 16)
+small : (c : tie.After-mark3)
+    → (c .before .before .before .before .mark .result ≤ 2) × (c .before .before .mark2 .result ≤ 4) × (c .mark3 .result ≤ 8)
 small c = (
-  mark-most (c .before .before .before .before .before .before .is-raw .result) 2 (c .before .before .before .before .before .mark .ensures),
-  mark-most (c .before .before .before .before .is-whole .result) 4 (c .before .before .before .mark2 .ensures),
-  mark-most (c .before .before .is-numeric .result) 8 (c .before .mark3 .ensures),
-  mark-most (c .before .before .before .before .before .before .before .args .row .curtx .given) 16 (c .mark4 .ensures),
+  mark-most (c .before .before .before .before .before .is-raw .result) 2 (c .before .before .before .before .mark .ensures),
+  mark-most (c .before .before .before .is-whole .result) 4 (c .before .before .mark2 .ensures),
+  mark-most (c .before .is-numeric .result) 8 (c .mark3 .ensures),
 )
 
 is-raw-requires : tie.Need-is-raw-requires
@@ -36,9 +34,6 @@ is-numeric-requires c κs = tt
 mark-requires-3 : tie.Need-mark-requires-3
 mark-requires-3 c κs = tt
 
-mark-requires-4 : tie.Need-mark-requires-4
-mark-requires-4 c κs = tt
-
 add-result : tie.Need-add-result
 add-result c = record { fits = omega (arith, small c) }
 
@@ -48,20 +43,16 @@ add-result-2 c = record { fits = omega (arith, small c) }
 add-result-3 : tie.Need-add-result-3
 add-result-3 c = record { fits = omega (arith, small c) }
 
-add-result-4 : tie.Need-add-result-4
-add-result-4 c = record { fits = omega (arith, small c) }
-
 returns : tie.Need-returns
 unfolding marksOf pcfFacts
 returns c =
     rw (
-      c .before .before .before .before .before .mark .ensures,
-      c .before .before .before .mark2 .ensures,
-      c .before .mark3 .ensures,
-      c .mark4 .ensures,
-      c .before .before .before .before .before .before .is-raw .ensures,
-      c .before .before .before .before .is-whole .ensures,
-      c .before .before .is-numeric .ensures,
+      c .before .before .before .before .mark .ensures,
+      c .before .before .mark2 .ensures,
+      c .mark3 .ensures,
+      c .before .before .before .before .before .is-raw .ensures,
+      c .before .before .before .is-whole .ensures,
+      c .before .is-numeric .ensures,
     )
 
 pub pcf-marks-spec : {M : Type 1} → statement M
@@ -74,9 +65,7 @@ pcf-marks-spec =
     mark-requires-2
     is-numeric-requires
     mark-requires-3
-    mark-requires-4
     add-result
     add-result-2
     add-result-3
-    add-result-4
     returns)
