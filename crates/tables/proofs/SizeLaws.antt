@@ -6,13 +6,14 @@ use Prim.Native.Nat.{ℕ, zero, suc, _+_, _-_, _≤_, _<_}
 use native.Mathlib.Omega.{arith}
 use native.Mathlib.Numerals.{add-one}
 use lib.Dec.{eqb, ltb}
-use lib.ListN.{length, getD, drop, drop-of-length-le}
+use lib.ListN.{length, getD, take, drop, drop-of-length-le, length-take, length-drop}
+use lib.Seq.{drop-drop, take-all}
 use borrow.Author.Tests.{eq-eqb, ne-eqb, ltb-false}
 use Rattle.laws.proofs.Cases.{cond-cases}
 use Rattle.laws.proofs.Lists.{split}
 use Rattle.lines.specs.Lines.{Line, lineFeed, onFirst, lead, linesOf, whole}
 use Rattle.verdicts.specs.Answer.{firstTable, tooLong, tooManyRows}
-use Rattle.tables.specs.Sizes.{fit, refusedBy, sizesOf}
+use Rattle.tables.specs.Sizes.{fit, refusedBy, sizesOf, feeds}
 
 -- a search over the tables, from table t on
 module _ (test : List ℕ → Bool) (texts : List (List ℕ)) (t : ℕ) where
@@ -73,10 +74,6 @@ module _ (texts : List (List ℕ)) where
 
 -- Rows by their line feeds
 
-unfoldable pub feeds : List ℕ → ℕ
-feeds [] = 0
-feeds (b ∷ bs) = cond (eqb b lineFeed) 1 0 + feeds bs
-
 pub feeds-next : (table : List ℕ) (i : ℕ) {n : ℕ} → i < length table → n ≡ cond (eqb (getD table i 0) lineFeed) 1 0
     → feeds (drop i table) ≡ n + feeds (drop (i + 1) table)
 unfolding feeds
@@ -85,6 +82,45 @@ feeds-next table i h e = rw (split table i 0 h, e)
 pub feeds-none : (table : List ℕ) (i : ℕ) → length table ≤ i → feeds (drop i table) ≡ 0
 unfolding feeds
 feeds-none table i h = rw (drop-of-length-le table h)
+
+-- the first k bytes, and the others
+feeds-split : (k : ℕ) (l : List ℕ) → feeds l ≡ feeds (take k l) + feeds (drop k l)
+unfolding feeds
+feeds-split zero l = omega arith
+feeds-split (suc k) [] = refl
+feeds-split (suc k) (b ∷ bs) = omega (arith, feeds-split k bs)
+
+-- no more than there are bytes
+feeds-few : (l : List ℕ) → feeds l ≤ length l
+unfolding feeds
+feeds-few [] = omega arith
+feeds-few (b ∷ bs) = cond-cases (λ (n : ℕ). n + feeds bs ≤ suc (length bs)) (eqb b lineFeed) (λ _. omega (arith, feeds-few bs)) (λ _. omega (arith, feeds-few bs))
+
+-- n line feeds are counted before place i
+pub record Counted (table : List ℕ) (n i : ℕ) : Type 0 where
+  pub within : i ≤ length table
+  pub few : n ≤ i
+  pub all : n + feeds (drop i table) ≡ feeds table
+
+module _ (table : List ℕ) (n i : ℕ) (w : Counted table n i) {m : ℕ} where
+  -- a block more
+  pub count-block : (k : ℕ) → k ≤ length table - i → m ≡ feeds (take (i + k - i) (drop i table)) → Counted table (n + m) (i + k)
+  count-block k h e =
+      let s : i + k - i ≡ k = omega arith in
+      let f : m ≡ feeds (take k (drop i table)) = rw s at e in
+      let d : feeds (drop i table) ≡ feeds (take k (drop i table)) + feeds (drop (i + k) table) = rw (← drop-drop k i table) (feeds-split k (drop i table)) in
+      let l : length (take k (drop i table)) ≤ k = simp length-take (omega arith) in
+      record { within = omega (arith, w .within); few = omega (arith, w .few, f, l, feeds-few (take k (drop i table))); all = omega (arith, w .all, d, f) }
+
+  -- the bytes left
+  pub count-rest : m ≡ feeds (take (length table - i) (drop i table)) → n + m ≡ feeds table
+  count-rest e =
+      let f : m ≡ feeds (drop i table) = rw (take-all (length table - i) (drop i table) (simp length-drop (omega arith))) at e in
+      omega (arith, w .all, f)
+
+-- all are no more than there are bytes
+pub all-few : (table : List ℕ) (n : ℕ) → n ≡ feeds table → n ≤ length table
+all-few table n e = omega (arith, e, feeds-few table)
 
 -- a byte in front of lines that are there makes none more, unless it is a line feed
 front-length : (b c : ℕ) (ls : List Line) → length (lead b (lead c ls)) ≡ cond (eqb b lineFeed) 1 0 + length (lead c ls)

@@ -1,8 +1,9 @@
 -- Refusals 1 and 2, which come before all else in any call with tables.
-use Prim.Native.Nat.{ℕ}
+use Prim.Native.Nat.{ℕ, _+_}
 use mathlib.Core.Bool.{cond}
-use mathlib.Core.List.{List}
+use mathlib.Core.List.{List, [], _∷_}
 use lib.Dec.{eqb}
+use Rattle.lines.specs.Lines.{lineFeed}
 use Rattle.verdicts.specs.Answer.{tooLong, tooManyRows}
 use Rattle.tables.specs.declared.Sizes.{Sizes}
 use Rattle.tables.specs.declared.Sizes.the-variants.{Fit, TooLong, TooManyRows}
@@ -22,3 +23,8 @@ saidSizes (TooManyRows table) = refusedBy 2 table
 unfoldable pub sizesOf : List (List ℕ) → Sized
 sizesOf texts =
     cond (eqb (tooLong texts) 0) (cond (eqb (tooManyRows texts) 0) fit (refusedBy 2 (tooManyRows texts))) (refusedBy 1 (tooLong texts))
+
+-- how many line feeds there are
+unfoldable pub feeds : List ℕ → ℕ
+feeds [] = 0
+feeds (b ∷ bs) = cond (eqb b lineFeed) 1 0 + feeds bs

@@ -10,7 +10,7 @@ ghost use Rattle.lines.specs.Lines.{lineFeed, linesOf, whole};
 ghost use Rattle.schemas.specs.declared.Table.the-variants.{Ocp};
 ghost use Rattle.verdicts.specs.Entries.{carried};
 ghost use Rattle.verdicts.specs.Answer.{tooLong, tooManyRows};
-ghost use Rattle.tables.specs.Sizes.{saidSizes, sizesOf};
+ghost use Rattle.tables.specs.Sizes.{saidSizes, sizesOf, feeds};
 
 pub const TABLES: usize = 10;
 
@@ -20,6 +20,9 @@ pub const MOST_BYTES: usize = 65536;
 pub const MOST_ROWS: usize = 1024;
 
 const LINE_FEED: u8 = 10;
+
+// Line feeds are counted in blocks of so many bytes.
+const BLOCK: usize = 128;
 
 // Whether the tables are of a size that any question takes; else the first that isn't, from 1.
 pub enum Sizes {
@@ -58,10 +61,24 @@ pub fn kind_of(t: usize) -> Table
 }
 
 // 1 for a line feed.
-fn feed(byte: u8) -> usize
+fn feed(byte: u8) -> u8
     ensures { λ r. ⌜ (r ≡ cond (eqb byte lineFeed) 1 0) × (r ≤ 1) ⌝ }
 {
     if byte == LINE_FEED { 1 } else { 0 }
+}
+
+// The line feeds of a few bytes: so few that one byte counts them, which a machine does for many at once.
+fn feeds_in(block: &[u8]) -> u8
+    requires { ⌜ length (now block) ≤ 128 ⌝ }
+    ensures { λ r. ⌜ r ≡ feeds (now (block .entry)) ⌝ }
+{
+    let mut n: u8 = 0;
+    let mut i: usize = 0;
+    while i < block.len() {
+        n += feed(block[i]);
+        i += 1;
+    }
+    n
 }
 
 // Whether no bytes stand after the last line feed.
@@ -74,16 +91,18 @@ fn is_whole(table: &[u8]) -> bool
     table[table.len() - 1] == LINE_FEED
 }
 
-// Rows are counted by their line feeds alone, a byte at a time; bytes after the last one are a row more.
+// Rows are counted by their line feeds alone; bytes after the last one are a row more.
 pub fn row_count(table: &[u8]) -> usize
     ensures { λ r. ⌜ r ≡ length (linesOf (now (table .entry))) ⌝ }
 {
     let mut n: usize = 0;
     let mut i: usize = 0;
-    while i < table.len() {
-        n += feed(table[i]);
-        i += 1;
+    while BLOCK <= table.len() - i {
+        let end = i + BLOCK;
+        n += feeds_in(&table[i..end]) as usize;
+        i = end;
     }
+    n += feeds_in(&table[i..]) as usize;
     if is_whole(table) {
         return n;
     }
