@@ -22,7 +22,7 @@ use Rattle.meaning.proofs.PassLaws.{Fresh, judged}
 use Rattle.judging.specs.Judged.{judgedCells}
 use Rattle.judging.proofs.Meaning.{judged-are}
 use Rattle.kept.specs.Stored.{places, at, ownColumn, key1Column, key2Column, name1Column, name2Column, groupColumn, numberColumn, countColumn, Stored}
-use Rattle.import.specs.Found.{rowOf, countOf}
+use Rattle.findings.specs.Found.{rowOf, countOf}
 use Rattle.import.specs.Passes.{columnOf, formedBy, SoundBy, HoldersBy, CountsBy, judgedBy, Judges}
 use Rattle.import.proofs.Held.{coding, Held, part-at}
 use Rattle.import.proofs.KeptLaws.{own-kept, kept}

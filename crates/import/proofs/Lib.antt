@@ -7,5 +7,5 @@ pub mod LineLaws
 pub mod NamedLaws
 pub mod PassLaws
 pub mod ResolvedLaws
-pub mod StepLaws
+pub mod ColumnLaws
 pub mod ZeroLaws

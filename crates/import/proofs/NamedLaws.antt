@@ -20,7 +20,7 @@ use Rattle.meaning.specs.Kept.{rowAt}
 use Rattle.meaning.specs.Found.{Finds}
 use Rattle.judging.proofs.CircleMeaning.{no-code}
 use Rattle.judging.proofs.Resolved.{Answers, Named, absent, present, namesIn, Names}
-use Rattle.import.specs.Found.{rowOf}
+use Rattle.findings.specs.Found.{rowOf}
 
 module _ (rows : List Entry) (few : length rows ≤ 14336) where
   -- the row that was found

@@ -13,7 +13,7 @@ use Rattle.passes.specs.Counts.{Counted}
 use Rattle.passes.specs.Holders.{Noted, Filled}
 use Rattle.passes.specs.Sound.{soundAt}
 use Rattle.kept.specs.Stored.{ownColumn, key1Column, key2Column, groupColumn, numberColumn, code1Column, code2Column, marksColumn, countColumn}
-use Rattle.import.specs.Found.{rowOf, countOf}
+use Rattle.findings.specs.Found.{rowOf, countOf}
 use Rattle.import.specs.Passes.{columnOf, formedBy, SoundBy, HoldersBy, CountsBy, FoundBy, judgedBy}
 
 pub formed-is : (halves : List ℕ) (n : ℕ) (own formed : List ℕ) → own ≡ columnOf halves ownColumn

@@ -36,7 +36,7 @@ use Rattle.meaning.specs.Found.{Finds}
 use Rattle.judging.proofs.Resolved.{Answers, Named, absent, present, namesIn, Names, Arrays, Layers, Resolved}
 use Rattle.judging.proofs.CircleMeaning.{no-code}
 use Rattle.kept.specs.Stored.{places, at, ownColumn, key1Column, name1Column, name2Column, numberColumn, code1Column, code2Column, marksColumn, countColumn, slotId, namedId, keysAt, StoredRow, KnownRow, Stored}
-use Rattle.import.specs.Found.{rowOf, countOf}
+use Rattle.findings.specs.Found.{rowOf, countOf}
 use Rattle.import.proofs.Held.{coding, Held, part, part-at}
 use Rattle.import.proofs.KeptLaws.{own-kept}
 use Rattle.import.proofs.NamedLaws.{names-are}

@@ -13,7 +13,7 @@ use Rattle.passes.specs.Holders.{Noted, Filled}
 use Rattle.passes.specs.Sound.{soundAt}
 use Rattle.judging.specs.Judged.{judgedCells}
 use Rattle.kept.specs.Stored.{places, ownColumn, key1Column, key2Column, name1Column, name2Column, groupColumn, numberColumn, code1Column, code2Column, marksColumn, countColumn}
-use Rattle.import.specs.Found.{rowOf, countOf}
+use Rattle.findings.specs.Found.{rowOf, countOf}
 
 -- column c by itself
 abbrev pub columnOf : List ℕ → ℕ → List ℕ

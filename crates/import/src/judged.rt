@@ -1,8 +1,4 @@
 // The passes over what is kept of the rows, one after the other.
-use crate::found::NO_ROW;
-use crate::found::count_rows;
-use crate::found::find_rows;
-use crate::found::mark_formed;
 use crate::parts::CODE1;
 use crate::parts::CODE2;
 use crate::parts::COUNT;
@@ -18,6 +14,10 @@ use crate::parts::OWN;
 use crate::parts::PLACES;
 use crate::parts::byte_column;
 use crate::parts::half_column;
+use findings::NO_ROW;
+use findings::count_rows;
+use findings::find_rows;
+use findings::mark_formed;
 use judging::judge_rows;
 use passes::counts::count_ids;
 use passes::holders::note_rows;

@@ -16,7 +16,6 @@ ghost use lib.ListN.{length};
 ghost use Rattle.verdicts.specs.Answer.{importOf, cellsAfter};
 ghost use Rattle.import.specs.Judged.{said, JudgedInto, AnswersBy};
 
-mod found;
 mod good;
 mod judged;
 mod parts;

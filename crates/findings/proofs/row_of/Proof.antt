@@ -1,8 +1,8 @@
 -- By the test.
-use Rattle.import.proofs.StepLaws.{row-none, row-some}
+use Rattle.findings.proofs.StepLaws.{row-none, row-some}
 use borrow.Author.Needs.{needs}
-use Rattle.import.proofs.found.row_of.Statement.{statement}
-use Rattle.import.proofs.found.row_of.Tie as tie
+use Rattle.findings.proofs.row_of.Statement.{statement}
+use Rattle.findings.proofs.row_of.Tie as tie
 
 sub-result : tie.Need-sub-result
 sub-result c = search needs

@@ -1,13 +1,10 @@
 -- What each step of the passes answers, by what was read.
-use mathlib.Core.Path.{_≡_, refl, ap, sym, _∙_}
-use mathlib.Core.Bool.{true}
-use mathlib.Core.List.{List}
-use Prim.Native.Nat.{ℕ, zero, suc, _+_, _*_, _-_, _≤_, _<_}
+use mathlib.Core.Path.{_≡_, refl}
+use Prim.Native.Nat.{ℕ, zero, suc, _+_, _*_, _-_}
 use native.Mathlib.Omega.{arith}
-use lib.ListN.{take, drop}
 use borrow.Author.Tests.{eq-eqb, ne-eqb}
 use Rattle.chains.specs.Chains.{noRow}
-use Rattle.import.specs.Found.{rowOf, countOf}
+use Rattle.findings.specs.Found.{rowOf, countOf}
 
 pub row-none : (more : ℕ) → more ≡ 0 → noRow ≡ rowOf more
 unfolding rowOf
@@ -31,9 +28,3 @@ module _ (column number tally : ℕ) where
     pub count-differs : (tally ≡ number → ⊥) → 10 * 256 + column ≡ countOf column number tally
     unfolding countOf
     count-differs h = rw (ne-eqb column 0 some, ne-eqb tally number h)
-
--- a column is as long as its end is after its start
-pub column-part : (xs : List ℕ) (from : ℕ) → take ((from + 14336) - from) (drop from xs) ≡ take 14336 (drop from xs)
-column-part xs from =
-    let e : (from + 14336) - from ≡ 14336 = omega arith in
-    rw e

@@ -6,8 +6,8 @@ use lib.ListN.{getD}
 use Rattle.laws.proofs.Values.{Writing, write-start, write-put, write-end}
 use lib.Dec.{eqb}
 use Rattle.laws.specs.Prefix.{flag}
-use Rattle.import.proofs.found.mark_formed.Statement.{statement}
-use Rattle.import.proofs.found.mark_formed.Tie as tie
+use Rattle.findings.proofs.mark_formed.Statement.{statement}
+use Rattle.findings.proofs.mark_formed.Tie as tie
 
 abbrev Inv-loop : tie.InvT-loop
 Inv-loop own formed₀ n i₀ formed i = Writing (λ k. flag (eqb (getD own k 0) 0)) n formed₀ formed i

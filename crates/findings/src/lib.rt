@@ -10,9 +10,9 @@ ghost use lib.Seq.{sets};
 ghost use Rattle.laws.specs.Prefix.{flag};
 ghost use Rattle.laws.specs.Values.{tabulate};
 ghost use Rattle.passes.specs.Marked.{under};
-ghost use Rattle.import.specs.Found.{rowOf, countOf};
+ghost use Rattle.findings.specs.Found.{rowOf, countOf};
 
-pub(crate) const NO_ROW: u16 = 65535;
+pub const NO_ROW: u16 = 65535;
 
 // Reason 10, to which the column that counts is added.
 const DIFFERS: u16 = 10 * 256;
@@ -24,7 +24,7 @@ fn as_flag(test: bool) -> u8
 }
 
 // Marks the rows without reasons 1 to 8.
-pub(crate) fn mark_formed(own: &[u16], formed: &mut [u8], n: usize)
+pub fn mark_formed(own: &[u16], formed: &mut [u8], n: usize)
     ensures { λ _. ⌜ now (formed .exit) ≡ sets (now (formed .entry)) 0 (tabulate (λ i. flag (eqb (getD (now (own .entry)) i 0) 0)) 0 n) ⌝ }
 {
     let mut i: usize = 0;
@@ -43,7 +43,7 @@ fn row_of(more: u16) -> u16
 }
 
 // The rows that hold the keys which rows name. `holders` has one more than a row that holds a key, by the key's id.
-pub(crate) fn find_rows(names: &[u16], holders: &[u16], found: &mut [u16], n: usize)
+pub fn find_rows(names: &[u16], holders: &[u16], found: &mut [u16], n: usize)
     ensures { λ _. ⌜ now (found .exit) ≡ sets (now (found .entry)) 0 (tabulate (λ i. rowOf (under (now (holders .entry)) (now (names .entry)) i)) 0 n) ⌝ }
 {
     let mut i: usize = 0;
@@ -68,7 +68,7 @@ fn count_of(column: u8, number: u16, tally: u16) -> u16
 }
 
 // 0, or reason 10: the rows of the group that goes by a row's first key are another number than it says.
-pub(crate) fn count_rows(
+pub fn count_rows(
     columns: &[u8],
     keys: &[u16],
     numbers: &[u16],

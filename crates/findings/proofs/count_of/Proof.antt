@@ -1,8 +1,8 @@
 -- By the tests.
-use Rattle.import.proofs.StepLaws.{count-none, count-same, count-differs}
+use Rattle.findings.proofs.StepLaws.{count-none, count-same, count-differs}
 use borrow.Author.Needs.{needs}
-use Rattle.import.proofs.found.count_of.Statement.{statement}
-use Rattle.import.proofs.found.count_of.Tie as tie
+use Rattle.findings.proofs.count_of.Statement.{statement}
+use Rattle.findings.proofs.count_of.Tie as tie
 
 returns : tie.Need-returns
 returns c = count-none _ _ _ (c .if1 .taken)
