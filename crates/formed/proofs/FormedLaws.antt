@@ -1,30 +1,54 @@
 -- A row's verdict of reasons 1 to 8 from its check and its contradiction.
-use mathlib.Core.Path.{_≡_, ap, _∙_}
+use mathlib.Core.Path.{_≡_, ap, sym, _∙_}
+use mathlib.Core.Bool.{true}
 use mathlib.Core.List.{List}
 use Prim.Native.Nat.{ℕ}
+use lib.ListN.{length, drop, replicate}
+use lib.Seq.{sets}
 use borrow.Author.Tests.{ne-eqb}
-use Rattle.lines.specs.Lines.{Line}
-use Rattle.lines.specs.Columns.{divided}
+use Rattle.lines.specs.Lines.{nextLine, lineFrom}
+use Rattle.lines.specs.Columns.{endsOf, divided, partOf, columnIn, walked, scanned}
+use Rattle.lines.specs.declared.columns.Scanned.{Scanned}
+use Rattle.lines.proofs.ColumnLaws.{divided-stored}
+use Rattle.lines.proofs.ScanLaws.{walk-bytes, walk-ended, walk-next, walk-count, walk-found}
 use Rattle.schemas.specs.declared.Table.{Table}
-use Rattle.schemas.specs.declared.Checked.{Checked}
-use Rattle.schemas.specs.Schema.{Column}
 use Rattle.schemas.specs.Tables.{schema}
-use Rattle.schemas.specs.Reasons.{verdict, shape, checkedBy}
+use Rattle.schemas.specs.Reasons.{verdict, lineOf, shape, shapeBy}
+use Rattle.schemas.proofs.ShapeLaws.{schema-few, shape-walked}
 use Rattle.formed.specs.Contradictions.{contradiction}
 use Rattle.formed.specs.Formed.{orContradiction, formed}
 
-pub checked-verdict : (columns : List Column) (line : Line) {c : Checked} → c ≡ checkedBy columns line → c .verdict ≡ shape columns line
-unfolding checkedBy
-checked-verdict columns line e = ap (λ (d : Checked). d .verdict) e
+-- a line was walked over, cut out, and its columns' ends were kept
+pub record Walked (text : List ℕ) (at : ℕ) (walk : Scanned) (line ends : List ℕ) : Type 0 where
+  pub scan : walk ≡ scanned true text at
+  pub part : line ≡ partOf text at (walk .end)
+  pub kept : ends ≡ sets (replicate 24 0) 0 (endsOf (walked true (drop at text)))
 
-pub checked-columns : (columns : List Column) (line : Line) {c : Checked} → c ≡ checkedBy columns line → c .columns ≡ divided (line .bytes)
-unfolding checkedBy
-checked-columns columns line e = ap (λ (d : Checked). d .columns) e
+pub walked-over : {text : List ℕ} {at : ℕ} {walk : Scanned} {line ends : List ℕ} → walk ≡ scanned true text at → line ≡ partOf text at (walk .end)
+    → ends ≡ sets (replicate 24 0) 0 (endsOf (walked true (drop at text))) → Walked text at walk line ends
+walked-over s p k = record { scan = s; part = p; kept = k }
 
-pub formed-is : (table : Table) (line : Line) {c : Checked} {k v : ℕ} → c ≡ checkedBy (schema table) line → k ≡ contradiction table (line .bytes)
-    → v ≡ orContradiction (c .verdict) k → v ≡ formed table line
-unfolding formed
-formed-is table line e p q = q ∙ rw (checked-verdict (schema table) line e, p)
+module _ {text : List ℕ} {at : ℕ} {walk : Scanned} {line ends : List ℕ} (w : Walked text at walk line ends) where
+  pub line-is : line ≡ lineFrom text at .bytes
+  line-is = w .part ∙ walk-bytes text at (w .scan)
+
+  pub ends-are : ends ≡ divided line
+  unfolding lineFrom
+  ends-are = w .kept ∙ divided-stored (walked true (drop at text)) ∙ ap divided (sym line-is)
+
+  shape-is : (table : Table) → shapeBy (schema table) walk (length line) (columnIn line ends) ≡ shape (schema table) (lineFrom text at)
+  shape-is table =
+      shape-walked (schema table) (schema-few table) line ends ends-are walk (lineFrom text at .ended) (walk-ended text at (w .scan))
+      (rw line-is (walk-count text at (w .scan))) (rw line-is (walk-found text at (w .scan)))
+      ∙ ap (λ (l : List ℕ). shape (schema table) (lineOf l (lineFrom text at .ended))) line-is
+
+  pub next-is : walk .next ≡ nextLine text at .next
+  next-is = walk-next text at (w .scan)
+
+  pub formed-is : (table : Table) {s k v : ℕ} → s ≡ shapeBy (schema table) walk (length line) (columnIn line ends) → k ≡ contradiction table line
+      → v ≡ orContradiction s k → v ≡ formed table (lineFrom text at)
+  unfolding formed
+  formed-is table p q r = r ∙ rw (p, shape-is table, q, line-is)
 
 module _ (shaped column : ℕ) where
   pub shaped-first : (shaped ≡ 0 → ⊥) → shaped ≡ orContradiction shaped column

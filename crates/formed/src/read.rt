@@ -1,4 +1,4 @@
-// A line of a table read: its verdict of reasons 1 to 8, and what it says.
+// The line that starts at a place of a table read: its verdict of reasons 1 to 8, what it says, and where the next one starts.
 use crate::contradictions::caf_contradiction;
 use crate::contradictions::ocf_contradiction;
 use crate::contradictions::ocp_contradiction;
@@ -7,6 +7,9 @@ use crate::contradictions::pic_contradiction;
 use crate::contradictions::plf_contradiction;
 use crate::contradictions::txf_contradiction;
 use crate::contradictions::txp_contradiction;
+use lines::columns::MOST_COLUMNS;
+use lines::columns::part;
+use lines::columns::scan;
 use rows::decode::caf_row;
 use rows::decode::cap_row;
 use rows::decode::ocf_row;
@@ -27,7 +30,6 @@ use rows::records::PidRow;
 use rows::records::PlfRow;
 use rows::records::TxfRow;
 use rows::records::TxpRow;
-use schemas::Table;
 use schemas::by_table::check_caf;
 use schemas::by_table::check_cap;
 use schemas::by_table::check_ocf;
@@ -41,7 +43,7 @@ use schemas::by_table::check_txp;
 use schemas::verdict_of;
 ghost use mathlib.Core.Path.{_≡_};
 ghost use Rattle.schemas.specs.declared.Table.the-variants.{Pid, Pic, Plf, Pcf, Caf, Cap, Txf, Txp, Ocf, Ocp};
-ghost use Rattle.schemas.specs.Reasons.{lineOf};
+ghost use Rattle.lines.specs.Lines.{nextLine, lineFrom};
 ghost use Rattle.rows.specs.Records.{pidRow, picRow, plfRow, pcfRow, cafRow, capRow, txfRow, txpRow, ocfRow, ocpRow};
 ghost use Rattle.formed.specs.Formed.{orContradiction, formed};
 
@@ -61,187 +63,219 @@ fn or_contradiction(shaped: u16, column: u8) -> u16
 pub struct PidRead {
     pub verdict: u16,
     pub row: PidRow,
+    pub next: usize,
 }
 
-pub fn read_pid(line: &[u8], ended: bool) -> PidRead
-    ensures { λ r. ⌜ (r .verdict ≡ formed Pid (lineOf (now (line .entry)) ended)) × (r .row ≡ pidRow (now (line .entry))) ⌝ }
+pub fn read_pid(table: &[u8], at: usize) -> PidRead
+    ensures { λ r. ⌜ (r .verdict ≡ formed Pid (lineFrom (now (table .entry)) at)) × (r .row ≡ pidRow (lineFrom (now (table .entry)) at .bytes)) ⌝ }
+    ensures { λ r. ⌜ r .next ≡ nextLine (now (table .entry)) at .next ⌝ }
 {
-    let checked = check_pid(line, ended);
-    let columns = checked.columns;
-    let row = pid_row(line, columns);
+    let mut ends = [0usize; MOST_COLUMNS];
+    let walk = scan(table, at, true, &mut ends);
+    let line = part(table, at, walk.end);
+    let shaped = check_pid(line, walk, &ends);
+    let row = pid_row(line, &ends);
     PidRead {
-        verdict: or_contradiction(checked.verdict, 0),
+        verdict: or_contradiction(shaped, 0),
         row,
+        next: walk.next,
     }
 }
 
 pub struct PicRead {
     pub verdict: u16,
     pub row: PicRow,
+    pub next: usize,
 }
 
-pub fn read_pic(line: &[u8], ended: bool) -> PicRead
-    ensures { λ r. ⌜ (r .verdict ≡ formed Pic (lineOf (now (line .entry)) ended)) × (r .row ≡ picRow (now (line .entry))) ⌝ }
+pub fn read_pic(table: &[u8], at: usize) -> PicRead
+    ensures { λ r. ⌜ (r .verdict ≡ formed Pic (lineFrom (now (table .entry)) at)) × (r .row ≡ picRow (lineFrom (now (table .entry)) at .bytes)) ⌝ }
+    ensures { λ r. ⌜ r .next ≡ nextLine (now (table .entry)) at .next ⌝ }
 {
-    let checked = check_pic(line, ended);
-    let columns = checked.columns;
-    let row = pic_row(line, columns);
+    let mut ends = [0usize; MOST_COLUMNS];
+    let walk = scan(table, at, true, &mut ends);
+    let line = part(table, at, walk.end);
+    let shaped = check_pic(line, walk, &ends);
+    let row = pic_row(line, &ends);
     PicRead {
-        verdict: or_contradiction(checked.verdict, pic_contradiction(row)),
+        verdict: or_contradiction(shaped, pic_contradiction(row)),
         row,
+        next: walk.next,
     }
 }
 
 pub struct PlfRead {
     pub verdict: u16,
     pub row: PlfRow,
+    pub next: usize,
 }
 
-pub fn read_plf(line: &[u8], ended: bool) -> PlfRead
-    ensures { λ r. ⌜ (r .verdict ≡ formed Plf (lineOf (now (line .entry)) ended)) × (r .row ≡ plfRow (now (line .entry))) ⌝ }
+pub fn read_plf(table: &[u8], at: usize) -> PlfRead
+    ensures { λ r. ⌜ (r .verdict ≡ formed Plf (lineFrom (now (table .entry)) at)) × (r .row ≡ plfRow (lineFrom (now (table .entry)) at .bytes)) ⌝ }
+    ensures { λ r. ⌜ r .next ≡ nextLine (now (table .entry)) at .next ⌝ }
 {
-    let checked = check_plf(line, ended);
-    let columns = checked.columns;
-    let row = plf_row(line, columns);
+    let mut ends = [0usize; MOST_COLUMNS];
+    let walk = scan(table, at, true, &mut ends);
+    let line = part(table, at, walk.end);
+    let shaped = check_plf(line, walk, &ends);
+    let row = plf_row(line, &ends);
     PlfRead {
-        verdict: or_contradiction(checked.verdict, plf_contradiction(row)),
+        verdict: or_contradiction(shaped, plf_contradiction(row)),
         row,
+        next: walk.next,
     }
 }
 
 pub struct PcfRead {
     pub verdict: u16,
     pub row: PcfRow,
+    pub next: usize,
 }
 
-pub fn read_pcf(line: &[u8], ended: bool) -> PcfRead
-    ensures { λ r. ⌜ (r .verdict ≡ formed Pcf (lineOf (now (line .entry)) ended)) × (r .row ≡ pcfRow (now (line .entry))) ⌝ }
+pub fn read_pcf(table: &[u8], at: usize) -> PcfRead
+    ensures { λ r. ⌜ (r .verdict ≡ formed Pcf (lineFrom (now (table .entry)) at)) × (r .row ≡ pcfRow (lineFrom (now (table .entry)) at .bytes)) ⌝ }
+    ensures { λ r. ⌜ r .next ≡ nextLine (now (table .entry)) at .next ⌝ }
 {
-    let checked = check_pcf(line, ended);
-    let columns = checked.columns;
-    let row = pcf_row(line, columns);
+    let mut ends = [0usize; MOST_COLUMNS];
+    let walk = scan(table, at, true, &mut ends);
+    let line = part(table, at, walk.end);
+    let shaped = check_pcf(line, walk, &ends);
+    let row = pcf_row(line, &ends);
     PcfRead {
-        verdict: or_contradiction(checked.verdict, pcf_contradiction(row)),
+        verdict: or_contradiction(shaped, pcf_contradiction(row)),
         row,
+        next: walk.next,
     }
 }
 
 pub struct CafRead {
     pub verdict: u16,
     pub row: CafRow,
+    pub next: usize,
 }
 
-pub fn read_caf(line: &[u8], ended: bool) -> CafRead
-    ensures { λ r. ⌜ (r .verdict ≡ formed Caf (lineOf (now (line .entry)) ended)) × (r .row ≡ cafRow (now (line .entry))) ⌝ }
+pub fn read_caf(table: &[u8], at: usize) -> CafRead
+    ensures { λ r. ⌜ (r .verdict ≡ formed Caf (lineFrom (now (table .entry)) at)) × (r .row ≡ cafRow (lineFrom (now (table .entry)) at .bytes)) ⌝ }
+    ensures { λ r. ⌜ r .next ≡ nextLine (now (table .entry)) at .next ⌝ }
 {
-    let checked = check_caf(line, ended);
-    let columns = checked.columns;
-    let row = caf_row(line, columns);
+    let mut ends = [0usize; MOST_COLUMNS];
+    let walk = scan(table, at, true, &mut ends);
+    let line = part(table, at, walk.end);
+    let shaped = check_caf(line, walk, &ends);
+    let row = caf_row(line, &ends);
     CafRead {
-        verdict: or_contradiction(checked.verdict, caf_contradiction(row)),
+        verdict: or_contradiction(shaped, caf_contradiction(row)),
         row,
+        next: walk.next,
     }
 }
 
 pub struct CapRead {
     pub verdict: u16,
     pub row: CapRow,
+    pub next: usize,
 }
 
-pub fn read_cap(line: &[u8], ended: bool) -> CapRead
-    ensures { λ r. ⌜ (r .verdict ≡ formed Cap (lineOf (now (line .entry)) ended)) × (r .row ≡ capRow (now (line .entry))) ⌝ }
+pub fn read_cap(table: &[u8], at: usize) -> CapRead
+    ensures { λ r. ⌜ (r .verdict ≡ formed Cap (lineFrom (now (table .entry)) at)) × (r .row ≡ capRow (lineFrom (now (table .entry)) at .bytes)) ⌝ }
+    ensures { λ r. ⌜ r .next ≡ nextLine (now (table .entry)) at .next ⌝ }
 {
-    let checked = check_cap(line, ended);
-    let columns = checked.columns;
-    let row = cap_row(line, columns);
+    let mut ends = [0usize; MOST_COLUMNS];
+    let walk = scan(table, at, true, &mut ends);
+    let line = part(table, at, walk.end);
+    let shaped = check_cap(line, walk, &ends);
+    let row = cap_row(line, &ends);
     CapRead {
-        verdict: or_contradiction(checked.verdict, 0),
+        verdict: or_contradiction(shaped, 0),
         row,
+        next: walk.next,
     }
 }
 
 pub struct TxfRead {
     pub verdict: u16,
     pub row: TxfRow,
+    pub next: usize,
 }
 
-pub fn read_txf(line: &[u8], ended: bool) -> TxfRead
-    ensures { λ r. ⌜ (r .verdict ≡ formed Txf (lineOf (now (line .entry)) ended)) × (r .row ≡ txfRow (now (line .entry))) ⌝ }
+pub fn read_txf(table: &[u8], at: usize) -> TxfRead
+    ensures { λ r. ⌜ (r .verdict ≡ formed Txf (lineFrom (now (table .entry)) at)) × (r .row ≡ txfRow (lineFrom (now (table .entry)) at .bytes)) ⌝ }
+    ensures { λ r. ⌜ r .next ≡ nextLine (now (table .entry)) at .next ⌝ }
 {
-    let checked = check_txf(line, ended);
-    let columns = checked.columns;
-    let row = txf_row(line, columns);
+    let mut ends = [0usize; MOST_COLUMNS];
+    let walk = scan(table, at, true, &mut ends);
+    let line = part(table, at, walk.end);
+    let shaped = check_txf(line, walk, &ends);
+    let row = txf_row(line, &ends);
     TxfRead {
-        verdict: or_contradiction(checked.verdict, txf_contradiction(row)),
+        verdict: or_contradiction(shaped, txf_contradiction(row)),
         row,
+        next: walk.next,
     }
 }
 
 pub struct TxpRead {
     pub verdict: u16,
     pub row: TxpRow,
+    pub next: usize,
 }
 
-pub fn read_txp(line: &[u8], ended: bool) -> TxpRead
-    ensures { λ r. ⌜ (r .verdict ≡ formed Txp (lineOf (now (line .entry)) ended)) × (r .row ≡ txpRow (now (line .entry))) ⌝ }
+pub fn read_txp(table: &[u8], at: usize) -> TxpRead
+    ensures { λ r. ⌜ (r .verdict ≡ formed Txp (lineFrom (now (table .entry)) at)) × (r .row ≡ txpRow (lineFrom (now (table .entry)) at .bytes)) ⌝ }
+    ensures { λ r. ⌜ r .next ≡ nextLine (now (table .entry)) at .next ⌝ }
 {
-    let checked = check_txp(line, ended);
-    let columns = checked.columns;
-    let row = txp_row(line, columns);
+    let mut ends = [0usize; MOST_COLUMNS];
+    let walk = scan(table, at, true, &mut ends);
+    let line = part(table, at, walk.end);
+    let shaped = check_txp(line, walk, &ends);
+    let row = txp_row(line, &ends);
     TxpRead {
-        verdict: or_contradiction(checked.verdict, txp_contradiction(row)),
+        verdict: or_contradiction(shaped, txp_contradiction(row)),
         row,
+        next: walk.next,
     }
 }
 
 pub struct OcfRead {
     pub verdict: u16,
     pub row: OcfRow,
+    pub next: usize,
 }
 
-pub fn read_ocf(line: &[u8], ended: bool) -> OcfRead
-    ensures { λ r. ⌜ (r .verdict ≡ formed Ocf (lineOf (now (line .entry)) ended)) × (r .row ≡ ocfRow (now (line .entry))) ⌝ }
+pub fn read_ocf(table: &[u8], at: usize) -> OcfRead
+    ensures { λ r. ⌜ (r .verdict ≡ formed Ocf (lineFrom (now (table .entry)) at)) × (r .row ≡ ocfRow (lineFrom (now (table .entry)) at .bytes)) ⌝ }
+    ensures { λ r. ⌜ r .next ≡ nextLine (now (table .entry)) at .next ⌝ }
 {
-    let checked = check_ocf(line, ended);
-    let columns = checked.columns;
-    let row = ocf_row(line, columns);
+    let mut ends = [0usize; MOST_COLUMNS];
+    let walk = scan(table, at, true, &mut ends);
+    let line = part(table, at, walk.end);
+    let shaped = check_ocf(line, walk, &ends);
+    let row = ocf_row(line, &ends);
     OcfRead {
-        verdict: or_contradiction(checked.verdict, ocf_contradiction(row)),
+        verdict: or_contradiction(shaped, ocf_contradiction(row)),
         row,
+        next: walk.next,
     }
 }
 
 pub struct OcpRead {
     pub verdict: u16,
     pub row: OcpRow,
+    pub next: usize,
 }
 
-pub fn read_ocp(line: &[u8], ended: bool) -> OcpRead
-    ensures { λ r. ⌜ (r .verdict ≡ formed Ocp (lineOf (now (line .entry)) ended)) × (r .row ≡ ocpRow (now (line .entry))) ⌝ }
+pub fn read_ocp(table: &[u8], at: usize) -> OcpRead
+    ensures { λ r. ⌜ (r .verdict ≡ formed Ocp (lineFrom (now (table .entry)) at)) × (r .row ≡ ocpRow (lineFrom (now (table .entry)) at .bytes)) ⌝ }
+    ensures { λ r. ⌜ r .next ≡ nextLine (now (table .entry)) at .next ⌝ }
 {
-    let checked = check_ocp(line, ended);
-    let columns = checked.columns;
-    let row = ocp_row(line, columns);
+    let mut ends = [0usize; MOST_COLUMNS];
+    let walk = scan(table, at, true, &mut ends);
+    let line = part(table, at, walk.end);
+    let shaped = check_ocp(line, walk, &ends);
+    let row = ocp_row(line, &ends);
     OcpRead {
-        verdict: or_contradiction(checked.verdict, ocp_contradiction(row)),
+        verdict: or_contradiction(shaped, ocp_contradiction(row)),
         row,
-    }
-}
-
-// The verdict of a row of any table for reasons 1 to 8, 0 where it is well-formed.
-pub fn formed(table: Table, line: &[u8], ended: bool) -> u16
-    ensures { λ r. ⌜ r ≡ formed table (lineOf (now (line .entry)) ended) ⌝ }
-{
-    match table {
-        Table::Pid => read_pid(line, ended).verdict,
-        Table::Pic => read_pic(line, ended).verdict,
-        Table::Plf => read_plf(line, ended).verdict,
-        Table::Pcf => read_pcf(line, ended).verdict,
-        Table::Caf => read_caf(line, ended).verdict,
-        Table::Cap => read_cap(line, ended).verdict,
-        Table::Txf => read_txf(line, ended).verdict,
-        Table::Txp => read_txp(line, ended).verdict,
-        Table::Ocf => read_ocf(line, ended).verdict,
-        Table::Ocp => read_ocp(line, ended).verdict,
+        next: walk.next,
     }
 }

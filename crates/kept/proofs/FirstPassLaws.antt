@@ -8,11 +8,9 @@ use native.Mathlib.Nat.{add-mul, mul-le-mul-right}
 use native.Mathlib.Numerals.{add-one}
 use lib.ListN.{length, getD, take, drop, length-drop}
 use Rattle.kept.proofs.PlaceLaws.{at-below, at-is, at-next}
-use Rattle.lines.specs.Lines.{linesOf, nextLine}
-use Rattle.lines.specs.declared.walk.NextLine.{NextLine}
+use Rattle.lines.specs.Lines.{linesOf, lineLength, nextLine, lineFrom}
 use Rattle.lines.proofs.LineLaws.{lines-next, lines-none, next-bounds}
 use Rattle.schemas.specs.declared.Table.{Table}
-use Rattle.schemas.specs.Reasons.{lineOf}
 use Rattle.verdicts.specs.Places.{noLine}
 use Rattle.symbols.specs.declared.Symbol.{Symbol}
 use Rattle.keys.specs.declared.records.RowKeys.{RowKeys}
@@ -177,14 +175,17 @@ module _ (s₀ : Arrays) (table : Table) (t : ℕ) (text : List ℕ) (from : ℕ
         kept = record { onward = onward-most (0 * asks table) (onward-self from z) (omega arith); line = λ j h. absurd (omega arith) };
       }
 
-  module _ (s : Arrays) (j a : ℕ) (w : Walk s₀ s table t text from j a) (n : NextLine) (e : n ≡ nextLine text a) (h : a < length text) where
-    next : drop j (linesOf text) ≡ record { bytes = take (n .end - a) (drop a text); ended = n .ended } ∷ linesOf (drop (n .next) text)
-    next = sym (w .left) ∙ lines-next text a n e h
+  module _ (s : Arrays) (j a : ℕ) (w : Walk s₀ s table t text from j a) (h : a < length text) where
+    next : drop j (linesOf text) ≡ lineFrom text a ∷ linesOf (drop (nextLine text a .next) text)
+    unfolding lineFrom nextLine
+    next =
+        let n : a + lineLength (drop a text) - a ≡ lineLength (drop a text) = omega arith in
+        sym (w .left) ∙ (rw n at (lines-next text a (nextLine text a) refl h))
 
     pub walk-below : j < length (linesOf text)
     walk-below = at-below (linesOf text) j next
 
-    module _ (kind : Table) (keys : RowKeys) (same : kind ≡ table) (is : keys ≡ rowKeysOf kind (lineOf (take (n .end - a) (drop a text)) (n .ended))) where
+    module _ (kind : Table) (keys : RowKeys) (same : kind ≡ table) (is : keys ≡ rowKeysOf kind (lineFrom text a)) where
       walk-keys : keys ≡ rowKeysOf table (lineAt text j)
       walk-keys = is ∙ rw (same, at-is (linesOf text) j noLine next)
 
@@ -198,10 +199,11 @@ module _ (s₀ : Arrays) (table : Table) (t : ℕ) (text : List ℕ) (from : ℕ
           let m : (j + 1) * q ≤ length (linesOf text) * q = mul-le-mul-right q (omega (arith, walk-below)) in
           omega (arith, w .kept .onward .grown .few, walk-asks, add-mul j 1 q)
 
-      pub walk-more : (s′ : Arrays) → RowKept s s′ keys (from + j) a t → Walk s₀ s′ table t text from (j + 1) (n .next)
-      walk-more s′ k =
-          record {
-            within = next-bounds text a n e h .within;
+      pub walk-more : (s′ : Arrays) (b : ℕ) → b ≡ nextLine text a .next → RowKept s s′ keys (from + j) a t → Walk s₀ s′ table t text from (j + 1) b
+      walk-more s′ b z k =
+          rw z
+          (record {
+            within = next-bounds text a (nextLine text a) refl h .within;
             few = omega (arith, walk-below);
             left = sym (rw (add-one j) (at-next (linesOf text) j next));
             kept = record {
@@ -210,7 +212,7 @@ module _ (s₀ : Arrays) (table : Table) (t : ℕ) (text : List ℕ) (from : ℕ
                   (omega (arith, walk-asks, add-mul j 1 (asks table)));
               line = λ i l. line i l (ℕ-discrete i j);
             };
-          }
+          })
         where
           line : (i : ℕ) → i < j + 1 → Dec (i ≡ j) → LineKept s′ table t text i (from + i)
           line i l (yes z) =

@@ -1,9 +1,8 @@
 // The first pass: every row of the tables is read once, its keys become symbols, and its columns are stored.
 use crate::columns::put_row;
 use crate::interning::intern_row;
+use keys::line_keys;
 use keys::records::RowKeys;
-use keys::row_keys;
-use lines::walk::next_line;
 use tables::TABLES;
 use tables::kind_of;
 use tables::table_at;
@@ -72,20 +71,11 @@ fn keep_table(
     let mut j: usize = 0;
     let mut a: usize = 0;
     while a < table.len() {
-        let line = next_line(table, a);
-        let e = line.end;
-        let keys = row_keys(kind_of(t), &table[a..e], line.ended);
-        count = keep_row(
-            words,
-            links,
-            count,
-            halves,
-            bytes,
-            from + j,
-            keys,
-            a as u16,
-            t as u8,
-        );
+        let i = from + j;
+        let line = line_keys(kind_of(t), table, a);
+        let keys = line.keys;
+        let start = a as u16;
+        count = keep_row(words, links, count, halves, bytes, i, keys, start, t as u8);
         j += 1;
         a = line.next;
     }

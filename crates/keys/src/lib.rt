@@ -5,7 +5,7 @@ pub mod records;
 mod tables;
 mod words;
 
-use records::RowKeys;
+use records::LineKeys;
 use schemas::Table;
 use tables::blanked;
 use tables::caf_keys;
@@ -19,29 +19,31 @@ use tables::plf_keys;
 use tables::txf_keys;
 use tables::txp_keys;
 ghost use mathlib.Core.Path.{_≡_};
-ghost use Rattle.schemas.specs.Reasons.{lineOf};
+ghost use Rattle.lines.specs.Lines.{nextLine, lineFrom};
 ghost use Rattle.keys.specs.Held.{columnKeys, rowKeysOf};
 
-fn column_keys(table: Table, line: &[u8], ended: bool) -> RowKeys
-    ensures { λ r. ⌜ r ≡ columnKeys table (lineOf (now (line .entry)) ended) ⌝ }
+fn column_keys(kind: Table, table: &[u8], at: usize) -> LineKeys
+    ensures { λ r. ⌜ r .keys ≡ columnKeys kind (lineFrom (now (table .entry)) at) ⌝ }
+    ensures { λ r. ⌜ r .next ≡ nextLine (now (table .entry)) at .next ⌝ }
 {
-    match table {
-        Table::Pid => pid_keys(line, ended),
-        Table::Pic => pic_keys(line, ended),
-        Table::Plf => plf_keys(line, ended),
-        Table::Pcf => pcf_keys(line, ended),
-        Table::Caf => caf_keys(line, ended),
-        Table::Cap => cap_keys(line, ended),
-        Table::Txf => txf_keys(line, ended),
-        Table::Txp => txp_keys(line, ended),
-        Table::Ocf => ocf_keys(line, ended),
-        Table::Ocp => ocp_keys(line, ended),
+    match kind {
+        Table::Pid => pid_keys(table, at),
+        Table::Pic => pic_keys(table, at),
+        Table::Plf => plf_keys(table, at),
+        Table::Pcf => pcf_keys(table, at),
+        Table::Caf => caf_keys(table, at),
+        Table::Cap => cap_keys(table, at),
+        Table::Txf => txf_keys(table, at),
+        Table::Txp => txp_keys(table, at),
+        Table::Ocf => ocf_keys(table, at),
+        Table::Ocp => ocp_keys(table, at),
     }
 }
 
-// The keys of a row of any table; a row with one of reasons 1 to 8 has none and names nothing.
-pub fn row_keys(table: Table, line: &[u8], ended: bool) -> RowKeys
-    ensures { λ r. ⌜ r ≡ rowKeysOf table (lineOf (now (line .entry)) ended) ⌝ }
+// The keys of the line that starts at a place of a table; a row with one of reasons 1 to 8 has none and names nothing.
+pub fn line_keys(kind: Table, table: &[u8], at: usize) -> LineKeys
+    ensures { λ r. ⌜ r .keys ≡ rowKeysOf kind (lineFrom (now (table .entry)) at) ⌝ }
+    ensures { λ r. ⌜ r .next ≡ nextLine (now (table .entry)) at .next ⌝ }
 {
-    blanked(column_keys(table, line, ended))
+    blanked(column_keys(kind, table, at))
 }

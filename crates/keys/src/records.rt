@@ -31,3 +31,9 @@ pub struct RowKeys {
     pub count: Counting,
     pub marks: u8,
 }
+
+// The keys of a line, and where the next line starts.
+pub struct LineKeys {
+    pub keys: RowKeys,
+    pub next: usize,
+}

@@ -1,6 +1,7 @@
 // The keys of a row of each table, as its columns say them, whatever its verdict.
 use crate::marks::pcf_marks;
 use crate::records::Counting;
+use crate::records::LineKeys;
 use crate::records::Named;
 use crate::records::RowKeys;
 use crate::records::Slot;
@@ -27,7 +28,7 @@ ghost use mathlib.Core.Path.{_≡_};
 ghost use mathlib.Core.Bool.{cond};
 ghost use lib.Dec.{eqb};
 ghost use Rattle.schemas.specs.declared.Table.the-variants.{Pid, Pic, Plf, Pcf, Caf, Cap, Txf, Txp, Ocf, Ocp};
-ghost use Rattle.schemas.specs.Reasons.{lineOf};
+ghost use Rattle.lines.specs.Lines.{nextLine, lineFrom};
 ghost use Rattle.verdicts.specs.Key.{structure};
 ghost use Rattle.keys.specs.Keyed.{symbolOf};
 ghost use Rattle.keys.specs.Held.{noSlot, slotFor, noKeys, counterKeys, memberKeys, columnKeys, isYes, curtxSpace, isEngineering};
@@ -96,14 +97,15 @@ fn choose(given: bool, name: Named, other: Named) -> Named
 }
 
 // A row with one of reasons 1 to 8 holds, names and counts nothing.
-pub(crate) fn blanked(keys: RowKeys) -> RowKeys
-    ensures { λ r. ⌜ r ≡ cond (eqb (keys .verdict) 0) keys (noKeys (keys .verdict)) ⌝ }
+pub(crate) fn blanked(read: LineKeys) -> LineKeys
+    ensures { λ r. ⌜ r .keys ≡ cond (eqb (read .keys .verdict) 0) (read .keys) (noKeys (read .keys .verdict)) ⌝ }
+    ensures { λ r. ⌜ r .next ≡ read .next ⌝ }
 {
-    if keys.verdict == 0 {
-        return keys;
+    if read.keys.verdict == 0 {
+        return read;
     }
-    RowKeys {
-        verdict: keys.verdict,
+    let keys = RowKeys {
+        verdict: read.keys.verdict,
         first: NO_SLOT,
         second: NO_SLOT,
         one: NO_NAME,
@@ -111,7 +113,9 @@ pub(crate) fn blanked(keys: RowKeys) -> RowKeys
         group: NO_SLOT,
         count: NO_COUNT,
         marks: 0,
-    }
+    };
+    let next = read.next;
+    LineKeys { keys, next }
 }
 
 // A row that counts the rows of the group that goes by its key.
@@ -188,10 +192,11 @@ fn structure_symbol(spid: u32) -> Symbol
     }
 }
 
-pub(crate) fn pid_keys(line: &[u8], ended: bool) -> RowKeys
-    ensures { λ r. ⌜ r ≡ columnKeys Pid (lineOf (now (line .entry)) ended) ⌝ }
+pub(crate) fn pid_keys(table: &[u8], at: usize) -> LineKeys
+    ensures { λ r. ⌜ r .keys ≡ columnKeys Pid (lineFrom (now (table .entry)) at) ⌝ }
+    ensures { λ r. ⌜ r .next ≡ nextLine (now (table .entry)) at .next ⌝ }
 {
-    let read = read_pid(line, ended);
+    let read = read_pid(table, at);
     let row = read.row;
     let valid = row.valid;
     let yes = is_yes(valid);
@@ -202,7 +207,7 @@ pub(crate) fn pid_keys(line: &[u8], ended: bool) -> RowKeys
         c: row.pi2 as u64,
     };
     let structure = structure_symbol(row.spid.0);
-    RowKeys {
+    let keys = RowKeys {
         verdict: read.verdict,
         first: slot(yes, packet),
         second: slot(yes, structure),
@@ -211,13 +216,18 @@ pub(crate) fn pid_keys(line: &[u8], ended: bool) -> RowKeys
         group: NO_SLOT,
         count: NO_COUNT,
         marks: 1,
+    };
+    LineKeys {
+        keys,
+        next: read.next,
     }
 }
 
-pub(crate) fn pic_keys(line: &[u8], ended: bool) -> RowKeys
-    ensures { λ r. ⌜ r ≡ columnKeys Pic (lineOf (now (line .entry)) ended) ⌝ }
+pub(crate) fn pic_keys(table: &[u8], at: usize) -> LineKeys
+    ensures { λ r. ⌜ r .keys ≡ columnKeys Pic (lineFrom (now (table .entry)) at) ⌝ }
+    ensures { λ r. ⌜ r .next ≡ nextLine (now (table .entry)) at .next ⌝ }
 {
-    let read = read_pic(line, ended);
+    let read = read_pic(table, at);
     let row = read.row;
     let apid = row.apid;
     let key = Symbol {
@@ -226,7 +236,7 @@ pub(crate) fn pic_keys(line: &[u8], ended: bool) -> RowKeys
         b: apid_word(apid),
         c: 0,
     };
-    RowKeys {
+    let keys = RowKeys {
         verdict: read.verdict,
         first: Slot {
             given: true,
@@ -238,19 +248,24 @@ pub(crate) fn pic_keys(line: &[u8], ended: bool) -> RowKeys
         group: NO_SLOT,
         count: NO_COUNT,
         marks: 1,
+    };
+    LineKeys {
+        keys,
+        next: read.next,
     }
 }
 
-pub(crate) fn plf_keys(line: &[u8], ended: bool) -> RowKeys
-    ensures { λ r. ⌜ r ≡ columnKeys Plf (lineOf (now (line .entry)) ended) ⌝ }
+pub(crate) fn plf_keys(table: &[u8], at: usize) -> LineKeys
+    ensures { λ r. ⌜ r .keys ≡ columnKeys Plf (lineFrom (now (table .entry)) at) ⌝ }
+    ensures { λ r. ⌜ r .next ≡ nextLine (now (table .entry)) at .next ⌝ }
 {
-    let read = read_plf(line, ended);
+    let read = read_plf(table, at);
     let row = read.row;
     let name = row.name;
     let spid = row.spid.0;
     let key = name_symbol(LOCATION, name, spid as u64);
     let parameter = name_symbol(PARAMETER, name, 0);
-    RowKeys {
+    let keys = RowKeys {
         verdict: read.verdict,
         first: Slot {
             given: true,
@@ -268,13 +283,18 @@ pub(crate) fn plf_keys(line: &[u8], ended: bool) -> RowKeys
         group: NO_SLOT,
         count: NO_COUNT,
         marks: 1,
+    };
+    LineKeys {
+        keys,
+        next: read.next,
     }
 }
 
-pub(crate) fn pcf_keys(line: &[u8], ended: bool) -> RowKeys
-    ensures { λ r. ⌜ r ≡ columnKeys Pcf (lineOf (now (line .entry)) ended) ⌝ }
+pub(crate) fn pcf_keys(table: &[u8], at: usize) -> LineKeys
+    ensures { λ r. ⌜ r .keys ≡ columnKeys Pcf (lineFrom (now (table .entry)) at) ⌝ }
+    ensures { λ r. ⌜ r .next ≡ nextLine (now (table .entry)) at .next ⌝ }
 {
-    let read = read_pcf(line, ended);
+    let read = read_pcf(table, at);
     let row = read.row;
     let name = row.name;
     let valid = row.valid.name;
@@ -289,7 +309,7 @@ pub(crate) fn pcf_keys(line: &[u8], ended: bool) -> RowKeys
         key: curve_symbol(curtx_space(categ), curve, 0),
     };
     let last = choose(row.curtx.given, curtx, NO_NAME);
-    RowKeys {
+    let keys = RowKeys {
         verdict: read.verdict,
         first: Slot {
             given: true,
@@ -301,51 +321,76 @@ pub(crate) fn pcf_keys(line: &[u8], ended: bool) -> RowKeys
         group: NO_SLOT,
         count: NO_COUNT,
         marks: pcf_marks(row),
+    };
+    LineKeys {
+        keys,
+        next: read.next,
     }
 }
 
-pub(crate) fn caf_keys(line: &[u8], ended: bool) -> RowKeys
-    ensures { λ r. ⌜ r ≡ columnKeys Caf (lineOf (now (line .entry)) ended) ⌝ }
+pub(crate) fn caf_keys(table: &[u8], at: usize) -> LineKeys
+    ensures { λ r. ⌜ r .keys ≡ columnKeys Caf (lineFrom (now (table .entry)) at) ⌝ }
+    ensures { λ r. ⌜ r .next ≡ nextLine (now (table .entry)) at .next ⌝ }
 {
-    let read = read_caf(line, ended);
+    let read = read_caf(table, at);
     let row = read.row;
     let numbr = row.numbr;
-    counter(read.verdict, curve_symbol(CURVE, numbr, 0), 7, row.ncurve)
+    let keys = counter(read.verdict, curve_symbol(CURVE, numbr, 0), 7, row.ncurve);
+    LineKeys {
+        keys,
+        next: read.next,
+    }
 }
 
-pub(crate) fn cap_keys(line: &[u8], ended: bool) -> RowKeys
-    ensures { λ r. ⌜ r ≡ columnKeys Cap (lineOf (now (line .entry)) ended) ⌝ }
+pub(crate) fn cap_keys(table: &[u8], at: usize) -> LineKeys
+    ensures { λ r. ⌜ r .keys ≡ columnKeys Cap (lineFrom (now (table .entry)) at) ⌝ }
+    ensures { λ r. ⌜ r .next ≡ nextLine (now (table .entry)) at .next ⌝ }
 {
-    let read = read_cap(line, ended);
+    let read = read_cap(table, at);
     let row = read.row;
     let numbr = row.numbr;
     let point = curve_symbol(POINT, numbr, integer_word(row.xvals));
-    member(read.verdict, point, curve_symbol(CURVE, numbr, 0), NO_NAME)
+    let keys = member(read.verdict, point, curve_symbol(CURVE, numbr, 0), NO_NAME);
+    LineKeys {
+        keys,
+        next: read.next,
+    }
 }
 
-pub(crate) fn txf_keys(line: &[u8], ended: bool) -> RowKeys
-    ensures { λ r. ⌜ r ≡ columnKeys Txf (lineOf (now (line .entry)) ended) ⌝ }
+pub(crate) fn txf_keys(table: &[u8], at: usize) -> LineKeys
+    ensures { λ r. ⌜ r .keys ≡ columnKeys Txf (lineFrom (now (table .entry)) at) ⌝ }
+    ensures { λ r. ⌜ r .next ≡ nextLine (now (table .entry)) at .next ⌝ }
 {
-    let read = read_txf(line, ended);
+    let read = read_txf(table, at);
     let row = read.row;
     let numbr = row.numbr;
-    counter(read.verdict, curve_symbol(TEXTS, numbr, 0), 4, row.nalias)
+    let keys = counter(read.verdict, curve_symbol(TEXTS, numbr, 0), 4, row.nalias);
+    LineKeys {
+        keys,
+        next: read.next,
+    }
 }
 
-pub(crate) fn txp_keys(line: &[u8], ended: bool) -> RowKeys
-    ensures { λ r. ⌜ r ≡ columnKeys Txp (lineOf (now (line .entry)) ended) ⌝ }
+pub(crate) fn txp_keys(table: &[u8], at: usize) -> LineKeys
+    ensures { λ r. ⌜ r .keys ≡ columnKeys Txp (lineFrom (now (table .entry)) at) ⌝ }
+    ensures { λ r. ⌜ r .next ≡ nextLine (now (table .entry)) at .next ⌝ }
 {
-    let read = read_txp(line, ended);
+    let read = read_txp(table, at);
     let row = read.row;
     let numbr = row.numbr;
     let range = curve_symbol(RANGE, numbr, integer_word(row.from));
-    member(read.verdict, range, curve_symbol(TEXTS, numbr, 0), NO_NAME)
+    let keys = member(read.verdict, range, curve_symbol(TEXTS, numbr, 0), NO_NAME);
+    LineKeys {
+        keys,
+        next: read.next,
+    }
 }
 
-pub(crate) fn ocf_keys(line: &[u8], ended: bool) -> RowKeys
-    ensures { λ r. ⌜ r ≡ columnKeys Ocf (lineOf (now (line .entry)) ended) ⌝ }
+pub(crate) fn ocf_keys(table: &[u8], at: usize) -> LineKeys
+    ensures { λ r. ⌜ r .keys ≡ columnKeys Ocf (lineFrom (now (table .entry)) at) ⌝ }
+    ensures { λ r. ⌜ r .next ≡ nextLine (now (table .entry)) at .next ⌝ }
 {
-    let read = read_ocf(line, ended);
+    let read = read_ocf(table, at);
     let row = read.row;
     let name = row.name;
     let inter = row.inter;
@@ -355,7 +400,7 @@ pub(crate) fn ocf_keys(line: &[u8], ended: bool) -> RowKeys
         code: 7,
         key: parameter,
     };
-    RowKeys {
+    let keys = RowKeys {
         verdict: read.verdict,
         first: Slot {
             given: true,
@@ -373,13 +418,18 @@ pub(crate) fn ocf_keys(line: &[u8], ended: bool) -> RowKeys
             number: row.nbool,
         },
         marks: 1,
+    };
+    LineKeys {
+        keys,
+        next: read.next,
     }
 }
 
-pub(crate) fn ocp_keys(line: &[u8], ended: bool) -> RowKeys
-    ensures { λ r. ⌜ r ≡ columnKeys Ocp (lineOf (now (line .entry)) ended) ⌝ }
+pub(crate) fn ocp_keys(table: &[u8], at: usize) -> LineKeys
+    ensures { λ r. ⌜ r .keys ≡ columnKeys Ocp (lineFrom (now (table .entry)) at) ⌝ }
+    ensures { λ r. ⌜ r .next ≡ nextLine (now (table .entry)) at .next ⌝ }
 {
-    let read = read_ocp(line, ended);
+    let read = read_ocp(table, at);
     let row = read.row;
     let name = row.name;
     let check = row.rlchk.name;
@@ -389,10 +439,14 @@ pub(crate) fn ocp_keys(line: &[u8], ended: bool) -> RowKeys
         code: 8,
         key: name_symbol(PARAMETER, check, 0),
     };
-    member(
+    let keys = member(
         read.verdict,
         key,
         limits,
         choose(row.rlchk.given, parameter, NO_NAME),
-    )
+    );
+    LineKeys {
+        keys,
+        next: read.next,
+    }
 }

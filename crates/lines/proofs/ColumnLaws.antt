@@ -4,13 +4,26 @@ use mathlib.Core.List.{List, [], _∷_, _++_, map, append-nil, append-assoc}
 use Prim.Native.Nat.{ℕ, zero, suc, _+_, _-_, _<_, _≤_}
 use native.Mathlib.Omega.{arith}
 use lib.Dec.{eqb}
-use lib.ListN.{length, getD, take, drop, set, replicate, drop-of-length-le, length-append, length-drop, getD-replicate, length-map, List·getD-map, List·getD-eq-default}
-use lib.Seq.{take-suc, take-all, take-nil, getD-drop, getD-take, length-take-le, append-snoc, take-append-seam, drop-append-seam}
-use borrow.Author.Tests.{eq-eqb, ne-eqb, eqb-true}
-use Rattle.laws.proofs.Lists.{split}
-use Rattle.laws.proofs.Cases.{cond-cases}
-use Rattle.lines.specs.declared.columns.Columns.{Columns}
-use Rattle.lines.specs.Columns.{tab, columnsFrom, columnsOf, columnAt, Place, placesFrom, placesOf, firsts, divided, withColumn, partOf, columnIn}
+use lib.ListN.{length, getD, take, drop, set, replicate, drop-of-length-le, length-append, length-take, length-drop, getD-replicate, List·getD-map, List·getD-eq-default}
+use lib.Seq.{sets, take-all, take-nil, getD-take, append-snoc, take-append-seam, drop-append-seam}
+use borrow.Author.Tests.{eqb-true}
+use Rattle.laws.proofs.Cases.{cond-cases, cond-cases₂}
+use Rattle.lines.specs.Columns.{
+  tab,
+  columnsFrom,
+  columnsOf,
+  columnAt,
+  Place,
+  placesFrom,
+  placesOf,
+  endsFrom,
+  endsOf,
+  firsts,
+  divided,
+  partOf,
+  startIn,
+  columnIn,
+}
 
 -- The first n of a list
 
@@ -40,35 +53,17 @@ pub firsts-at : (n : ℕ) (l : List ℕ) (k : ℕ) → k < n → getD (firsts n 
 unfolding firsts
 firsts-at n l k h = rw (getD-take n (l ++ replicate n 0) k 0 h) (at-zeros n l k h)
 
--- Places stored one after the other
+-- the next ones are stored at the next places
+firsts-all : (n : ℕ) (l vs : List ℕ) → sets (firsts n l) (length l) vs ≡ firsts n (l ++ vs)
+firsts-all n l [] = rw (append-nil l)
+firsts-all n l (v ∷ vs) =
+    let e : suc (length l) ≡ length (l ++ v ∷ []) = simp length-append (omega arith) in
+    rw (firsts-next n l v, e, firsts-all n (l ++ v ∷ []) vs, append-assoc l (v ∷ []) vs)
 
--- the columns at these places, as `divided` hands them on
-abbrev held : List Place → Columns
-held ps = record { starts = firsts 24 (map (λ p. p .start) ps); ends = firsts 24 (map (λ p. p .end) ps); count = length ps }
-
-unfoldable pub storeAll : Columns → List Place → Columns
-storeAll c [] = c
-storeAll c (p ∷ ps) = storeAll (withColumn c (p .start) (p .end)) ps
-
-map-next : (f : Place → ℕ) (ps : List Place) (p : Place) → map f (ps ++ p ∷ []) ≡ map f ps ++ f p ∷ []
-map-next f [] p = refl
-map-next f (q ∷ ps) p = ap (λ (l : List ℕ). f q ∷ l) (map-next f ps p)
-
-firsts-map : (f : Place → ℕ) (ps : List Place) (p : Place) → set (firsts 24 (map f ps)) (length ps) (f p) ≡ firsts 24 (map f (ps ++ p ∷ []))
-firsts-map f ps p = rw (map-next f ps p, ← length-map ps f) (firsts-next 24 (map f ps) (f p))
-
-held-next : (ps : List Place) (p : Place) → withColumn (held ps) (p .start) (p .end) ≡ held (ps ++ p ∷ [])
-unfolding withColumn
-held-next ps p = λ i. record {
-  starts = firsts-map (λ q. q .start) ps p i;
-  ends = firsts-map (λ q. q .end) ps p i;
-  count = sym (length-append ps (p ∷ [])) i;
-}
-
-held-all : (ps qs : List Place) → storeAll (held ps) qs ≡ held (ps ++ qs)
-unfolding storeAll
-held-all ps [] = rw append-nil
-held-all ps (q ∷ qs) = rw (held-next ps q, held-all (ps ++ q ∷ []) qs, append-assoc)
+-- the ends of all columns, stored where there is room
+pub divided-stored : (line : List ℕ) → sets (replicate 24 0) 0 (endsOf line) ≡ divided line
+unfolding divided firsts
+divided-stored line = firsts-all 24 [] (endsOf line)
 
 -- Parts of a line
 
@@ -81,116 +76,106 @@ part-past line a e h = rw (drop-of-length-le line h, take-nil)
 pub part-rest : (line : List ℕ) (a e : ℕ) → length line ≤ e → partOf line a e ≡ drop a line
 part-rest line a e h = take-all (e - a) (drop a line) (simp length-drop (omega arith))
 
-pub part-length : (line : List ℕ) (a e : ℕ) → e ≤ length line → length (partOf line a e) ≡ e - a
-part-length line a e h = length-take-le (e - a) (drop a line) (simp length-drop (omega arith))
+pub part-short : (line : List ℕ) (a e : ℕ) → length (partOf line a e) ≤ e
+part-short line a e = simp length-take (omega arith)
 
--- one byte more
-part-grown : (line : List ℕ) (a i : ℕ) → a ≤ i → i < length line → partOf line a (i + 1) ≡ partOf line a i ++ getD line i 0 ∷ []
-part-grown line a i h k =
-    let n : i + 1 - a ≡ suc (i - a) = omega arith in
-    let j : a + (i - a) ≡ i = omega arith in
-    let u : i - a < length (drop a line) = simp length-drop (omega arith) in
-    rw (n, take-suc (drop a line) (i - a) 0 u, getD-drop a line (i - a) 0, j)
+-- What stands before the ends
 
--- no place is kept past the room, so there the column is empty
-pub column-none : (line : List ℕ) (c : Columns) (k : ℕ) → length (c .starts) ≤ k → length (c .ends) ≤ k → columnIn line c k ≡ []
-column-none line c k h g = rw (List·getD-eq-default (c .starts) 0 h, List·getD-eq-default (c .ends) 0 g)
+-- where column k starts of columns of which the first starts at a
+abbrev startFrom : ℕ → List ℕ → ℕ → ℕ
+startFrom a ends zero = a
+startFrom a ends (suc k) = getD ends k 0 + 1
 
--- The walk of `divide`
+start-next : (a e : ℕ) (ends : List ℕ) (k : ℕ) → startFrom a (e ∷ ends) (suc k) ≡ startFrom (e + 1) ends k
+start-next a e ends zero = refl
+start-next a e ends (suc k) = refl
 
--- the columns that ended before i are stored; the one that i is in started at a
-pub record Walk (line : List ℕ) (c : Columns) (a i : ℕ) : Type 0 where
-  pub within : i ≤ length line
-  pub from : a ≤ i
-  pub few : c .count ≤ i
-  pub left : storeAll c (placesFrom a (columnsFrom (partOf line a i) (drop i line))) ≡ divided line
+start-first : (ends : List ℕ) (k : ℕ) → startIn ends k ≡ startFrom 0 ends k
+start-first ends zero = refl
+start-first ends (suc k) = refl
 
-same-count : (a : ℕ) (cs : List (List ℕ)) → length (placesFrom a cs) ≡ length cs
-unfolding placesFrom
-same-count a [] = refl
-same-count a (c ∷ cs) = ap suc (same-count (a + length c + 1) cs)
+abbrev partFrom : List ℕ → ℕ → List ℕ → ℕ → List ℕ
+partFrom line a ends k = partOf line (startFrom a ends k) (getD ends k 0)
 
-divided-held : (line : List ℕ) → held (placesOf line) ≡ divided line
-unfolding divided placesOf
-divided-held line = rw (same-count 0 (columnsOf line))
-
-pub walk-start : (line : List ℕ) → Walk line (record { starts = replicate 24 0; ends = replicate 24 0; count = 0 }) 0 0
-unfolding firsts placesOf columnsOf
-walk-start line = record { within = omega arith; from = omega arith; few = omega arith; left = held-all [] (placesOf line) ∙ divided-held line }
-
-module _ (line : List ℕ) (c : Columns) (a i : ℕ) (w : Walk line c a i) where
-  ends-at : a + length (partOf line a i) ≡ i
-  ends-at = omega (arith, part-length line a i (w .within))
-
-  pub walk-other : i < length line → (getD line i 0 ≡ 9 → ⊥) → Walk line c a (i + 1)
-  unfolding columnsFrom
-  walk-other h n = record {
-    within = omega arith;
-    from = omega arith;
-    few = omega arith;
-    left = rw (part-grown line a i (w .from) h) (rw (split line i 0 h, ne-eqb (getD line i 0) 9 n) at (w .left));
-  }
-
-  pub walk-tab : {d : Columns} → i < length line → getD line i 0 ≡ 9 → d ≡ withColumn c a i → Walk line d (i + 1) (i + 1)
-  unfolding columnsFrom placesFrom storeAll withColumn
-  walk-tab h t e = record {
-    within = omega arith;
-    from = omega arith;
-    few = omega (arith, ap (λ (x : Columns). x .count) e);
-    left = rw (e, part-none line (i + 1) (i + 1) (omega arith)) (rw (split line i 0 h, eq-eqb (getD line i 0) 9 t, ends-at) at (w .left));
-  }
-
-  -- where the line ends, its last column does
-  pub walk-end : length line ≤ i → withColumn c a (length line) ≡ divided line
-  unfolding columnsFrom placesFrom storeAll
-  walk-end h =
-      let n : i ≡ length line = omega arith in
-      rw (drop-of-length-le line h, ends-at, n) at (w .left)
-
--- What stands at the places
-
-abbrev noPlace : Place
-noPlace = record { start = 0; end = 0 }
-
-abbrev partAt : List ℕ → List Place → ℕ → List ℕ
-partAt line ps k = partOf line (getD ps k noPlace .start) (getD ps k noPlace .end)
-
-cut : (p c l : List ℕ) → partOf (p ++ (c ++ l)) (length p) (length p + length c) ≡ c
-cut p c l = let n : length p + length c - length p ≡ length c = omega arith in rw (n, drop-append-seam p (c ++ l), take-append-seam c l)
+cut : (p c l : List ℕ) (e : ℕ) → e ≡ length p + length c → partOf (p ++ (c ++ l)) (length p) e ≡ c
+cut p c l e h = let n : e - length p ≡ length c = omega arith in rw (n, drop-append-seam p (c ++ l), take-append-seam c l)
 
 -- p are the bytes before the column that c starts and l goes on
-parts-from : (l p c : List ℕ) (k : ℕ) → partAt (p ++ (c ++ l)) (placesFrom (length p) (columnsFrom c l)) k ≡ columnAt (columnsFrom c l) k
-unfolding columnsFrom placesFrom
-parts-from [] p c zero = cut p c []
-parts-from [] p c (suc k) = refl
-parts-from (b ∷ bs) p c zero =
-    cond-cases (λ (cs : List (List ℕ)). partAt (p ++ (c ++ b ∷ bs)) (placesFrom (length p) cs) 0 ≡ columnAt cs 0) (eqb b 9)
-    (λ _. cut p c (b ∷ bs))
-    (λ _. rw (append-snoc c b bs) at (parts-from bs p (c ++ b ∷ []) 0))
-parts-from (b ∷ bs) p c (suc k) =
-    let n : length (p ++ (c ++ b ∷ [])) ≡ length p + length c + 1 = simp length-append (omega arith) in
-    cond-cases (λ (cs : List (List ℕ)). partAt (p ++ (c ++ b ∷ bs)) (placesFrom (length p) cs) (suc k) ≡ columnAt cs (suc k)) (eqb b 9)
-    (λ _. rw (n, append-assoc p (c ++ b ∷ []) bs, append-snoc c b bs) at (parts-from bs (p ++ (c ++ b ∷ [])) [] k))
-    (λ _. rw (append-snoc c b bs) at (parts-from bs p (c ++ b ∷ []) (suc k)))
+parts-from : (l p c : List ℕ) (e : ℕ) → e ≡ length p + length c → (k : ℕ)
+    → partFrom (p ++ (c ++ l)) (length p) (endsFrom e l) k ≡ columnAt (columnsFrom c l) k
+unfolding columnsFrom endsFrom
+parts-from [] p c e h zero = cut p c [] e h
+parts-from [] p c e h (suc k) = part-none (p ++ (c ++ [])) (startFrom (length p) (e ∷ []) (suc k)) 0 (omega arith)
+parts-from (b ∷ bs) p c e h zero =
+    let n : suc e ≡ length p + length (c ++ b ∷ []) = simp length-append (omega arith) in
+    cond-cases₂ (λ (es : List ℕ) (cs : List (List ℕ)). partFrom (p ++ (c ++ b ∷ bs)) (length p) es 0 ≡ columnAt cs 0) (eqb b 9)
+    (λ _. cut p c (b ∷ bs) e h)
+    (λ _. rw (append-snoc c b bs) at (parts-from bs p (c ++ b ∷ []) (suc e) n 0))
+parts-from (b ∷ bs) p c e h (suc k) =
+    let n : suc e ≡ length p + length (c ++ b ∷ []) = simp length-append (omega arith) in
+    let q : List ℕ = p ++ (c ++ b ∷ []) in
+    let m : length q ≡ e + 1 = simp length-append (omega arith) in
+    cond-cases₂ (λ (es : List ℕ) (cs : List (List ℕ)). partFrom (p ++ (c ++ b ∷ bs)) (length p) es (suc k) ≡ columnAt cs (suc k)) (eqb b 9)
+    (λ _. rw (start-next (length p) e (endsFrom (suc e) bs) k)
+    (rw (m, append-assoc p (c ++ b ∷ []) bs, append-snoc c b bs) at (parts-from bs q [] (suc e) (omega (arith, m)) k)))
+    (λ _. rw (append-snoc c b bs) at (parts-from bs p (c ++ b ∷ []) (suc e) n (suc k)))
 
--- the part of a line at the place of its column k is the column, and the empty one where there are fewer columns
-pub column-is : (line : List ℕ) (c : Columns) (k : ℕ) → c ≡ divided line → k < 24 → columnIn line c k ≡ columnAt (columnsOf line) k
-unfolding divided placesOf columnsOf
-column-is line c k e h =
-    let ps : List Place = placesFrom 0 (columnsFrom [] line) in
-    rw (
-      e,
-      firsts-at 24 (map (λ (p : Place). p .start) ps) k h,
-      firsts-at 24 (map (λ (p : Place). p .end) ps) k h,
-      List·getD-map (λ (p : Place). p .start) ps k noPlace,
-      List·getD-map (λ (p : Place). p .end) ps k noPlace,
-    )
-    (parts-from line [] [] k)
+start-firsts : (n : ℕ) (es : List ℕ) (k : ℕ) → k < n → startIn (firsts n es) k ≡ startIn es k
+start-firsts n es zero h = refl
+start-firsts n es (suc k) h = ap (λ (e : ℕ). e + 1) (firsts-at n es k (omega arith))
 
--- all columns are counted, those past the room too
-pub count-is : (line : List ℕ) (c : Columns) → c ≡ divided line → c .count ≡ length (columnsOf line)
-unfolding divided
-count-is line c e = ap (λ (d : Columns). d .count) e
+-- the part of a line before the end of its column k is the column, and the empty one where there are fewer columns
+pub column-is : (line ends : List ℕ) (k : ℕ) → ends ≡ divided line → k < 24 → columnIn line ends k ≡ columnAt (columnsOf line) k
+unfolding divided endsOf columnsOf
+column-is line ends k e h =
+    let es : List ℕ = endsFrom 0 line in
+    rw (e, start-firsts 24 es k h, firsts-at 24 es k h, start-first es k) (parts-from line [] [] 0 refl k)
+
+pub column-first : (line ends : List ℕ) (k : ℕ) → k ≡ 0 → partOf line 0 (getD ends 0 0) ≡ columnIn line ends k
+column-first line ends k z = rw z
+
+pub column-next : (line ends : List ℕ) (k : ℕ) → (k ≡ 0 → ⊥) → partOf line (getD ends (k - 1) 0 + 1) (getD ends k 0) ≡ columnIn line ends k
+column-next line ends zero n = absurd (n refl)
+column-next line ends (suc k) n = let e : suc k - 1 ≡ k = omega arith in rw e
+
+-- no end is kept past the room, so there the column is empty
+pub column-none : (line ends : List ℕ) (k : ℕ) → length ends ≤ k → columnIn line ends k ≡ []
+column-none line ends k h = rw (List·getD-eq-default ends 0 h) (part-none line (startIn ends k) 0 (omega arith))
+
+-- nor is there one behind a column that ends past the line
+pub column-past : (line ends : List ℕ) (k : ℕ) → (k ≡ 0 → ⊥) → length line ≤ getD ends (k - 1) 0 → columnIn line ends k ≡ []
+column-past line ends k n h = sym (column-next line ends k n) ∙ part-past line (getD ends (k - 1) 0 + 1) (getD ends k 0) (omega arith)
+
+-- Ends and places
+
+ends-from : (a : ℕ) (c l : List ℕ) (e : ℕ) → e ≡ a + length c → endsFrom e l ≡ map (λ p. p .end) (placesFrom a (columnsFrom c l))
+unfolding endsFrom columnsFrom placesFrom
+ends-from a c [] e h = ap (λ (n : ℕ). n ∷ []) h
+ends-from a c (b ∷ bs) e h =
+    let n : suc e ≡ a + length (c ++ b ∷ []) = simp length-append (omega arith) in
+    cond-cases₂ (λ (es : List ℕ) (cs : List (List ℕ)). es ≡ map (λ p. p .end) (placesFrom a cs)) (eqb b 9)
+    (λ _. rw (← h) (ap (λ (es : List ℕ). e ∷ es) (ends-from (e + 1) [] bs (suc e) (omega arith))))
+    (λ _. ends-from a (c ++ b ∷ []) bs (suc e) n)
+
+-- a column's end is that of its place
+pub end-is : (line ends : List ℕ) (k : ℕ) → ends ≡ divided line → k < 24 → getD ends k 0 ≡ getD (placesOf line) k record { start = 0; end = 0 } .end
+unfolding divided endsOf placesOf columnsOf
+end-is line ends k e h =
+    rw (e, firsts-at 24 (endsFrom 0 line) k h, ends-from 0 [] line 0 refl)
+    (List·getD-map (λ (p : Place). p .end) (placesFrom 0 (columnsFrom [] line)) k record { start = 0; end = 0 })
+
+place-long : (a : ℕ) (cs : List (List ℕ)) (k : ℕ)
+    → (let p = getD (placesFrom a cs) k record { start = 0; end = 0 } in p .end ≡ p .start + length (getD cs k []))
+unfolding placesFrom
+place-long a [] k = refl
+place-long a (c ∷ cs) zero = refl
+place-long a (c ∷ cs) (suc k) = place-long (a + length c + 1) cs k
+
+-- a place is as long as its column
+pub place-length : (line : List ℕ) (k : ℕ)
+    → (let p = getD (placesOf line) k record { start = 0; end = 0 } in p .end ≡ p .start + length (columnAt (columnsOf line) k))
+unfolding placesOf
+place-length line k = place-long 0 (columnsOf line) k
 
 -- The columns themselves
 

@@ -1,4 +1,4 @@
 pub mod LineLaws
 pub mod ColumnLaws
 pub mod NameLaws
-pub mod ForeignLaws
+pub mod ScanLaws

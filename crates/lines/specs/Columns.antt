@@ -1,13 +1,13 @@
 -- The columns of a line, and where they stand in it.
-use Prim.Native.Nat.{ℕ, _+_, _-_}
+use Prim.Native.Nat.{ℕ, zero, suc, _+_, _-_}
 use mathlib.Core.Path.{_≡_, refl}
-use mathlib.Core.List.{List, [], _∷_, _++_, map}
-use mathlib.Core.Bool.{Bool, true, not, cond, _||_, _&&_}
-use lib.Dec.{eqb, leb}
-use lib.ListN.{length, getD, take, drop, set, replicate}
+use mathlib.Core.List.{List, [], _∷_, _++_}
+use mathlib.Core.Bool.{Bool, true, false, not, cond, _||_, _&&_}
+use lib.Dec.{eqb, leb, ltb}
+use lib.ListN.{length, getD, take, drop, replicate}
 use Rattle.laws.specs.Lists.{any}
 use Rattle.laws.specs.Text.{ascii}
-use Rattle.lines.specs.declared.columns.Columns.{Columns}
+use Rattle.lines.specs.Lines.{lineLength}
 use Rattle.lines.specs.declared.columns.Scanned.{Scanned}
 
 -- the byte TAB
@@ -40,18 +40,21 @@ placesFrom a (c ∷ cs) = record { start = a; end = a + length c } ∷ placesFro
 unfoldable pub placesOf : List ℕ → List Place
 placesOf line = placesFrom 0 (columnsOf line)
 
+-- where the columns end of a line that goes on with these bytes from place i on: at each TAB, and where the line ends
+unfoldable pub endsFrom : ℕ → List ℕ → List ℕ
+endsFrom i [] = i ∷ []
+endsFrom i (b ∷ bs) = cond (eqb b tab) (i ∷ endsFrom (suc i) bs) (endsFrom (suc i) bs)
+
+unfoldable pub endsOf : List ℕ → List ℕ
+endsOf line = endsFrom 0 line
+
 -- the first n numbers of a list, and 0 for each that is missing
 unfoldable pub firsts : ℕ → List ℕ → List ℕ
 firsts n l = take n (l ++ replicate n 0)
 
--- the places of a line's columns as they are handed on: of the first 24, and the number of all
-unfoldable pub divided : List ℕ → Columns
-divided line =
-    record {
-      starts = firsts 24 (map (λ p. p .start) (placesOf line));
-      ends = firsts 24 (map (λ p. p .end) (placesOf line));
-      count = length (columnsOf line);
-    }
+-- where the columns of a line end, as it is handed on: of the first 24
+unfoldable pub divided : List ℕ → List ℕ
+divided line = firsts 24 (endsOf line)
 
 -- 01: "other bytes are 0x20 to 0x7E"
 unfoldable pub printable : ℕ → Bool
@@ -63,30 +66,42 @@ allowed b = eqb b tab || printable b
 unfoldable pub foreignIn : List ℕ → Bool
 foreignIn line = any (λ b. not (allowed b)) line
 
--- what one walk over a line tells: its columns, and whether it has a foreign byte
-unfoldable pub scanned : List ℕ → Scanned
-scanned line = record { columns = divided line; foreign = foreignIn line }
+-- the bytes that a walk goes over: all, or those of the first line, where line feeds end lines
+abbrev pub walked : (feeds : Bool) → List ℕ → List ℕ
+walked true text = take (lineLength text) text
+walked false text = text
 
--- places with one more column: it is counted, and kept where there is room
-unfoldable pub withColumn : Columns → ℕ → ℕ → Columns
-withColumn c start end =
-    record { starts = set (c .starts) (c .count) start; ends = set (c .ends) (c .count) end; count = c .count + 1 }
+-- a walk of n columns that ended at a place of a text of so many bytes
+abbrev pub closed : (bytes end n : ℕ) → (foreign : Bool) → Scanned
+closed bytes end n foreign =
+    record { end = end; ended = ltb end bytes; next = cond (ltb end bytes) (end + 1) end; count = n; foreign = foreign }
+
+-- what a walk over a line tells that starts at a place of a text: where it ends, its columns, and whether it has a foreign byte
+unfoldable pub scanned : (feeds : Bool) → List ℕ → (from : ℕ) → Scanned
+scanned feeds text from =
+    let line : List ℕ = walked feeds (drop from text) in closed (length text) (from + length line) (length (columnsOf line)) (foreignIn line)
 
 -- the bytes of a line from start to before end, as far as the line has them
 abbrev pub partOf : List ℕ → ℕ → ℕ → List ℕ
 partOf line start end = take (end - start) (drop start line)
 
--- column k of a line at the places handed on; one without a place is empty
-abbrev pub columnIn : List ℕ → Columns → ℕ → List ℕ
-columnIn line c k = partOf line (getD (c .starts) k 0) (getD (c .ends) k 0)
+-- where column k starts: after the TAB that ends the column before it
+abbrev pub startIn : List ℕ → ℕ → ℕ
+startIn ends zero = 0
+startIn ends (suc k) = getD ends k 0 + 1
+
+-- column k of a line whose columns end there; one without an end is empty
+abbrev pub columnIn : List ℕ → List ℕ → ℕ → List ℕ
+columnIn line ends k = partOf line (startIn ends k) (getD ends k 0)
 
 pub record Examples : Type 0 where
   pub columns : columnsOf (65 ∷ 66 ∷ 9 ∷ 9 ∷ 67 ∷ []) ≡ ascii "AB" ∷ [] ∷ ascii "C" ∷ []
   pub places : placesOf (65 ∷ 66 ∷ 9 ∷ 9 ∷ 67 ∷ [])
       ≡ record { start = 0; end = 2 } ∷ record { start = 3; end = 3 } ∷ record { start = 4; end = 5 } ∷ []
+  pub ends : endsOf (65 ∷ 66 ∷ 9 ∷ 9 ∷ 67 ∷ []) ≡ 2 ∷ 3 ∷ 5 ∷ []
   pub empty-line : columnsOf [] ≡ [] ∷ []
   pub delete : foreignIn (65 ∷ 9 ∷ 0x7F ∷ []) ≡ true
 
 pub examples : Examples
-unfolding columnsOf columnsFrom placesOf placesFrom foreignIn allowed printable
-examples = record { columns = refl; places = refl; empty-line = refl; delete = refl }
+unfolding columnsOf columnsFrom placesOf placesFrom endsOf endsFrom foreignIn allowed printable
+examples = record { columns = refl; places = refl; ends = refl; empty-line = refl; delete = refl }

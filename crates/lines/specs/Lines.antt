@@ -4,7 +4,7 @@ use mathlib.Core.Path.{_≡_, refl}
 use mathlib.Core.List.{List, [], _∷_}
 use mathlib.Core.Bool.{Bool, true, false, not, cond, _&&_}
 use lib.Dec.{eqb, ltb}
-use lib.ListN.{length, drop}
+use lib.ListN.{length, take, drop}
 use Rattle.laws.specs.Text.{ascii}
 use Rattle.lines.specs.declared.walk.NextLine.{NextLine}
 
@@ -51,6 +51,10 @@ unfoldable pub nextLine : List ℕ → ℕ → NextLine
 nextLine table at =
     let end : ℕ = at + lineLength (drop at table) in
     record { end = end; ended = ltb end (length table); next = cond (ltb end (length table)) (end + 1) end }
+
+-- that line itself
+unfoldable pub lineFrom : List ℕ → ℕ → Line
+lineFrom table at = record { bytes = take (lineLength (drop at table)) (drop at table); ended = nextLine table at .ended }
 
 -- two rows, of which the second isn't ended
 pub example : linesOf (65 ∷ 66 ∷ 10 ∷ 67 ∷ []) ≡ record { bytes = ascii "AB"; ended = true } ∷ record { bytes = ascii "C"; ended = false } ∷ []

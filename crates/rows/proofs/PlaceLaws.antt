@@ -1,14 +1,14 @@
 -- A row decoded at the places of a divided line is that of the definitions.
-use mathlib.Core.Path.{_≡_, refl, ap, ap₂, _∙_}
-use mathlib.Core.List.{List, [], map}
-use mathlib.Core.Bool.{Bool, true, false, cond}
-use Prim.Native.Nat.{ℕ, _<_}
+use mathlib.Core.Path.{_≡_, ap, ap₂, _∙_}
+use mathlib.Core.List.{List, []}
+use mathlib.Core.Bool.{cond}
+use Prim.Native.Nat.{ℕ, _-_}
+use native.Mathlib.Omega.{arith}
 use lib.Dec.{ltb, lit<}
-use lib.ListN.{getD, List·getD-map}
+use lib.ListN.{length, getD}
 use borrow.Author.Tests.{ltb-true}
-use Rattle.lines.specs.Columns.{Place, placesOf, divided, columnIn}
-use Rattle.lines.specs.declared.columns.Columns.{Columns}
-use Rattle.lines.proofs.ColumnLaws.{firsts-at, column-is}
+use Rattle.lines.specs.Columns.{divided, columnIn}
+use Rattle.lines.proofs.ColumnLaws.{column-is, end-is, place-length}
 use Rattle.laws.proofs.Cases.{bool-cases}
 use Rattle.rows.specs.Records.{
   column,
@@ -39,66 +39,56 @@ use Rattle.rows.specs.Records.{
 abbrev few : (ℕ → List ℕ) → ℕ → List ℕ
 few at k = cond (ltb k 24) (at k) []
 
-module _ (line : List ℕ) {c : Columns} (e : c ≡ divided line) where
-  same-at : (k : ℕ) → few (columnIn line c) k ≡ few (column line) k
+module _ (line : List ℕ) {ends : List ℕ} (e : ends ≡ divided line) where
+  same-at : (k : ℕ) → few (columnIn line ends) k ≡ few (column line) k
   unfolding column
-  same-at k = bool-cases (ltb k 24) (λ t. ap (λ (l : List ℕ). cond (ltb k 24) l []) (column-is line c k e (ltb-true k 24 t))) (λ f. rw f)
+  same-at k = bool-cases (ltb k 24) (λ t. ap (λ (l : List ℕ). cond (ltb k 24) l []) (column-is line ends k e (ltb-true k 24 t))) (λ f. rw f)
 
-  same : few (columnIn line c) ≡ few (column line)
+  same : few (columnIn line ends) ≡ few (column line)
   same = λ i k. same-at k i
 
-  pub pid-divided : pidRowBy (columnIn line c) ≡ pidRow line
+  pub pid-divided : pidRowBy (columnIn line ends) ≡ pidRow line
   unfolding pidRow
   pid-divided = ap pidRowBy same
 
-  pub pic-divided : picRowBy (columnIn line c) ≡ picRow line
+  pub pic-divided : picRowBy (columnIn line ends) ≡ picRow line
   unfolding picRow
   pic-divided = ap picRowBy same
 
-  pub plf-divided : plfRowBy (columnIn line c) ≡ plfRow line
+  pub plf-divided : plfRowBy (columnIn line ends) ≡ plfRow line
   unfolding plfRow
   plf-divided = ap plfRowBy same
 
-  pub pcf-divided : pcfRowBy (columnIn line c) ≡ pcfRow line
+  pub pcf-divided : pcfRowBy (columnIn line ends) ≡ pcfRow line
   unfolding pcfRow
   pcf-divided = ap pcfRowBy same
 
-  pub caf-divided : cafRowBy (columnIn line c) ≡ cafRow line
+  pub caf-divided : cafRowBy (columnIn line ends) ≡ cafRow line
   unfolding cafRow
   caf-divided = ap cafRowBy same
 
-  pub cap-divided : capRowBy (columnIn line c) ≡ capRow line
+  pub cap-divided : capRowBy (columnIn line ends) ≡ capRow line
   unfolding capRow
   cap-divided = ap capRowBy same
 
-  pub txf-divided : txfRowBy (columnIn line c) ≡ txfRow line
+  pub txf-divided : txfRowBy (columnIn line ends) ≡ txfRow line
   unfolding txfRow
   txf-divided = ap txfRowBy same
 
-  pub ocf-divided : ocfRowBy (columnIn line c) ≡ ocfRow line
+  pub ocf-divided : ocfRowBy (columnIn line ends) ≡ ocfRow line
   unfolding ocfRow
   ocf-divided = ap ocfRowBy same
 
-  pub ocp-divided : ocpRowBy (columnIn line c) ≡ ocpRow line
+  pub ocp-divided : ocpRowBy (columnIn line ends) ≡ ocpRow line
   unfolding ocpRow
   ocp-divided = ap ocpRowBy same
 
--- where ALTXT stands
-module _ (line : List ℕ) {c : Columns} (e : c ≡ divided line) (k : ℕ) (h : k < 24) where
-  pub start-is : getD (c .starts) k 0 ≡ placeAt line k .start
-  unfolding divided
-  start-is =
-      ap (λ (d : Columns). getD (d .starts) k 0) e ∙ firsts-at 24 (map (λ p. p .start) (placesOf line)) k h
-      ∙ List·getD-map (λ (p : Place). p .start) (placesOf line) k record { start = 0; end = 0 }
+  end : getD ends 3 0 ≡ placeAt line 3 .end
+  end = end-is line ends 3 e (lit< tt)
 
-  pub end-is : getD (c .ends) k 0 ≡ placeAt line k .end
-  unfolding divided
-  end-is =
-      ap (λ (d : Columns). getD (d .ends) k 0) e ∙ firsts-at 24 (map (λ p. p .end) (placesOf line)) k h
-      ∙ List·getD-map (λ (p : Place). p .end) (placesOf line) k record { start = 0; end = 0 }
+  start : getD ends 3 0 - length (columnIn line ends 3) ≡ placeAt line 3 .start
+  start = omega (arith, end, place-length line 3, ap length (column-is line ends 3 e (lit< tt)))
 
-pub txp-divided : (line : List ℕ) {c : Columns} → c ≡ divided line → txpRowBy (columnIn line c) (getD (c .starts) 3 0) (getD (c .ends) 3 0) ≡ txpRow line
-unfolding txpRow
-txp-divided line {c} e =
-    ap (λ at. txpRowBy at (getD (c .starts) 3 0) (getD (c .ends) 3 0)) (same line e)
-    ∙ ap₂ (λ s f. txpRowBy (column line) s f) (start-is line e 3 (lit< tt)) (end-is line e 3 (lit< tt))
+  pub txp-divided : txpRowBy (columnIn line ends) (getD ends 3 0 - length (columnIn line ends 3)) (getD ends 3 0) ≡ txpRow line
+  unfolding txpRow
+  txp-divided = ap (λ at. txpRowBy at (getD ends 3 0 - length (columnIn line ends 3)) (getD ends 3 0)) same ∙ ap₂ (txpRowBy (column line)) start end

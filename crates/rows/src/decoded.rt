@@ -24,53 +24,62 @@ ghost use Rattle.rows.specs.Records.{pidRow, picRow, plfRow, pcfRow, caf
 pub fn pid_of(line: &[u8]) -> PidRow
     ensures { λ r. ⌜ r ≡ pidRow (now (line .entry)) ⌝ }
 {
-    pid_row(line, divide(line))
+    let ends = divide(line);
+    pid_row(line, &ends)
 }
 
 pub fn pic_of(line: &[u8]) -> PicRow
     ensures { λ r. ⌜ r ≡ picRow (now (line .entry)) ⌝ }
 {
-    pic_row(line, divide(line))
+    let ends = divide(line);
+    pic_row(line, &ends)
 }
 
 pub fn plf_of(line: &[u8]) -> PlfRow
     ensures { λ r. ⌜ r ≡ plfRow (now (line .entry)) ⌝ }
 {
-    plf_row(line, divide(line))
+    let ends = divide(line);
+    plf_row(line, &ends)
 }
 
 pub fn pcf_of(line: &[u8]) -> PcfRow
     ensures { λ r. ⌜ r ≡ pcfRow (now (line .entry)) ⌝ }
 {
-    pcf_row(line, divide(line))
+    let ends = divide(line);
+    pcf_row(line, &ends)
 }
 
 pub fn caf_of(line: &[u8]) -> CafRow
     ensures { λ r. ⌜ r ≡ cafRow (now (line .entry)) ⌝ }
 {
-    caf_row(line, divide(line))
+    let ends = divide(line);
+    caf_row(line, &ends)
 }
 
 pub fn cap_of(line: &[u8]) -> CapRow
     ensures { λ r. ⌜ r ≡ capRow (now (line .entry)) ⌝ }
 {
-    cap_row(line, divide(line))
+    let ends = divide(line);
+    cap_row(line, &ends)
 }
 
 pub fn txp_of(line: &[u8]) -> TxpRow
     ensures { λ r. ⌜ r ≡ txpRow (now (line .entry)) ⌝ }
 {
-    txp_row(line, divide(line))
+    let ends = divide(line);
+    txp_row(line, &ends)
 }
 
 pub fn ocf_of(line: &[u8]) -> OcfRow
     ensures { λ r. ⌜ r ≡ ocfRow (now (line .entry)) ⌝ }
 {
-    ocf_row(line, divide(line))
+    let ends = divide(line);
+    ocf_row(line, &ends)
 }
 
 pub fn ocp_of(line: &[u8]) -> OcpRow
     ensures { λ r. ⌜ r ≡ ocpRow (now (line .entry)) ⌝ }
 {
-    ocp_row(line, divide(line))
+    let ends = divide(line);
+    ocp_row(line, &ends)
 }

@@ -11,11 +11,11 @@ use lib.Signed.{leZ}
 use Rattle.laws.specs.Lists.{any}
 use Rattle.numbers.specs.Number.{numberOf, meaning, spelt, after, digitOn, digitOf}
 use Rattle.lines.specs.Lines.{Line}
-use Rattle.lines.specs.Columns.{columnsOf, columnsFrom, divided, printable, allowed, foreignIn}
+use Rattle.lines.specs.Columns.{columnsOf, columnsFrom, printable, allowed, foreignIn}
+use Rattle.lines.specs.declared.columns.Scanned.{Scanned}
 use Rattle.schemas.specs.Schema.{Kind, anyText, aNumber, aLetter, Column}
 use Rattle.schemas.specs.Tables.{schema, cap}
 use Rattle.schemas.specs.declared.Table.the-variants.{Cap}
-use Rattle.schemas.specs.declared.Checked.{Checked}
 
 -- 01: "A verdict is reason × 256 + column"
 abbrev pub verdict : ℕ → ℕ → ℕ
@@ -71,9 +71,18 @@ shape columns line =
 abbrev pub lineOf : List ℕ → Bool → Line
 lineOf bytes ended = record { bytes = bytes; ended = ended }
 
--- the verdict, and the places of the columns, divided once
-unfoldable pub checkedBy : List Column → Line → Checked
-checkedBy columns line = record { verdict = shape columns line; columns = divided (line .bytes) }
+-- the same where the texts of the columns are told one by one, from 0
+unfoldable pub reasonFrom : ℕ → List Column → (ℕ → List ℕ) → ℕ
+reasonFrom k [] at = 0
+reasonFrom k (c ∷ cs) at = orLater (columnReason c (at k)) (suc k) (reasonFrom (suc k) cs at)
+
+-- the shape of a line of so many bytes by what a walk over it told, and by the texts of its columns
+unfoldable pub shapeBy : List Column → Scanned → (bytes : ℕ) → (ℕ → List ℕ) → ℕ
+shapeBy columns walk bytes at =
+    cond (not (walk .ended) || ltb longestRow bytes) (verdict 1 0)
+    (cond (walk .foreign) (verdict 2 0)
+    (cond (not (eqb (walk .count) (length columns))) (verdict 3 0)
+    (reasonFrom 0 columns at)))
 
 -- a cap row: C1, TAB, 5, TAB, 08: "08 is reason 6", at column 3
 pub example : shape (schema Cap) (lineOf (67 ∷ 49 ∷ 9 ∷ 53 ∷ 9 ∷ 48 ∷ 56 ∷ []) true) ≡ verdict 6 3

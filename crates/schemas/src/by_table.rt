@@ -1,6 +1,5 @@
 // The check of a row of each table, driven by its constants. Each has its own function: one for all would make the arrays of all
 // tables anew for each row.
-use crate::Checked;
 use crate::check_row;
 use crate::tables::CAF_KIND;
 use crate::tables::CAF_MANDATORY;
@@ -32,67 +31,70 @@ use crate::tables::TXF_WIDTH;
 use crate::tables::TXP_KIND;
 use crate::tables::TXP_MANDATORY;
 use crate::tables::TXP_WIDTH;
+use lines::columns::Scanned;
 ghost use mathlib.Core.Path.{_≡_};
+ghost use lib.ListN.{length};
+ghost use Rattle.lines.specs.Columns.{columnIn};
 ghost use Rattle.schemas.specs.Tables.{schema};
-ghost use Rattle.schemas.specs.Reasons.{lineOf, checkedBy};
+ghost use Rattle.schemas.specs.Reasons.{shapeBy};
 ghost use Rattle.schemas.specs.declared.Table.the-variants.{Pid, Pic, Plf, Pcf, Caf, Cap, Txf, Txp, Ocf, Ocp};
 
-pub fn check_pid(line: &[u8], ended: bool) -> Checked
-    ensures { λ r. ⌜ r ≡ checkedBy (schema Pid) (lineOf (now (line .entry)) ended) ⌝ }
+pub fn check_pid(line: &[u8], walk: Scanned, ends: &[usize]) -> u16
+    ensures { λ r. ⌜ r ≡ shapeBy (schema Pid) walk (length (now (line .entry))) (columnIn (now (line .entry)) (now (ends .entry))) ⌝ }
 {
-    check_row(line, ended, &PID_WIDTH, &PID_MANDATORY, &PID_KIND)
+    check_row(line, walk, ends, &PID_WIDTH, &PID_MANDATORY, &PID_KIND)
 }
 
-pub fn check_pic(line: &[u8], ended: bool) -> Checked
-    ensures { λ r. ⌜ r ≡ checkedBy (schema Pic) (lineOf (now (line .entry)) ended) ⌝ }
+pub fn check_pic(line: &[u8], walk: Scanned, ends: &[usize]) -> u16
+    ensures { λ r. ⌜ r ≡ shapeBy (schema Pic) walk (length (now (line .entry))) (columnIn (now (line .entry)) (now (ends .entry))) ⌝ }
 {
-    check_row(line, ended, &PIC_WIDTH, &PIC_MANDATORY, &PIC_KIND)
+    check_row(line, walk, ends, &PIC_WIDTH, &PIC_MANDATORY, &PIC_KIND)
 }
 
-pub fn check_plf(line: &[u8], ended: bool) -> Checked
-    ensures { λ r. ⌜ r ≡ checkedBy (schema Plf) (lineOf (now (line .entry)) ended) ⌝ }
+pub fn check_plf(line: &[u8], walk: Scanned, ends: &[usize]) -> u16
+    ensures { λ r. ⌜ r ≡ shapeBy (schema Plf) walk (length (now (line .entry))) (columnIn (now (line .entry)) (now (ends .entry))) ⌝ }
 {
-    check_row(line, ended, &PLF_WIDTH, &PLF_MANDATORY, &PLF_KIND)
+    check_row(line, walk, ends, &PLF_WIDTH, &PLF_MANDATORY, &PLF_KIND)
 }
 
-pub fn check_pcf(line: &[u8], ended: bool) -> Checked
-    ensures { λ r. ⌜ r ≡ checkedBy (schema Pcf) (lineOf (now (line .entry)) ended) ⌝ }
+pub fn check_pcf(line: &[u8], walk: Scanned, ends: &[usize]) -> u16
+    ensures { λ r. ⌜ r ≡ shapeBy (schema Pcf) walk (length (now (line .entry))) (columnIn (now (line .entry)) (now (ends .entry))) ⌝ }
 {
-    check_row(line, ended, &PCF_WIDTH, &PCF_MANDATORY, &PCF_KIND)
+    check_row(line, walk, ends, &PCF_WIDTH, &PCF_MANDATORY, &PCF_KIND)
 }
 
-pub fn check_caf(line: &[u8], ended: bool) -> Checked
-    ensures { λ r. ⌜ r ≡ checkedBy (schema Caf) (lineOf (now (line .entry)) ended) ⌝ }
+pub fn check_caf(line: &[u8], walk: Scanned, ends: &[usize]) -> u16
+    ensures { λ r. ⌜ r ≡ shapeBy (schema Caf) walk (length (now (line .entry))) (columnIn (now (line .entry)) (now (ends .entry))) ⌝ }
 {
-    check_row(line, ended, &CAF_WIDTH, &CAF_MANDATORY, &CAF_KIND)
+    check_row(line, walk, ends, &CAF_WIDTH, &CAF_MANDATORY, &CAF_KIND)
 }
 
-pub fn check_cap(line: &[u8], ended: bool) -> Checked
-    ensures { λ r. ⌜ r ≡ checkedBy (schema Cap) (lineOf (now (line .entry)) ended) ⌝ }
+pub fn check_cap(line: &[u8], walk: Scanned, ends: &[usize]) -> u16
+    ensures { λ r. ⌜ r ≡ shapeBy (schema Cap) walk (length (now (line .entry))) (columnIn (now (line .entry)) (now (ends .entry))) ⌝ }
 {
-    check_row(line, ended, &CAP_WIDTH, &CAP_MANDATORY, &CAP_KIND)
+    check_row(line, walk, ends, &CAP_WIDTH, &CAP_MANDATORY, &CAP_KIND)
 }
 
-pub fn check_txf(line: &[u8], ended: bool) -> Checked
-    ensures { λ r. ⌜ r ≡ checkedBy (schema Txf) (lineOf (now (line .entry)) ended) ⌝ }
+pub fn check_txf(line: &[u8], walk: Scanned, ends: &[usize]) -> u16
+    ensures { λ r. ⌜ r ≡ shapeBy (schema Txf) walk (length (now (line .entry))) (columnIn (now (line .entry)) (now (ends .entry))) ⌝ }
 {
-    check_row(line, ended, &TXF_WIDTH, &TXF_MANDATORY, &TXF_KIND)
+    check_row(line, walk, ends, &TXF_WIDTH, &TXF_MANDATORY, &TXF_KIND)
 }
 
-pub fn check_txp(line: &[u8], ended: bool) -> Checked
-    ensures { λ r. ⌜ r ≡ checkedBy (schema Txp) (lineOf (now (line .entry)) ended) ⌝ }
+pub fn check_txp(line: &[u8], walk: Scanned, ends: &[usize]) -> u16
+    ensures { λ r. ⌜ r ≡ shapeBy (schema Txp) walk (length (now (line .entry))) (columnIn (now (line .entry)) (now (ends .entry))) ⌝ }
 {
-    check_row(line, ended, &TXP_WIDTH, &TXP_MANDATORY, &TXP_KIND)
+    check_row(line, walk, ends, &TXP_WIDTH, &TXP_MANDATORY, &TXP_KIND)
 }
 
-pub fn check_ocf(line: &[u8], ended: bool) -> Checked
-    ensures { λ r. ⌜ r ≡ checkedBy (schema Ocf) (lineOf (now (line .entry)) ended) ⌝ }
+pub fn check_ocf(line: &[u8], walk: Scanned, ends: &[usize]) -> u16
+    ensures { λ r. ⌜ r ≡ shapeBy (schema Ocf) walk (length (now (line .entry))) (columnIn (now (line .entry)) (now (ends .entry))) ⌝ }
 {
-    check_row(line, ended, &OCF_WIDTH, &OCF_MANDATORY, &OCF_KIND)
+    check_row(line, walk, ends, &OCF_WIDTH, &OCF_MANDATORY, &OCF_KIND)
 }
 
-pub fn check_ocp(line: &[u8], ended: bool) -> Checked
-    ensures { λ r. ⌜ r ≡ checkedBy (schema Ocp) (lineOf (now (line .entry)) ended) ⌝ }
+pub fn check_ocp(line: &[u8], walk: Scanned, ends: &[usize]) -> u16
+    ensures { λ r. ⌜ r ≡ shapeBy (schema Ocp) walk (length (now (line .entry))) (columnIn (now (line .entry)) (now (ends .entry))) ⌝ }
 {
-    check_row(line, ended, &OCP_WIDTH, &OCP_MANDATORY, &OCP_KIND)
+    check_row(line, walk, ends, &OCP_WIDTH, &OCP_MANDATORY, &OCP_KIND)
 }

@@ -2,8 +2,9 @@
 use crate::verb::find_byte;
 use curves::ints::less;
 use curves::ints::size;
-use lines::columns::divide;
+use lines::columns::MOST_COLUMNS;
 use lines::columns::part;
+use lines::columns::scan;
 use numbers::Number;
 use numbers::read_number;
 ghost use mathlib.Core.Path.{_≡_};
@@ -69,8 +70,9 @@ fn integer_in(text: &[u8]) -> Integer
 pub fn column_count(text: &[u8]) -> usize
     ensures { λ r. ⌜ r ≡ length (columnsOf (now (text .entry))) ⌝ }
 {
-    let columns = divide(text);
-    columns.count
+    let mut ends: [usize; MOST_COLUMNS] = [0; MOST_COLUMNS];
+    let walk = scan(text, 0, false, &mut ends);
+    walk.count
 }
 
 // Where the column that starts at a place ends.

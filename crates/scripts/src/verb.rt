@@ -1,6 +1,6 @@
 // The first word of a line, and which word of a list it is.
-use lines::columns::column;
-use lines::columns::divide;
+use crate::operands::column_at;
+use crate::operands::column_count;
 use lines::columns::part;
 use lines::names::name_of;
 use lines::names::same_name;
@@ -43,14 +43,13 @@ pub fn text_of<'a>(line: &'a [u8]) -> &'a [u8]
 
 // The place of a word in a list divided by TAB, or how many words the list has.
 fn place_in(list: &[u8], word: &[u8]) -> usize
-    requires { ⌜ length (columnsOf (now list)) ≤ 24 ⌝ }
     ensures { λ r. ⌜ r ≡ placeOf (now (word .entry)) (columnsOf (now (list .entry))) ⌝ }
 {
-    let columns = divide(list);
+    let count = column_count(list);
     let name = name_of(word);
     let mut k: usize = 0;
-    while k < columns.count {
-        if same_name(name_of(column(list, columns, k)), name) {
+    while k < count {
+        if same_name(name_of(column_at(list, k)), name) {
             return k;
         }
         k += 1;

@@ -1,18 +1,16 @@
 -- Where a column stands in its line, and a line in its table.
 use mathlib.Core.Path.{_≡_, refl, sym, ap, _∙_}
-use mathlib.Core.List.{List, [], _∷_, _++_}
+use mathlib.Core.List.{List, [], _∷_, _++_, append-assoc}
 use Prim.Native.Nat.{ℕ, zero, suc, _+_, _-_, _≤_}
 use native.Mathlib.Omega.{arith}
 use lib.Dec.{eqb}
 use lib.ListN.{length, getD, take, drop, length-append, length-take, length-drop}
-use lib.Seq.{take-take, drop-drop}
+use lib.Seq.{take-take, drop-drop, append-snoc, take-append-seam, drop-append-seam}
 use borrow.Author.Tests.{le-leb}
 use Rattle.laws.proofs.Cases.{cond-cases}
 use Rattle.lines.specs.Lines.{lineLength}
-use Rattle.lines.specs.Columns.{tab, columnsFrom, columnsOf, Place, placesFrom, placesOf, divided, partOf}
-use Rattle.lines.proofs.ColumnLaws.{column-is}
+use Rattle.lines.specs.Columns.{tab, columnsFrom, columnsOf, columnAt, Place, placesFrom, placesOf, partOf}
 use Rattle.rows.specs.Records.{column, txpRow}
-use Rattle.rows.proofs.PlaceLaws.{start-is, end-is}
 use Rattle.fields.specs.Text.{partAt}
 use Rattle.rows.specs.declared.records.TxpRow.{TxpRow}
 use Rattle.lookup.specs.Listed.{lineAt}
@@ -79,9 +77,30 @@ module _ (text : List ℕ) (start : ℕ) {line : List ℕ} {r : TxpRow} (l : lin
 
 -- A text's bytes: the part of txp at the place that is answered is ALTXT
 
+-- p are the bytes before the column that c starts and l goes on
+cut : (p c l : List ℕ) → partOf (p ++ (c ++ l)) (length p) (length p + length c) ≡ c
+cut p c l = let n : length p + length c - length p ≡ length c = omega arith in rw (n, drop-append-seam p (c ++ l), take-append-seam c l)
+
+abbrev partIn : List ℕ → List Place → ℕ → List ℕ
+partIn line ps k = partOf line (getD ps k nowhere .start) (getD ps k nowhere .end)
+
+parts-from : (l p c : List ℕ) (k : ℕ) → partIn (p ++ (c ++ l)) (placesFrom (length p) (columnsFrom c l)) k ≡ columnAt (columnsFrom c l) k
+unfolding columnsFrom placesFrom
+parts-from [] p c zero = cut p c []
+parts-from [] p c (suc k) = refl
+parts-from (b ∷ bs) p c zero =
+    cond-cases (λ (cs : List (List ℕ)). partIn (p ++ (c ++ b ∷ bs)) (placesFrom (length p) cs) 0 ≡ columnAt cs 0) (eqb b tab)
+    (λ _. cut p c (b ∷ bs))
+    (λ _. rw (append-snoc c b bs) at (parts-from bs p (c ++ b ∷ []) 0))
+parts-from (b ∷ bs) p c (suc k) =
+    let n : length (p ++ (c ++ b ∷ [])) ≡ length p + length c + 1 = simp length-append (omega arith) in
+    cond-cases (λ (cs : List (List ℕ)). partIn (p ++ (c ++ b ∷ bs)) (placesFrom (length p) cs) (suc k) ≡ columnAt cs (suc k)) (eqb b tab)
+    (λ _. rw (n, append-assoc p (c ++ b ∷ []) bs, append-snoc c b bs) at (parts-from bs (p ++ (c ++ b ∷ [])) [] k))
+    (λ _. rw (append-snoc c b bs) at (parts-from bs p (c ++ b ∷ []) (suc k)))
+
 part-column : (line : List ℕ) → partOf line (txpRow line .start) (txpRow line .end) ≡ column line 3
-unfolding txpRow column
-part-column line = rw (← start-is line refl 3 (omega arith), ← end-is line refl 3 (omega arith)) (column-is line (divided line) 3 refl (omega arith))
+unfolding txpRow column placesOf columnsOf
+part-column line = parts-from line [] [] 3
 
 -- a part of the first m elements is that part of them all
 part-within : (l : List ℕ) (m s n : ℕ) → s + n ≤ m → take n (drop s (take m l)) ≡ take n (drop s l)

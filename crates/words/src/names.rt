@@ -23,7 +23,8 @@ fn heading(line: &[u8], k: usize) -> Name
     if MOST_COLUMNS < k {
         return name_of(b"");
     }
-    name_of(column(line, divide(line), k - 1))
+    let ends = divide(line);
+    name_of(column(line, &ends, k - 1))
 }
 
 // The name of a table's column, from 1; else the empty name.

@@ -1,10 +1,11 @@
 -- The invariant: the lines before place a are stored, and line j starts there.
 use Prim.Native.Nat.{_-_, _<_}
 use native.Mathlib.Omega.{arith}
+use mathlib.Core.Path.{refl}
 use lib.ListN.{length, getD}
 use Rattle.schemas.specs.declared.Table.the-variants.{Ocp}
 use Rattle.lines.specs.Lines.{linesOf}
-use Rattle.lines.proofs.LineLaws.{Bounds, next-bounds}
+use Rattle.lines.proofs.LineLaws.{next-bounds}
 use Rattle.verdicts.specs.Entries.{carried}
 use Rattle.kept.specs.FirstPass.{arrays}
 use Rattle.kept.proofs.FirstPassLaws.{Walk, walk-start, walk-below, walk-room, walk-more, walk-rows, walk-end, ready-on}
@@ -22,82 +23,62 @@ abbrev μ-loop : tie.MeasureT-loop
 abbrev start : tie.At-loop Inv-loop μ-loop → tie.Start Inv-loop μ-loop
 start c = c .before .before .before .before .before .before
 
--- the line, from where its keys are read, and these from where its row is kept
-abbrev line : tie.After-row-keys Inv-loop μ-loop → tie.After-next-line Inv-loop μ-loop
-line c = c .before .before .before
+-- a turn, from where the keys of its line are read, and these from where its row is kept
+abbrev turn : tie.After-line-keys Inv-loop μ-loop → tie.In-loop Inv-loop μ-loop
+turn c = c .before .before
 
-abbrev read : tie.After-keep-row-arg4 Inv-loop μ-loop → tie.After-row-keys Inv-loop μ-loop
-read c = c .before .before .before .before
-
-bounds : (c : tie.After-next-line Inv-loop μ-loop) → Bounds (start (c .before .before) .args .table .now) (c .before .before .loop .a) (c .next-line .result)
-bounds c = next-bounds _ _ _ (c .next-line .ensures) (c .before .loop-test .taken)
+abbrev read : tie.After-keep-row-arg4 Inv-loop μ-loop → tie.After-line-keys Inv-loop μ-loop
+read c = c .before .before .before .before .before
 
 -- there is such a line
-below : (c : tie.After-next-line Inv-loop μ-loop) → c .before .before .loop .j < length (linesOf (start (c .before .before) .args .table .now))
-below c = walk-below _ _ _ _ _ _ _ _ (c .before .before .loop .inv) _ (c .next-line .ensures) (c .before .loop-test .taken)
+below : (c : tie.In-loop Inv-loop μ-loop) → c .before .loop .j < length (linesOf (start (c .before) .args .table .now))
+below c = walk-below _ _ _ _ _ _ _ _ (c .before .loop .inv) (c .loop-test .taken)
 
 loop-holds : tie.Need-loop-holds Inv-loop μ-loop
 loop-holds c = walk-start _ _ _ _ _ (c .before .before .before .before .before .pre .0)
 
-next-line-requires : tie.Need-next-line-requires Inv-loop μ-loop
-next-line-requires c κs = tt
+add-i : tie.Need-add-i Inv-loop μ-loop
+add-i c = omega (arith, below c, start (c .before) .pre .1 .1 .0)
 
 kind-of-requires : tie.Need-kind-of-requires Inv-loop μ-loop
 kind-of-requires c κs = tt
 
-sub-row-keys : tie.Need-sub-row-keys Inv-loop μ-loop
-sub-row-keys c = omega (arith, bounds (c .before) .starts)
+line-keys-requires : tie.Need-line-keys-requires Inv-loop μ-loop
+line-keys-requires c κs = tt
 
-part-row-keys-start : tie.Need-part-row-keys-start Inv-loop μ-loop
-part-row-keys-start c = omega (arith, bounds (c .before) .starts)
-
-part-row-keys-end : tie.Need-part-row-keys-end Inv-loop μ-loop
-part-row-keys-end c = omega (arith, bounds (c .before) .ends)
-
-row-keys-requires : tie.Need-row-keys-requires Inv-loop μ-loop
-row-keys-requires c κs = tt
-
-add-keep-row : tie.Need-add-keep-row Inv-loop μ-loop
-add-keep-row c = let l = line (read c) in omega (arith, below l, start (l .before .before) .pre .1 .1 .0)
+cast-start : tie.Need-cast-start Inv-loop μ-loop
+cast-start c = let l = turn (c .before) in omega (arith, l .loop-test .taken, start (l .before) .pre .1 .0 .1)
 
 cast-keep-row : tie.Need-cast-keep-row Inv-loop μ-loop
-cast-keep-row c = let l = line (read c) in omega (arith, l .before .loop-test .taken, start (l .before .before) .pre .1 .0 .1)
-
-cast-keep-row-2 : tie.Need-cast-keep-row-2 Inv-loop μ-loop
-cast-keep-row-2 c = let l = line (read c) in omega (arith, start (l .before .before) .pre .1 .0 .0)
+cast-keep-row c = let l = turn (read c) in omega (arith, start (l .before) .pre .1 .0 .0)
 
 keep-row-requires : tie.Need-keep-row-requires Inv-loop μ-loop
 keep-row-requires c κs = let r = read c in
-    let l = line r in
-    let s = start (l .before .before) in
-    let w = l .before .before .loop .inv in (
+    let l = turn r in
+    let s = start (l .before) in
+    let w = l .before .loop .inv in (
       ready-on (w .kept .onward) (s .pre .0),
-      (
-        walk-room _ _ _ _ _ _ _ _ w _ (l .next-line .ensures) (l .before .loop-test .taken) _ _
-            (r .before .before .kind-of .ensures) (r .row-keys .ensures) (s .pre .1 .1 .1),
-        omega (arith, below l, s .pre .1 .1 .0),
-      ),
+      (walk-room _ _ _ _ _ _ _ _ w (l .loop-test .taken) _ _ (r .before .kind-of .ensures) (r .line-keys .ensures .0) (s .pre .1 .1 .1), omega (arith, below l, s .pre .1 .1 .0)),
     )
 
 add-j : tie.Need-add-j Inv-loop μ-loop
-add-j c = let k = c .before .before .before .before .before .before .before .before in
-    let l = line (read (k .before)) in
-    omega (arith, below l, start (l .before .before) .pre .1 .1 .0)
+add-j c = let l = turn (read (c .before .before .before .before .before .before .before .before .before)) in omega (arith, below l, start (l .before) .pre .1 .1 .0)
 
 loop-less : tie.Need-loop-less Inv-loop μ-loop
-loop-less c = let k = c .before .before .before .before .before .before .before .before in
-    let b = bounds (line (read (k .before))) in
-    omega (arith, b .further, b .within)
+loop-less c = let r = read (c .before .before .before .before .before .before .before .before .before) in
+    let l = turn r in
+    let b = next-bounds (start (l .before) .args .table .now) (l .before .loop .a) _ refl (l .loop-test .taken) in
+    omega (arith, b .further, b .within, r .line-keys .ensures .1)
 
 loop-again : tie.Need-loop-again Inv-loop μ-loop
 loop-again c = let k = c .before .before .before .before .before .before .before .before in
     let r = read (k .before) in
-    let l = line r in
-    walk-more _ _ _ _ _ _ _ _ (l .before .before .loop .inv) _ (l .next-line .ensures) (l .before .loop-test .taken) _ _
-    (r .before .before .kind-of .ensures) (r .row-keys .ensures) _ (k .keep-row .ensures)
+    let l = turn r in
+    walk-more _ _ _ _ _ _ _ _ (l .before .loop .inv) (l .loop-test .taken) _ _ (r .before .kind-of .ensures) (r .line-keys .ensures .0) _ _ (r .line-keys .ensures .1)
+    (k .keep-row .ensures)
 
-add-t31 : tie.Need-add-t31 Inv-loop μ-loop
-add-t31 c = omega (arith, c .before .loop .inv .few, start (c .before) .pre .1 .1 .0)
+add-t28 : tie.Need-add-t28 Inv-loop μ-loop
+add-t28 c = omega (arith, c .before .loop .inv .few, start (c .before) .pre .1 .1 .0)
 
 same-length : tie.Need-same-length Inv-loop μ-loop
 same-length c = c .before .loop .inv .kept .onward .grown .words
@@ -124,20 +105,16 @@ keep-table-spec =
     Inv-loop
     μ-loop
     loop-holds
-    next-line-requires
+    add-i
     kind-of-requires
-    sub-row-keys
-    part-row-keys-start
-    part-row-keys-end
-    row-keys-requires
-    add-keep-row
+    line-keys-requires
+    cast-start
     cast-keep-row
-    cast-keep-row-2
     keep-row-requires
     add-j
     loop-less
     loop-again
-    add-t31
+    add-t28
     same-length
     same-length-2
     same-length-3

@@ -25,15 +25,17 @@ choose-requires c κs = tt
 returns : tie.Need-returns
 unfolding keysOf factsOf slotOf namedOf countOf symbolOf marksOf codeOf codeFrom sameManner manners weight ocfFacts
 returns c =
-    let e = c .before .before .before .before .before .before .read-ocf .ensures in
-    rw (
-      ← e .0,
-      ← e .1,
-      name-under-c,
-      c .choose .ensures,
-      c .before .is-engineering .ensures,
-      c .before .before .name-symbol2 .ensures,
-      c .before .before .before .name-symbol .ensures,
+    let e = c .before .before .before .before .before .before .read-ocf .ensures in (
+      rw (
+        ← e .0 .0,
+        ← e .0 .1,
+        name-under-c,
+        c .choose .ensures,
+        c .before .is-engineering .ensures,
+        c .before .before .name-symbol2 .ensures,
+        c .before .before .before .name-symbol .ensures,
+      ),
+      e .1,
     )
 
 pub ocf-keys-spec : {M : Type 1} → statement M

@@ -32,16 +32,18 @@ member-requires c κs = tt
 returns : tie.Need-returns
 unfolding keysOf factsOf slotOf namedOf countOf symbolOf marksOf codeOf codeFrom sameManner manners weight ocpFacts
 returns c =
-    let e = c .before .before .before .before .before .before .before .before .before .read-ocp .ensures in
-    rw (
-      ← e .0,
-      ← e .1,
-      c .member .ensures,
-      name-given,
-      c .before .choose .ensures,
-      c .before .before .name-symbol3 .ensures,
-      c .before .before .before .name-symbol2 .ensures,
-      c .before .before .before .before .name-symbol .ensures,
+    let e = c .before .before .before .before .before .before .before .before .before .read-ocp .ensures in (
+      rw (
+        ← e .0 .0,
+        ← e .0 .1,
+        c .member .ensures,
+        name-given,
+        c .before .choose .ensures,
+        c .before .before .name-symbol3 .ensures,
+        c .before .before .before .name-symbol2 .ensures,
+        c .before .before .before .before .name-symbol .ensures,
+      ),
+      e .1,
     )
 
 pub ocp-keys-spec : {M : Type 1} → statement M

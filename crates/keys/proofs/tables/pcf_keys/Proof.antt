@@ -18,7 +18,7 @@ curtx-space-requires c κs = tt
 
 curve-symbol-requires : tie.Need-curve-symbol-requires
 unfolding pcfRow optionalCurve
-curve-symbol-requires c κs = rw (c .before .before .before .before .before .before .read-pcf .ensures .1) (curve-short _)
+curve-symbol-requires c κs = rw (c .before .before .before .before .before .before .read-pcf .ensures .0 .1) (curve-short _)
 
 choose-requires : tie.Need-choose-requires
 choose-requires c κs = tt
@@ -38,19 +38,21 @@ pcf-marks-requires c κs = tt
 returns : tie.Need-returns
 unfolding factsOf
 returns c =
-    let e = c .before .before .before .before .before .before .before .before .before .before .before .before .read-pcf .ensures in
-    rw (
-      ← e .0,
-      ← e .1,
-      pcf-said,
-      c .pcf-marks .ensures,
-      c .before .choose3 .ensures,
-      c .before .before .choose2 .ensures,
-      c .before .before .before .name-symbol2 .ensures,
-      c .before .before .before .before .choose .ensures,
-      c .before .before .before .before .before .curve-symbol .ensures,
-      c .before .before .before .before .before .before .curtx-space .ensures,
-      c .before .before .before .before .before .before .before .name-symbol .ensures,
+    let e = c .before .before .before .before .before .before .before .before .before .before .before .before .read-pcf .ensures in (
+      rw (
+        ← e .0 .0,
+        ← e .0 .1,
+        pcf-said,
+        c .pcf-marks .ensures,
+        c .before .choose3 .ensures,
+        c .before .before .choose2 .ensures,
+        c .before .before .before .name-symbol2 .ensures,
+        c .before .before .before .before .choose .ensures,
+        c .before .before .before .before .before .curve-symbol .ensures,
+        c .before .before .before .before .before .before .curtx-space .ensures,
+        c .before .before .before .before .before .before .before .name-symbol .ensures,
+      ),
+      e .1,
     )
 
 pub pcf-keys-spec : {M : Type 1} → statement M

@@ -18,12 +18,14 @@ apid-word-requires c κs = tt
 returns : tie.Need-returns
 unfolding keysOf factsOf slotOf namedOf countOf symbolOf marksOf codeOf codeFrom sameManner manners weight picFacts
 returns c =
-    let e = c .before .before .before .read-pic .ensures in
-    rw (
-      ← e .0,
-      ← e .1,
-      c .apid-word .ensures,
-      c .before .two-halves .ensures,
+    let e = c .before .before .before .read-pic .ensures in (
+      rw (
+        ← e .0 .0,
+        ← e .0 .1,
+        c .apid-word .ensures,
+        c .before .two-halves .ensures,
+      ),
+      e .1,
     )
 
 pub pic-keys-spec : {M : Type 1} → statement M

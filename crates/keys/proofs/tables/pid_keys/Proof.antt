@@ -21,8 +21,8 @@ two-halves-requires c κs = tt
 two-halves-requires-2 : tie.Need-two-halves-requires-2
 two-halves-requires-2 c κs = tt
 
-cast-t11 : tie.Need-cast-t11
-cast-t11 c = search needs
+cast-t12 : tie.Need-cast-t12
+cast-t12 c = search needs
 
 structure-symbol-requires : tie.Need-structure-symbol-requires
 structure-symbol-requires c κs = tt
@@ -41,7 +41,7 @@ returns c =
     let y = c .before .before .before .before .before .before .is-yes .ensures in
     let first = c .before .slot .ensures ∙ pid-first r (r .valid) y (rw (c .before .before .before .before .before .two-halves .ensures, c .before .before .before .before .two-halves2 .ensures)) in
     let second = c .slot2 .ensures ∙ pid-second r (r .valid) y (c .before .before .structure-symbol .ensures) in
-    rw (← e .ensures .0, ← e .ensures .1, first, second)
+    (rw (← e .ensures .0 .0, ← e .ensures .0 .1, first, second), e .ensures .1)
 
 pub pid-keys-spec : {M : Type 1} → statement M
 pid-keys-spec =
@@ -51,7 +51,7 @@ pid-keys-spec =
     is-yes-requires
     two-halves-requires
     two-halves-requires-2
-    cast-t11
+    cast-t12
     structure-symbol-requires
     slot-requires
     slot-requires-2

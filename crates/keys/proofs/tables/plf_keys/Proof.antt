@@ -25,13 +25,15 @@ structure-symbol-requires c κs = tt
 returns : tie.Need-returns
 unfolding keysOf factsOf slotOf namedOf countOf symbolOf marksOf codeOf codeFrom sameManner manners weight plfFacts
 returns c =
-    let e = c .before .before .before .before .before .read-plf .ensures in
-    rw (
-      ← e .0,
-      ← e .1,
-      c .structure-symbol .ensures,
-      c .before .name-symbol2 .ensures,
-      c .before .before .name-symbol .ensures,
+    let e = c .before .before .before .before .before .read-plf .ensures in (
+      rw (
+        ← e .0 .0,
+        ← e .0 .1,
+        c .structure-symbol .ensures,
+        c .before .name-symbol2 .ensures,
+        c .before .before .name-symbol .ensures,
+      ),
+      e .1,
     )
 
 pub plf-keys-spec : {M : Type 1} → statement M

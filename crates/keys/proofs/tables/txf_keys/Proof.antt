@@ -13,7 +13,7 @@ read-txf-requires c κs = tt
 
 curve-symbol-requires : tie.Need-curve-symbol-requires
 unfolding txfRow
-curve-symbol-requires c κs = rw (c .before .before .read-txf .ensures .1) (curve-short _)
+curve-symbol-requires c κs = rw (c .before .before .read-txf .ensures .0 .1) (curve-short _)
 
 counter-requires : tie.Need-counter-requires
 counter-requires c κs = tt
@@ -21,12 +21,14 @@ counter-requires c κs = tt
 returns : tie.Need-returns
 unfolding keysOf factsOf slotOf namedOf countOf symbolOf marksOf codeOf codeFrom sameManner manners weight txfFacts
 returns c =
-    let e = c .before .before .before .before .read-txf .ensures in
-    rw (
-      ← e .0,
-      ← e .1,
-      c .counter .ensures,
-      c .before .curve-symbol .ensures,
+    let e = c .before .before .before .before .read-txf .ensures in (
+      rw (
+        ← e .0 .0,
+        ← e .0 .1,
+        c .counter .ensures,
+        c .before .curve-symbol .ensures,
+      ),
+      e .1,
     )
 
 pub txf-keys-spec : {M : Type 1} → statement M

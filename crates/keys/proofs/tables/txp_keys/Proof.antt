@@ -20,11 +20,11 @@ integer-word-requires c κs = tt
 
 curve-symbol-requires : tie.Need-curve-symbol-requires
 unfolding txpRow
-curve-symbol-requires c κs = rw (c .before .before .before .before .read-txp .ensures .1) (curve-short _)
+curve-symbol-requires c κs = rw (c .before .before .before .before .read-txp .ensures .0 .1) (curve-short _)
 
 curve-symbol-requires-2 : tie.Need-curve-symbol-requires-2
 unfolding txpRow
-curve-symbol-requires-2 c κs = rw (c .before .before .before .before .before .read-txp .ensures .1) (curve-short _)
+curve-symbol-requires-2 c κs = rw (c .before .before .before .before .before .read-txp .ensures .0 .1) (curve-short _)
 
 member-requires : tie.Need-member-requires
 member-requires c κs = tt
@@ -33,15 +33,17 @@ returns : tie.Need-returns
 unfolding keysOf factsOf slotOf namedOf countOf symbolOf marksOf codeOf codeFrom sameManner manners weight txpFacts
 returns c =
     let e = c .before .before .before .before .before .before .before .read-txp .ensures in
-    let f : SFits w64 (c .before .before .before .before .before .before .before .read-txp .result .row .from) = search needs in
-    rw (
-      ← e .0,
-      ← e .1,
-      c .member .ensures,
-      c .before .curve-symbol2 .ensures,
-      c .before .before .curve-symbol .ensures,
-      c .before .before .before .integer-word .ensures,
-      toZ-ofZ f,
+    let f : SFits w64 (c .before .before .before .before .before .before .before .read-txp .result .row .from) = search needs in (
+      rw (
+        ← e .0 .0,
+        ← e .0 .1,
+        c .member .ensures,
+        c .before .curve-symbol2 .ensures,
+        c .before .before .curve-symbol .ensures,
+        c .before .before .before .integer-word .ensures,
+        toZ-ofZ f,
+      ),
+      e .1,
     )
 
 pub txp-keys-spec : {M : Type 1} → statement M

@@ -1,4 +1,4 @@
--- `lines::columns::part` meets its contract.
+-- Each test leaves one case.
 use mathlib.Core.Path.{sym, _∙_}
 use native.Mathlib.Omega.{arith}
 use Rattle.laws.proofs.Lists.{rest}
@@ -6,18 +6,6 @@ use Rattle.lines.proofs.ColumnLaws.{part-none, part-past, part-rest}
 use borrow.Author.Needs.{needs}
 use Rattle.lines.proofs.columns.part.Statement.{statement}
 use Rattle.lines.proofs.columns.part.Tie as tie
-
-slice-aggregate-result : tie.Need-slice-aggregate-result
-slice-aggregate-result c = search needs
-
-returns : tie.Need-returns
-returns c = let a = c .before .before .args in sym (part-none (a .line .now) (a .start) (a .end) (omega arith))
-
-slice-aggregate-result-2 : tie.Need-slice-aggregate-result-2
-slice-aggregate-result-2 c = search needs
-
-returns-2 : tie.Need-returns-2
-returns-2 c = let a = c .before .before .before .args in sym (part-past (a .line .now) (a .start) (a .end) (omega arith))
 
 sub-result : tie.Need-sub-result
 sub-result c = search needs
@@ -28,8 +16,14 @@ part-result-start c = search needs
 part-result-end : tie.Need-part-result-end
 part-result-end c = search needs
 
-returns-3 : tie.Need-returns-3
-returns-3 c = let a = c .before .before .before .before .args in rest (a .line .now) (a .start) ∙ sym (part-rest (a .line .now) (a .start) (a .end) (omega arith))
+returns : tie.Need-returns
+returns c = search needs
+
+slice-aggregate-result : tie.Need-slice-aggregate-result
+slice-aggregate-result c = search needs
+
+returns-2 : tie.Need-returns-2
+returns-2 c = let a = c .before .before .before .args in sym (part-none (a .line .now) (a .start) (a .end) (omega arith))
 
 sub-result-2 : tie.Need-sub-result-2
 sub-result-2 c = search needs
@@ -40,22 +34,28 @@ part-result-start-2 c = search needs
 part-result-end-2 : tie.Need-part-result-end-2
 part-result-end-2 c = search needs
 
+returns-3 : tie.Need-returns-3
+returns-3 c = let a = c .before .before .before .args in rest (a .line .now) (a .start) ∙ sym (part-rest (a .line .now) (a .start) (a .end) (omega arith))
+
+slice-aggregate-result-2 : tie.Need-slice-aggregate-result-2
+slice-aggregate-result-2 c = search needs
+
 returns-4 : tie.Need-returns-4
-returns-4 c = search needs
+returns-4 c = let a = c .before .before .before .args in sym (part-past (a .line .now) (a .start) (a .end) (omega arith))
 
 pub part-spec : {M : Type 1} → statement M
 part-spec =
     tie.close
     (tie.spec
-    slice-aggregate-result
-    returns
-    slice-aggregate-result-2
-    returns-2
     sub-result
     part-result-start
     part-result-end
-    returns-3
+    returns
+    slice-aggregate-result
+    returns-2
     sub-result-2
     part-result-start-2
     part-result-end-2
+    returns-3
+    slice-aggregate-result-2
     returns-4)

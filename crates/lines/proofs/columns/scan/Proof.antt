@@ -1,24 +1,22 @@
--- With the columns to come, those stored are all (`Walk`); a foreign byte was found, or is to come, exactly where the line has one (`Searched`).
-use Prim.Native.Nat.{_+_, _-_, _<_, _≤_}
+-- With what is left, what the walk has met is the whole line (`Walk`).
+use Prim.Native.Nat.{_-_}
+use mathlib.Core.Path.{sym, _∙_}
 use native.Mathlib.Omega.{arith}
-use lib.ListN.{length, getD}
-use mathlib.Core.Path.{_≡_, refl, sym, _∙_}
-use Rattle.lines.specs.Columns.{withColumn, scanned}
-use Rattle.lines.proofs.ColumnLaws.{Walk, walk-start, walk-tab, walk-other, walk-end}
-use Rattle.lines.proofs.ForeignLaws.{Searched, foreign-printable, foreign-tab, foreign-here, foreign-end, printable-no-tab}
+use lib.ListN.{length}
+use Rattle.laws.proofs.Cases.{false≢true}
+use Rattle.lines.proofs.ScanLaws.{Walk, walk-start, walk-printable, walk-tab, walk-foreign, Ended, past, here, end-size, end-stored, end-scanned}
 use borrow.Author.Needs.{needs}
 use Rattle.lines.proofs.columns.scan.Statement.{statement}
 use Rattle.lines.proofs.columns.scan.Tie as tie
 
 abbrev Inv-loop : tie.InvT-loop
-Inv-loop line starts₀ ends₀ count₀ start₀ foreign₀ i₀ starts ends count start foreign i =
-    Walk line (record { starts = starts; ends = ends; count = count }) start i × (length starts ≡ 24) × (length ends ≡ 24) × Searched line i foreign
+Inv-loop text from feeds ends₀ count₀ foreign₀ i₀ ends count foreign i = Walk feeds text from ends₀ ends count i foreign
 
 abbrev μ-loop : tie.MeasureT-loop
-μ-loop line starts₀ ends₀ count₀ start₀ foreign₀ i₀ starts ends count start foreign i = length line - i
+μ-loop text from feeds ends₀ count₀ foreign₀ i₀ ends count foreign i = length text - i
 
 loop-holds : tie.Need-loop-holds Inv-loop μ-loop
-loop-holds c = (walk-start _, omega arith, omega arith, refl)
+loop-holds c = walk-start _ _ _ _
 
 shared-slice-read-b : tie.Need-shared-slice-read-b Inv-loop μ-loop
 shared-slice-read-b c = omega arith
@@ -34,25 +32,16 @@ loop-less c = omega arith
 
 loop-again : tie.Need-loop-again Inv-loop μ-loop
 loop-again c = let l = c .before .before .before .before .loop in
-    let a = c .before .before .before .before .before .before .args .line .now in
-    let h : l .i < length a = search needs in
-    let p = sym (c .before .is-printable .ensures) ∙ c .if1 .taken in
-    (walk-other _ _ _ _ (l .inv .0) h (printable-no-tab _ p), l .inv .1, l .inv .2, foreign-printable a (l .i) (l .foreign) (l .inv .3) h p)
+    walk-printable _ _ _ _ _ _ _ _ (l .inv) (search needs) (sym (c .before .is-printable .ensures) ∙ c .if1 .taken)
 
-slice-aggregate-keep-at : tie.Need-slice-aggregate-keep-at Inv-loop μ-loop
-slice-aggregate-keep-at c = search needs
+sub-keep-at : tie.Need-sub-keep-at Inv-loop μ-loop
+sub-keep-at c = c .before .before .before .before .before .before .loop .inv .after
 
 keep-at-requires : tie.Need-keep-at-requires Inv-loop μ-loop
 keep-at-requires c κs = tt
 
-slice-aggregate-keep-at-2 : tie.Need-slice-aggregate-keep-at-2 Inv-loop μ-loop
-slice-aggregate-keep-at-2 c = search needs
-
-keep-at-requires-2 : tie.Need-keep-at-requires-2 Inv-loop μ-loop
-keep-at-requires-2 c κs = tt
-
 add-count : tie.Need-add-count Inv-loop μ-loop
-add-count c = omega arith
+add-count c = let w = c .before .before .before .before .before .before .before .before .before .loop .inv in omega (arith, w .few, w .room)
 
 add-i-2 : tie.Need-add-i-2 Inv-loop μ-loop
 add-i-2 c = omega arith
@@ -61,18 +50,31 @@ loop-less-2 : tie.Need-loop-less-2 Inv-loop μ-loop
 loop-less-2 c = omega arith
 
 loop-again-2 : tie.Need-loop-again-2 Inv-loop μ-loop
-unfolding withColumn
-loop-again-2 c = let l = c .before .before .before .before .before .before .before .before .before .before .before .loop in
-    let a = c .before .before .before .before .before .before .before .before .before .before .before .before .before .args .line .now in
-    let h : l .i < length a = search needs in
-    let t : getD a (l .i) 0 ≡ 9 = search needs in
-    let s = c .before .before .before .before .keep-at .ensures in
-    let e = c .before .keep-at2 .ensures in (
-      walk-tab _ _ _ _ (l .inv .0) h t (λ j. record { starts = s j; ends = e j; count = l .count + 1 }),
-      search needs,
-      search needs,
-      foreign-tab a (l .i) (l .foreign) (l .inv .3) h t,
-    )
+loop-again-2 c = let l = c .before .before .before .before .before .before .before .before .before .loop in
+    walk-tab _ _ _ _ _ _ _ _ (l .inv) (search needs) (search needs) (c .before .before .keep-at .ensures)
+
+is-end-requires : tie.Need-is-end-requires Inv-loop μ-loop
+is-end-requires c κs = tt
+
+sub-keep-at-2 : tie.Need-sub-keep-at-2 Inv-loop μ-loop
+sub-keep-at-2 c = c .before .before .before .before .before .before .before .before .loop .inv .after
+
+keep-at-requires-2 : tie.Need-keep-at-requires-2 Inv-loop μ-loop
+keep-at-requires-2 c κs = tt
+
+add-closed : tie.Need-add-closed Inv-loop μ-loop
+add-closed c = let w = c .before .before .before .before .before .before .before .before .before .before .before .loop .inv in omega (arith, w .few, w .room)
+
+closed-requires : tie.Need-closed-requires Inv-loop μ-loop
+closed-requires c κs = tt
+
+same-length : tie.Need-same-length Inv-loop μ-loop
+same-length c = end-size _ _ _ _ _ _ _ _ (c .before .before .before .before .before .before .before .before .before .before .before .before .loop .inv) (c .before .before .before .keep-at2 .ensures)
+
+returns : tie.Need-returns Inv-loop μ-loop
+returns c = let w = c .before .before .before .before .before .before .before .before .before .before .before .before .loop .inv in
+    let s = sym (c .before .before .before .before .before .before .is-end .ensures) ∙ c .before .before .before .before .before .if3 .taken in
+    (c .closed .ensures ∙ end-scanned _ _ _ _ _ _ _ _ w (here (search needs) s), end-stored _ _ _ _ _ _ _ _ w (here (search needs) s) (c .before .before .before .keep-at2 .ensures))
 
 add-i-3 : tie.Need-add-i-3 Inv-loop μ-loop
 add-i-3 c = omega arith
@@ -81,39 +83,27 @@ loop-less-3 : tie.Need-loop-less-3 Inv-loop μ-loop
 loop-less-3 c = omega arith
 
 loop-again-3 : tie.Need-loop-again-3 Inv-loop μ-loop
-loop-again-3 c = let l = c .before .before .before .before .before .loop in
-    let a = c .before .before .before .before .before .before .before .args .line .now in
-    let h : l .i < length a = search needs in (
-      walk-other _ _ _ _ (l .inv .0) h (c .if2 .left),
-      l .inv .1,
-      l .inv .2,
-      foreign-here a (l .i) (l .foreign) (l .inv .3) h (sym (c .before .before .is-printable .ensures) ∙ c .before .if1 .left) (c .if2 .left),
-    )
+loop-again-3 c = let p = sym (c .before .before .before .before .is-printable .ensures) ∙ c .before .before .before .if1 .left in
+    walk-foreign _ _ _ _ _ _ _ _ (c .before .before .before .before .before .before .before .loop .inv) (search needs) (λ s. false≢true (sym (c .if3 .left) ∙ c .before .is-end .ensures ∙ s)) (c .before .before .if2 .left) p
 
-slice-aggregate-keep-at-3 : tie.Need-slice-aggregate-keep-at-3 Inv-loop μ-loop
-slice-aggregate-keep-at-3 c = search needs
+sub-keep-at-3 : tie.Need-sub-keep-at-3 Inv-loop μ-loop
+sub-keep-at-3 c = c .before .before .loop .inv .after
 
 keep-at-requires-3 : tie.Need-keep-at-requires-3 Inv-loop μ-loop
 keep-at-requires-3 c κs = tt
 
-slice-aggregate-keep-at-4 : tie.Need-slice-aggregate-keep-at-4 Inv-loop μ-loop
-slice-aggregate-keep-at-4 c = search needs
+add-closed-2 : tie.Need-add-closed-2 Inv-loop μ-loop
+add-closed-2 c = let w = c .before .before .before .before .before .loop .inv in omega (arith, w .few, w .room)
 
-keep-at-requires-4 : tie.Need-keep-at-requires-4 Inv-loop μ-loop
-keep-at-requires-4 c κs = tt
+closed-requires-2 : tie.Need-closed-requires-2 Inv-loop μ-loop
+closed-requires-2 c κs = tt
 
-add-count-2 : tie.Need-add-count-2 Inv-loop μ-loop
-add-count-2 c = omega arith
+same-length-2 : tie.Need-same-length-2 Inv-loop μ-loop
+same-length-2 c = end-size _ _ _ _ _ _ _ _ (c .before .before .before .before .before .before .loop .inv) (c .before .before .before .keep-at3 .ensures)
 
-returns : tie.Need-returns Inv-loop μ-loop
-unfolding withColumn scanned
-returns c = let l = c .before .before .before .before .before .before .before in
-    let a = c .before .before .before .before .before .before .before .before .before .args .line .now in
-    let s = c .before .before .before .before .keep-at3 .ensures in
-    let e = c .before .keep-at4 .ensures in
-    let h : length a ≤ l .loop .i = search needs in
-    let d = (λ j. record { starts = s j; ends = e j; count = l .loop .count + 1 }) ∙ walk-end _ _ _ _ (l .loop .inv .0) h in
-    λ j. record { columns = d j; foreign = foreign-end a (l .loop .i) (l .loop .foreign) (l .loop .inv .3) h j }
+returns-2 : tie.Need-returns-2 Inv-loop μ-loop
+returns-2 c = let w = c .before .before .before .before .before .before .loop .inv in
+    (c .closed2 .ensures ∙ end-scanned _ _ _ _ _ _ _ _ w (past (search needs)), end-stored _ _ _ _ _ _ _ _ w (past (search needs)) (c .before .before .before .keep-at3 .ensures))
 
 pub scan-spec : {M : Type 1} → statement M
 scan-spec =
@@ -127,20 +117,25 @@ scan-spec =
     add-i
     loop-less
     loop-again
-    slice-aggregate-keep-at
+    sub-keep-at
     keep-at-requires
-    slice-aggregate-keep-at-2
-    keep-at-requires-2
     add-count
     add-i-2
     loop-less-2
     loop-again-2
+    is-end-requires
+    sub-keep-at-2
+    keep-at-requires-2
+    add-closed
+    closed-requires
+    same-length
+    returns
     add-i-3
     loop-less-3
     loop-again-3
-    slice-aggregate-keep-at-3
+    sub-keep-at-3
     keep-at-requires-3
-    slice-aggregate-keep-at-4
-    keep-at-requires-4
-    add-count-2
-    returns)
+    add-closed-2
+    closed-requires-2
+    same-length-2
+    returns-2)

@@ -12,7 +12,7 @@ integer-or-requires : tie.Need-integer-or-requires
 integer-or-requires c κs = tt
 
 returns : tie.Need-returns
-returns c = kept (c .integer-or .ok) (c .integer-or .ensures ∙ rw (toZ-ofZ (c .before .before .before .fits .default), c .before .column .ensures))
+returns c = kept (c .integer-or .ok) (c .integer-or .ensures ∙ rw (toZ-ofZ (c .before .before .before .before .fits .default), c .before .column .ensures))
 
 pub integer-at-spec : {M : Type 1} → statement M
 integer-at-spec = tie.close (tie.spec column-requires integer-or-requires returns)

@@ -1,17 +1,21 @@
--- The row at the places of the line divided.
+-- The row by where the columns of the line end.
 use mathlib.Core.Path.{_∙_}
 use Rattle.rows.proofs.PlaceLaws.{cap-divided}
+use borrow.Author.Needs.{needs}
 use Rattle.rows.proofs.decoded.cap_of.Statement.{statement}
 use Rattle.rows.proofs.decoded.cap_of.Tie as tie
 
 divide-requires : tie.Need-divide-requires
-divide-requires c κs = tt
+divide-requires c κs = search needs
+
+slice-aggregate-cap-row : tie.Need-slice-aggregate-cap-row
+slice-aggregate-cap-row c = search needs
 
 cap-row-requires : tie.Need-cap-row-requires
-cap-row-requires c κs = tt
+cap-row-requires c κs = search needs
 
 returns : tie.Need-returns
-returns c = c .cap-row .ensures ∙ cap-divided _ (c .before .divide .ensures)
+returns c = c .cap-row .ensures ∙ cap-divided _ (c .before .before .divide .ensures)
 
 pub cap-of-spec : {M : Type 1} → statement M
-cap-of-spec = tie.close (tie.spec divide-requires cap-row-requires returns)
+cap-of-spec = tie.close (tie.spec divide-requires slice-aggregate-cap-row cap-row-requires returns)

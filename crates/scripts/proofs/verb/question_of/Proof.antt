@@ -1,23 +1,14 @@
--- The list has at most as many words as a line has columns.
-use Prim.Native.Nat.{_≤_}
-use native.Mathlib.Omega.{arith}
-use lib.ListN.{length}
-use Rattle.laws.specs.Text.{ascii}
-use Rattle.lines.specs.Columns.{columnsOf, columnsFrom}
+-- The place in the list of words.
 use Rattle.scripts.specs.Words.{questionOf}
 use borrow.Author.Needs.{needs}
 use Rattle.scripts.proofs.verb.question_of.Statement.{statement}
 use Rattle.scripts.proofs.verb.question_of.Tie as tie
 
-few : length (columnsOf (ascii "import\trow\tidentify\textract\tengineer\tstep\tnumber\twidth\tunsigned\tsigned\tstring\tline")) ≤ 24
-unfolding columnsOf columnsFrom
-few = omega arith
-
 slice-aggregate-place-in : tie.Need-slice-aggregate-place-in
 slice-aggregate-place-in c = search needs
 
 place-in-requires : tie.Need-place-in-requires
-place-in-requires c κs = few
+place-in-requires c κs = search needs
 
 returns : tie.Need-returns
 unfolding questionOf

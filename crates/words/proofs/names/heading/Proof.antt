@@ -48,6 +48,9 @@ returns-2 c = c .name-of2 .ensures ∙ none-past _ _ (search needs) (omega arith
 divide-requires : tie.Need-divide-requires
 divide-requires c κs = search needs
 
+slice-aggregate-column : tie.Need-slice-aggregate-column
+slice-aggregate-column c = search needs
+
 sub-column : tie.Need-sub-column
 sub-column c = search needs
 
@@ -59,7 +62,7 @@ name-of-requires-3 c κs = search needs
 
 returns-3 : tie.Need-returns-3
 returns-3 c =
-    let b = c .before .before .before .before .before .before .args in
+    let b = c .before .before .before .before .before .before .before .args in
     cc (one-before (now (b .line)) (b .k) (omega arith) (omega arith))
 
 pub heading-spec : {M : Type 1} → statement M
@@ -73,6 +76,7 @@ heading-spec =
     name-of-requires-2
     returns-2
     divide-requires
+    slice-aggregate-column
     sub-column
     column-requires
     name-of-requires-3
