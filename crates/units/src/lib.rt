@@ -1,5 +1,8 @@
 // One tuple struct for each kind of number (01: "Row numbers, SPIDs, byte offsets and bit offsets are never mixed").
 
+// The number by which people know a table, counted from 1: pid is 1 and ocp 10. Its place in an array is one less.
+pub struct TableNumber(pub usize);
+
 // The place of a row in its table, counted from 1.
 pub struct RowNumber(pub usize);
 
