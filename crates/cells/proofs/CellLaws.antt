@@ -1,7 +1,7 @@
 -- The cell of a row by its table's cells, and what it says after an import.
 use mathlib.Core.Path.{_≡_, refl, sym, ap, _∙_}
 use mathlib.Core.Bool.{Bool, true, false, cond, _&&_}
-use mathlib.Core.List.{List, []}
+use mathlib.Core.List.{List}
 use Prim.Native.Nat.{ℕ, suc, _+_, _-_, _≤_, _<_}
 use native.Mathlib.Omega.{arith}
 use native.Mathlib.Numerals.{add-one}
@@ -11,14 +11,13 @@ use borrow.Author.Tests.{ltb-true, leb-true, eqb-true, lt-ltb, le-leb}
 use Rattle.laws.proofs.Cases.{and-left, and-right, and-both, and-false, false-of}
 use Rattle.lines.specs.Lines.{linesOf}
 use Rattle.verdicts.specs.Answer.{refused, taken, tooLong, tooManyRows, zeros, importOf}
-use Rattle.verdicts.specs.Entries.{carried, allRows}
+use Rattle.verdicts.specs.Entries.{allRows}
 use Rattle.verdicts.specs.Verdicts.{verdicts}
 use Rattle.verdicts.specs.Places.{textAt, IsRow, rowsBefore, place, verdictAt, Takes, imported}
 use Rattle.verdicts.proofs.EntryLaws.{rows-before-next}
 use Rattle.verdicts.proofs.CellLaws.{imported-at}
 use Rattle.tables.specs.Sizes.{fit, refusedBy, sizesOf}
 use Rattle.tables.proofs.SizeLaws.{few}
-use Rattle.cells.specs.declared.Cell.{Cell}
 use Rattle.cells.specs.declared.Cell.the-variants.{At, NoCell}
 use Rattle.cells.specs.declared.TableCells.{TableCells}
 use Rattle.cells.specs.Cells.{isFit, fits, isTable, isRow, cellOf, noCells, cellsOf, cellIn, verdictIn}

@@ -1,1 +1,4 @@
 pub mod SpaceLaws
+pub mod LoadLaws
+pub mod PathLaws
+pub mod PacketLaws

@@ -1,47 +1,88 @@
--- Where the tables end.
-use mathlib.Core.Path.{_≡_, refl, sym, subst, _∙_}
-use mathlib.Core.Bool.{Bool, true, false, cond}
+-- One table read into its part of the space.
+use mathlib.Core.Path.{_≡_, refl, sym, ap, subst, _∙_}
+use mathlib.Core.Bool.{true, false}
 use mathlib.Core.List.{List}
-use mathlib.Core.Logic.{_⊎_, inl, inr}
-use Prim.Native.Nat.{ℕ, zero, suc, _+_, _*_, _≤_}
+use Prim.Native.Nat.{ℕ, _+_, _-_, _*_, _≤_, _<_}
 use native.Mathlib.Omega.{arith}
-use lib.Dec.{eqb, ltb, leb}
-use lib.ListN.{length, getD, set, replicate, length-set, List·getD-eq-default}
-use lib.Seq.{getD-set-same, getD-set-other}
-use borrow.Author.Tests.{eqb-true, eqb-false, ltb-true, ltb-false, leb-true}
-use Rattle.laws.proofs.Cases.{bool-cases, cond-cases}
-use Rattle.files.specs.Space.{endOf, Apart}
+use lib.Dec.{ltb}
+use lib.IntN.{ℤ}
+use lib.ListN.{length, getD, set}
+use lib.Seq.{getD-take, getD-drop}
+use borrow.Author.Tests.{ltb-true, ltb-false, lt-ltb, le-leb}
+use borrow.Rule.Slice.PartMut.{midOf, putMid, mid-len, put-same, take-put, drop-put}
+use Rattle.laws.proofs.Cases.{bool-cases, and-both, false≢true}
+use Rattle.files.specs.declared.source.Got.{Got}
+use Rattle.files.specs.declared.source.Got.the-variants.{Bytes, Missing, Failed}
+use Rattle.files.specs.Reads.{Within, ReadInto}
+use Rattle.files.specs.Space.{endOf, hasRoom, TableInto, TableLoaded, SamePart}
 
--- an end in the part of table t
-abbrev In : ℕ → ℕ → Type 0
-In t e = (e ≡ 0) ⊎ ((t * 65537 ≤ e) × (e ≤ t * 65537 + 65537))
+within-part : (got : Got) (before after : List ℕ) (n : ℕ) → length after ≤ n → ReadInto got before after → Within got n
+within-part (Bytes k) before after n h r = omega arith
+within-part Missing before after n h r = tt
+within-part (Failed e) before after n h r = tt
 
-none : (n t : ℕ) → getD (replicate {A = ℕ} n 0) t 0 ≡ 0
-none zero t = refl
-none (suc n) zero = refl
-none (suc n) (suc t) = none n t
+as-it-was : (got : Got) (before after : List ℕ) → ReadInto got before after → got ≡ Missing → after ≡ before
+as-it-was (Bytes k) before after r e = cc
+as-it-was Missing before after r e = r
+as-it-was (Failed k) before after r e = cc
 
-pub apart-none : (n : ℕ) → Apart (replicate {A = ℕ} n 0)
-apart-none n = record { own = λ t. inl (none n t) }
+-- where there is no room nothing is read
+pub into-none : (t : ℕ) (space : List ℕ) → TableInto t Missing space space
+into-none t space = record { within = tt; room = λ _. refl; missing = λ _. refl; front = refl; rest = refl }
 
-end-in : (t count : ℕ) → In t (endOf t count)
-unfolding endOf
-end-in t count =
-    cond-cases (In t) (ltb t 10)
-    (λ _. cond-cases (In t) (leb count 65537) (λ h. let few = leb-true count 65537 h in inr (omega arith, omega arith)) (λ _. inl refl))
-    (λ _. inl refl)
+module _ (t : ℕ) (got : Got) (space part : List ℕ) (below : t < 10) (fits : t * 65537 + 65537 ≤ length space) where
+  has-room : hasRoom space t ≡ true
+  unfolding hasRoom
+  has-room = and-both (lt-ltb t 10 below) (le-leb (t * 65537 + 65537) (length space) fits)
 
-module _ (ends : List ℕ) (apart : Apart ends) (t count : ℕ) where
-  here : In t (getD (set ends t (endOf t count)) t 0)
-  here =
-      bool-cases (ltb t (length ends))
-      (λ q. rw (getD-set-same ends t (endOf t count) 0 (ltb-true t (length ends) q)) (end-in t count))
-      (λ q. inl (List·getD-eq-default (set ends t (endOf t count)) 0 (omega (arith, length-set ends t (endOf t count), ltb-false t (length ends) q))))
+  pub into-part : ReadInto got (midOf (t * 65537) (t * 65537 + 65537 - t * 65537) space) part
+      → length part ≡ length (midOf (t * 65537) (t * 65537 + 65537 - t * 65537) space)
+      → TableInto t got space (putMid (t * 65537) (t * 65537 + 65537 - t * 65537) space part)
+  into-part r e =
+      let a = t * 65537 in
+      let size : length part ≡ t * 65537 + 65537 - t * 65537 = e ∙ mid-len a (a + 65537) space fits in
+      record {
+        within = within-part got (midOf a (a + 65537 - a) space) part 65537 (omega arith) r;
+        room = λ no. absurd (false≢true (sym no ∙ has-room));
+        missing =
+            λ m. ap (λ (l : List ℕ). putMid (t * 65537) (t * 65537 + 65537 - t * 65537) space l) (as-it-was got (midOf a (a + 65537 - a) space) part r m)
+            ∙ put-same a (a + 65537 - a) space;
+        front = take-put a (a + 65537 - a) space part (omega arith);
+        rest = drop-put a (a + 65537) space part (omega arith) fits size;
+      }
 
-  each : (j : ℕ) → In j (getD (set ends t (endOf t count)) j 0)
-  each j =
-      bool-cases (eqb j t) (λ q. subst (λ (k : ℕ). In k (getD (set ends t (endOf t count)) k 0)) (sym (eqb-true j t q)) here)
-      (λ q. rw (getD-set-other ends t j (endOf t count) 0 (eqb-false j t q)) (apart .own j))
+-- the parts of other tables are as they were
+module _ (t : ℕ) {got : Got} {before after : List ℕ} (into : TableInto t got before after) (u : ℕ) where
+  ahead : u < t → SamePart before after u
+  ahead h k l =
+      let i = u * 65537 + k in
+      let below : u * 65537 + k < t * 65537 = omega arith in
+      sym (getD-take (t * 65537) after i 0 below) ∙ ap (λ (s : List ℕ). getD s (u * 65537 + k) 0) (into .front) ∙ getD-take (t * 65537) before i 0 below
 
-  pub apart-more : Apart (set ends t (endOf t count))
-  apart-more = record { own = each }
+  behind : t < u → SamePart before after u
+  behind h k l =
+      let e = t * 65537 + 65537 in
+      let j = u * 65537 + k - (t * 65537 + 65537) in
+      let is : u * 65537 + k ≡ t * 65537 + 65537 + (u * 65537 + k - (t * 65537 + 65537)) = omega arith in
+      ap (λ (i : ℕ). getD after i 0) is ∙ sym (getD-drop e after j 0)
+      ∙ ap (λ (s : List ℕ). getD s (u * 65537 + k - (t * 65537 + 65537)) 0) (into .rest)
+      ∙ getD-drop e before j 0 ∙ ap (λ (i : ℕ). getD before i 0) (sym is)
+
+  pub beside : (u ≡ t → ⊥) → SamePart before after u
+  beside d =
+      bool-cases (ltb u t) (λ q. ahead (ltb-true u t q))
+      (λ q. bool-cases (ltb t u) (λ p. behind (ltb-true t u p)) (λ p. absurd (d (omega (arith, ltb-false u t q, ltb-false t u p)))))
+
+-- what a table's reading leaves in the ends, by the answer
+module _ (t : ℕ) {got : Got} {before after : List ℕ} (into : TableInto t got before after) (ends : List ℕ) where
+  pub loaded-bytes : {count e : ℕ} {ends′ : List ℕ} → got ≡ Bytes count → e ≡ endOf t count → ends′ ≡ set ends t e
+      → TableLoaded t true before after ends ends′
+  loaded-bytes {count} is v s =
+      record { answer = Bytes count; into = subst (λ (g : Got). TableInto t g before after) is into; kept = s ∙ ap (set ends t) v; told = refl }
+
+  pub loaded-missing : got ≡ Missing → TableLoaded t true before after ends ends
+  loaded-missing is = record { answer = Missing; into = subst (λ (g : Got). TableInto t g before after) is into; kept = refl; told = refl }
+
+  pub loaded-failed : {error : ℤ} → got ≡ Failed error → TableLoaded t false before after ends ends
+  loaded-failed {error} is =
+      record { answer = Failed error; into = subst (λ (g : Got). TableInto t g before after) is into; kept = refl; told = refl }

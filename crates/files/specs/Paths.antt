@@ -4,7 +4,7 @@ use mathlib.Core.Path.{_≡_, refl}
 use mathlib.Core.List.{List, [], _∷_, _++_}
 use mathlib.Core.Bool.{cond}
 use lib.Dec.{leb}
-use lib.ListN.{length}
+use lib.ListN.{length, drop}
 use Rattle.laws.specs.Text.{ascii}
 use Rattle.lines.specs.Columns.{columnsOf, columnsFrom, partOf}
 use Rattle.lines.specs.Names.{nameOf}
@@ -23,9 +23,14 @@ fileOf t = letters (tableName t) ++ ascii ".dat"
 unfoldable pub pathOf : List ℕ → ℕ → List ℕ
 pathOf directory t = cond (leb (length directory) 4096) (directory ++ ascii "/" ++ fileOf t) []
 
+-- a text put at the start of a buffer, in which the bytes behind it stay as they were
+abbrev pub putFirst : (text buffer : List ℕ) → List ℕ
+putFirst text buffer = text ++ drop (length text) buffer
+
 pub record Examples : Type 0 where
   pub fourth : pathOf (ascii "thermal") 4 ≡ ascii "thermal/pcf.dat"
+  pub put : putFirst (ascii "pcf") (ascii "thermal") ≡ ascii "pcfrmal"
 
 pub examples : Examples
 unfolding pathOf fileOf tableName heading nameOf columnsOf columnsFrom
-examples = record { fourth = refl }
+examples = record { fourth = refl; put = refl }

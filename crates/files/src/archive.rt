@@ -3,7 +3,7 @@ use crate::source::short;
 ghost use mathlib.Core.Path.{_≡_};
 ghost use Prim.Native.Nat.{_-_, _≤_};
 ghost use lib.ListN.{length};
-ghost use Rattle.files.specs.Packets.{Framed, Stopped, lengthSaid};
+ghost use Rattle.files.specs.Packets.{Framed, PassedOver, Skipped, Stopped, lengthSaid};
 
 // A packet has at most so many bytes.
 pub const MOST_PACKET: usize = 8192;
@@ -24,7 +24,7 @@ pub enum Next {
 
 // A read that came back short, after so many bytes of a packet.
 fn stopped(fd: i32, count: usize) -> Next
-    ensures { λ r. ⌜ Stopped r ⌝ }
+    ensures { λ r. ⌜ Stopped r count ⌝ }
 {
     let error = short(fd);
     if error != 0 {
@@ -51,7 +51,7 @@ fn length_said(packet: &[u8]) -> usize
 }
 
 pub fn next_packet(fd: i32, packet: &mut [u8]) -> Next
-    ensures { λ r. ⌜ Framed r (now (packet .exit)) ⌝ }
+    ensures { λ r. ⌜ Framed r (now (packet .entry)) (now (packet .exit)) ⌝ }
 {
     if packet.len() < MOST_PACKET {
         return Next::NoRoom;
@@ -73,7 +73,7 @@ pub fn next_packet(fd: i32, packet: &mut [u8]) -> Next
 
 // Reads over some of the bytes that are left, and answers how many then are.
 fn skip_some(fd: i32, left: usize, packet: &mut [u8]) -> usize
-    ensures { λ r. ⌜ r ≤ left ⌝ }
+    ensures { λ r. ⌜ PassedOver left r (now (packet .entry)) (now (packet .exit)) ⌝ }
 {
     if packet.len() <= left {
         return left - io::read_full(fd, packet);
@@ -94,7 +94,7 @@ fn beyond_six(length: usize) -> usize
 // Passes over the rest of a packet of which six bytes were read: at most 65,536 bytes, by pieces of at most 8,192.
 // Answers how many of its bytes were not there.
 pub fn skip(fd: i32, length: usize, packet: &mut [u8]) -> usize
-    ensures { λ r. ⌜ r ≤ length ⌝ }
+    ensures { λ r. ⌜ Skipped length r (now (packet .entry)) (now (packet .exit)) ⌝ }
 {
     let mut left = beyond_six(length);
     for _ in 0..PIECES {

@@ -10,13 +10,15 @@ use lines::columns::keep_at;
 use lines::columns::part;
 use std::num::wrapping_add_usize;
 use tables::TABLES;
+use units::TableNumber;
 use words::names::table_name;
 use words::say;
 use words::say::words;
 ghost use mathlib.Core.Path.{_≡_};
 ghost use mathlib.Core.List.{map};
-ghost use Rattle.files.specs.Reads.{Within};
-ghost use Rattle.files.specs.Space.{endOf, tableIn, tablesIn, Apart};
+ghost use mathlib.Core.Bool.{_&&_};
+ghost use Rattle.files.specs.Space.{endOf, tableIn, tablesIn};
+ghost use Rattle.files.specs.Space.{DirectoryInto, LoadedInto, TableInto, TableLoaded};
 
 // 0 where there is such a directory, else the number of the system's error. Reading a directory fails, by which it is told from a file.
 pub fn directory_error(directory: &[u8]) -> i32 {
@@ -48,25 +50,25 @@ pub struct Loaded {
     pub whole: bool,
 }
 
-fn say_file(t: usize) {
-    say::name(table_name(t));
+fn say_file(table: TableNumber) {
+    say::name(table_name(table));
     words(b".dat: ");
 }
 
-fn say_missing(t: usize) {
-    say_file(t);
+fn say_missing(table: TableNumber) {
+    say_file(table);
     words(b"there is none, so the table is empty\n");
 }
 
-fn say_failed(t: usize, error: i32) {
-    say_file(t);
+fn say_failed(table: TableNumber, error: i32) {
+    say_file(table);
     say_error(error);
     words(b"\n");
 }
 
 // The table with this number, from 0, into its part of the space.
 fn read_table(directory: &[u8], t: usize, space: &mut [u8]) -> Got
-    ensures { λ r. ⌜ Within r 65537 ⌝ }
+    ensures { λ r. ⌜ TableInto t r (now (space .entry)) (now (space .exit)) ⌝ }
 {
     if TABLES <= t {
         return Got::Missing;
@@ -77,7 +79,7 @@ fn read_table(directory: &[u8], t: usize, space: &mut [u8]) -> Got
         return Got::Missing;
     }
     let mut path = [0u8; MOST_PATH];
-    let length = table_path(directory, t + 1, &mut path);
+    let length = table_path(directory, TableNumber(t + 1), &mut path);
     read_file(&path[..length], &mut space[from..to])
 }
 
@@ -96,8 +98,7 @@ fn end_of(t: usize, count: usize) -> usize
 
 // Reads one table, and says where it isn't there or can't be read; answers whether it could.
 fn load_table(directory: &[u8], t: usize, space: &mut [u8], ends: &mut [usize; TABLES]) -> bool
-    requires { ⌜ Apart (now ends) ⌝ }
-    ensures { λ _. ⌜ Apart (now (ends .exit)) ⌝ }
+    ensures { λ r. ⌜ TableLoaded t r (now (space .entry)) (now (space .exit)) (now (ends .entry)) (now (ends .exit)) ⌝ }
 {
     match read_table(directory, t, space) {
         Got::Bytes(count) => {
@@ -105,33 +106,41 @@ fn load_table(directory: &[u8], t: usize, space: &mut [u8], ends: &mut [usize; T
             true
         }
         Got::Missing => {
-            say_missing(wrapping_add_usize(t, 1));
+            say_missing(TableNumber(wrapping_add_usize(t, 1)));
             true
         }
         Got::Failed(error) => {
-            say_failed(wrapping_add_usize(t, 1), error);
+            say_failed(TableNumber(wrapping_add_usize(t, 1)), error);
             false
         }
     }
 }
 
+fn both(a: bool, b: bool) -> bool
+    ensures { λ r. ⌜ r ≡ (a && b) ⌝ }
+{
+    if a {
+        return b;
+    }
+    false
+}
+
 // Reads the ten tables. A table for which the space has no room counts as missing.
 pub fn load(directory: &[u8], space: &mut [u8]) -> Loaded
-    ensures { λ r. ⌜ Apart (r .ends) ⌝ }
+    ensures { λ r. ⌜ LoadedInto r (now (space .entry)) (now (space .exit)) ⌝ }
 {
     let mut ends = [0usize; TABLES];
     let mut whole = true;
     for t in 0..TABLES {
-        if !load_table(directory, t, space, &mut ends) {
-            whole = false;
-        }
+        let read = load_table(directory, t, space, &mut ends);
+        whole = both(whole, read);
     }
     Loaded { ends, whole }
 }
 
 // The same, and a line where there is no such directory, or a table was not read.
 pub fn load_directory(directory: &[u8], space: &mut [u8]) -> Loaded
-    ensures { λ r. ⌜ Apart (r .ends) ⌝ }
+    ensures { λ r. ⌜ DirectoryInto r (now (space .entry)) (now (space .exit)) ⌝ }
 {
     let error = directory_error(directory);
     if error != 0 {

@@ -1,8 +1,7 @@
 // A file read whole, as far as a buffer holds it.
 use libc::EINTR;
 use libc::ENOENT;
-ghost use lib.ListN.{length};
-ghost use Rattle.files.specs.Reads.{Within};
+ghost use Rattle.files.specs.Reads.{ReadInto};
 
 // How many bytes stand at the start of the buffer; that there is no such file; or the number of the system's error.
 pub enum Got {
@@ -26,7 +25,7 @@ pub fn short(fd: i32) -> i32 {
 
 // Reads until the file ends or the buffer is full.
 fn read_open(fd: i32, buffer: &mut [u8]) -> Got
-    ensures { λ r. ⌜ Within r (length (now (buffer .exit))) ⌝ }
+    ensures { λ r. ⌜ ReadInto r (now (buffer .entry)) (now (buffer .exit)) ⌝ }
 {
     let count = io::read_full(fd, buffer);
     if count < buffer.len() {
@@ -39,7 +38,7 @@ fn read_open(fd: i32, buffer: &mut [u8]) -> Got
 }
 
 pub fn read_file(path: &[u8], buffer: &mut [u8]) -> Got
-    ensures { λ r. ⌜ Within r (length (now (buffer .exit))) ⌝ }
+    ensures { λ r. ⌜ ReadInto r (now (buffer .entry)) (now (buffer .exit)) ⌝ }
 {
     let fd = os::open_read(path);
     if fd < 0 {

@@ -5,6 +5,7 @@ use lines::columns::divide;
 use lines::names::Name;
 use lines::names::name_of;
 use schemas::Table;
+use units::TableNumber;
 ghost use mathlib.Core.Path.{_≡_};
 ghost use Prim.Native.Nat.{_≤_};
 ghost use lib.ListN.{length};
@@ -54,9 +55,9 @@ pub fn column_name(table: Table, k: usize) -> Name
     }
 }
 
-// The name of the table with this number, from 1; else the empty name.
-pub fn table_name(t: usize) -> Name
-    ensures { λ r. ⌜ r ≡ tableName t ⌝ }
+// The name of the table with this number; else the empty name.
+pub fn table_name(table: TableNumber) -> Name
+    ensures { λ r. ⌜ r ≡ tableName (table .0) ⌝ }
 {
-    heading(b"pid\tpic\tplf\tpcf\tcaf\tcap\ttxf\ttxp\tocf\tocp", t)
+    heading(b"pid\tpic\tplf\tpcf\tcaf\tcap\ttxf\ttxp\tocf\tocp", table.0)
 }

@@ -2,6 +2,7 @@
 use crate::names::table_name;
 use crate::say;
 use crate::say::words;
+use units::TableNumber;
 
 // Those of a call with tables and packets.
 fn say_early(refusal: usize) {
@@ -43,7 +44,7 @@ fn say_place(refusal: usize, place: usize) {
             words(b" at table ");
             say::number(place);
             words(b" (");
-            say::name(table_name(place));
+            say::name(table_name(TableNumber(place)));
             words(b")");
         }
         24 | 28 | 29 => {

@@ -1,5 +1,4 @@
 -- Past the last cell there is none.
-use mathlib.Core.Path.{refl}
 use borrow.Author.Needs.{needs}
 use Rattle.laws.proofs.Values.{past-end}
 use Rattle.cells.proofs.verdict_in.Statement.{statement}

@@ -6,25 +6,22 @@ use Rattle.check_tables.proofs.rows.say_rows.Statement.{statement}
 use Rattle.check_tables.proofs.rows.say_rows.Tie as tie
 
 abbrev Inv-loop : tie.InvT-loop
-Inv-loop tables cells from₀ t₀ from t = t ≤ 10
+Inv-loop tables cells t₀ t = t ≤ 10
 
 abbrev μ-loop : tie.MeasureT-loop
-μ-loop tables cells from₀ t₀ from t = 10 - t
+μ-loop tables cells t₀ t = 10 - t
 
 loop-holds : tie.Need-loop-holds Inv-loop μ-loop
 loop-holds c = omega arith
 
-table-at-requires : tie.Need-table-at-requires Inv-loop μ-loop
-table-at-requires c κs = search needs
+add-number : tie.Need-add-number Inv-loop μ-loop
+add-number c = omega arith
 
-row-count-requires : tie.Need-row-count-requires Inv-loop μ-loop
-row-count-requires c κs = search needs
+kind-of-requires : tie.Need-kind-of-requires Inv-loop μ-loop
+kind-of-requires c κs = search needs
 
 say-table-requires : tie.Need-say-table-requires Inv-loop μ-loop
 say-table-requires c κs = search needs
-
-wrapping-add-usize-requires : tie.Need-wrapping-add-usize-requires Inv-loop μ-loop
-wrapping-add-usize-requires c κs = search needs
 
 add-t : tie.Need-add-t Inv-loop μ-loop
 add-t c = omega arith
@@ -45,10 +42,9 @@ say-rows-spec =
     Inv-loop
     μ-loop
     loop-holds
-    table-at-requires
-    row-count-requires
+    add-number
+    kind-of-requires
     say-table-requires
-    wrapping-add-usize-requires
     add-t
     loop-less
     loop-again

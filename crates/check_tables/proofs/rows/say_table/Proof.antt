@@ -6,28 +6,31 @@ use Rattle.check_tables.proofs.rows.say_table.Statement.{statement}
 use Rattle.check_tables.proofs.rows.say_table.Tie as tie
 
 abbrev Inv-loop : tie.InvT-loop
-Inv-loop t rows cells from row₀ row = row ≤ rows
+Inv-loop tables table kind cells own k₀ k = k ≤ 1024
 
 abbrev μ-loop : tie.MeasureT-loop
-μ-loop t rows cells from row₀ row = rows - row
+μ-loop tables table kind cells own k₀ k = 1024 - k
+
+table-cells-requires : tie.Need-table-cells-requires Inv-loop μ-loop
+table-cells-requires c κs = search needs
 
 loop-holds : tie.Need-loop-holds Inv-loop μ-loop
 loop-holds c = omega arith
 
-wrapping-add-usize-requires : tie.Need-wrapping-add-usize-requires Inv-loop μ-loop
-wrapping-add-usize-requires c κs = search needs
+add-number : tie.Need-add-number Inv-loop μ-loop
+add-number c = omega arith
 
-wrapping-add-usize-requires-2 : tie.Need-wrapping-add-usize-requires-2 Inv-loop μ-loop
-wrapping-add-usize-requires-2 c κs = search needs
+cell-in-requires : tie.Need-cell-in-requires Inv-loop μ-loop
+cell-in-requires c κs = search needs
 
-cell-at-requires : tie.Need-cell-at-requires Inv-loop μ-loop
-cell-at-requires c κs = search needs
+verdict-in-requires : tie.Need-verdict-in-requires Inv-loop μ-loop
+verdict-in-requires c κs = search needs
 
-say-cell-requires : tie.Need-say-cell-requires Inv-loop μ-loop
-say-cell-requires c κs = search needs
+say-verdict-requires : tie.Need-say-verdict-requires Inv-loop μ-loop
+say-verdict-requires c κs = search needs
 
-add-row : tie.Need-add-row Inv-loop μ-loop
-add-row c = omega arith
+add-k : tie.Need-add-k Inv-loop μ-loop
+add-k c = omega arith
 
 loop-less : tie.Need-loop-less Inv-loop μ-loop
 loop-less c = omega arith
@@ -44,12 +47,13 @@ say-table-spec =
     (tie.spec
     Inv-loop
     μ-loop
+    table-cells-requires
     loop-holds
-    wrapping-add-usize-requires
-    wrapping-add-usize-requires-2
-    cell-at-requires
-    say-cell-requires
-    add-row
+    add-number
+    cell-in-requires
+    verdict-in-requires
+    say-verdict-requires
+    add-k
     loop-less
     loop-again
     returns)

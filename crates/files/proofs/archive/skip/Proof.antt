@@ -1,14 +1,13 @@
--- The buffer keeps its length, and what is left never grows.
-use Prim.Native.Nat.{_-_, _≤_}
-use mathlib.Core.Path.{_≡_}
+-- What is left never grows, and the bytes behind it stay.
+use Prim.Native.Nat.{_-_}
 use native.Mathlib.Omega.{arith}
-use lib.ListN.{length as size}
 use borrow.Author.Needs.{needs}
+use Rattle.files.proofs.PacketLaws.{SkippedSo, skip-none, skip-more, skip-end}
 use Rattle.files.proofs.archive.skip.Statement.{statement}
 use Rattle.files.proofs.archive.skip.Tie as tie
 
 abbrev Inv-loop : tie.InvT-loop
-Inv-loop fd length packet₀ left₀ counter₀ packet left counter = (size packet ≡ size packet₀) × (counter ≤ 8) × (left ≤ length)
+Inv-loop fd length packet₀ left₀ counter₀ packet left counter = SkippedSo length counter left packet₀ packet
 
 abbrev μ-loop : tie.MeasureT-loop
 μ-loop fd length packet₀ left₀ counter₀ packet left counter = 8 - counter
@@ -17,7 +16,7 @@ beyond-six-requires : tie.Need-beyond-six-requires Inv-loop μ-loop
 beyond-six-requires c κs = search needs
 
 loop-holds : tie.Need-loop-holds Inv-loop μ-loop
-loop-holds c = (omega arith, omega arith, omega arith)
+loop-holds c = skip-none (c .beyond-six .ensures)
 
 skip-some-requires : tie.Need-skip-some-requires Inv-loop μ-loop
 skip-some-requires c κs = search needs
@@ -29,13 +28,15 @@ loop-less : tie.Need-loop-less Inv-loop μ-loop
 loop-less c = omega arith
 
 loop-again : tie.Need-loop-again Inv-loop μ-loop
-loop-again c = (omega arith, omega arith, omega arith)
+loop-again c =
+    let s = c .before .before .skip-some in
+    skip-more (c .before .before .before .before .before .loop .inv) (c .before .before .before .before .loop-test .taken) (s .ensures) (s .kept .1 .1 .0)
 
 same-length : tie.Need-same-length Inv-loop μ-loop
-same-length c = omega arith
+same-length c = c .before .loop .inv .size
 
 returns : tie.Need-returns Inv-loop μ-loop
-returns c = omega arith
+returns c = skip-end (c .before .loop .inv) (c .loop-test .left)
 
 pub skip-spec : {M : Type 1} → statement M
 skip-spec =

@@ -2,6 +2,7 @@
 use native.Mathlib.Omega.{arith}
 use lib.ListN.{length-take}
 use borrow.Author.Needs.{needs}
+use Rattle.files.proofs.PacketLaws.{passed-whole, passed-part}
 use Rattle.files.proofs.archive.skip_some.Statement.{statement}
 use Rattle.files.proofs.archive.skip_some.Tie as tie
 
@@ -15,7 +16,7 @@ same-length : tie.Need-same-length
 same-length c = search needs
 
 returns : tie.Need-returns
-returns c = search needs
+returns c = let r = c .before .before .read-full in passed-whole _ _ _ _ (omega arith) (r .kept .1 .0) (r .ensures .0)
 
 slice-relend-prefix-read-full : tie.Need-slice-relend-prefix-read-full
 slice-relend-prefix-read-full c = search needs
@@ -33,7 +34,9 @@ same-length-2 : tie.Need-same-length-2
 same-length-2 c = search needs
 
 returns-2 : tie.Need-returns-2
-returns-2 c = search needs
+returns-2 c =
+    let r = c .before .before .read-full2 in
+    passed-part _ _ _ (r .last .1 .0) (omega arith) (r .kept .1 .0) (r .ensures .0)
 
 pub skip-some-spec : {M : Type 1} → statement M
 skip-some-spec =

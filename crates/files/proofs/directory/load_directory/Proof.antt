@@ -1,6 +1,7 @@
 -- No table, or those that were read.
+use mathlib.Core.Logic.{inl, inr}
+use mathlib.Core.Path.{refl}
 use borrow.Author.Needs.{needs}
-use Rattle.files.proofs.SpaceLaws.{apart-none}
 use Rattle.files.proofs.directory.load_directory.Statement.{statement}
 use Rattle.files.proofs.directory.load_directory.Tie as tie
 
@@ -26,7 +27,7 @@ words-requires-3 : tie.Need-words-requires-3
 words-requires-3 c κs = search needs
 
 returns : tie.Need-returns
-returns c = apart-none 10
+returns c = inl (refl, refl)
 
 load-requires : tie.Need-load-requires
 load-requires c κs = search needs
@@ -41,13 +42,13 @@ same-length : tie.Need-same-length
 same-length c = search needs
 
 returns-2 : tie.Need-returns-2
-returns-2 c = search needs
+returns-2 c = inr (c .before .before .before .before .before .before .load .ensures)
 
 same-length-2 : tie.Need-same-length-2
 same-length-2 c = search needs
 
 returns-3 : tie.Need-returns-3
-returns-3 c = search needs
+returns-3 c = inr (c .before .before .before .before .load .ensures)
 
 pub load-directory-spec : {M : Type 1} → statement M
 load-directory-spec =

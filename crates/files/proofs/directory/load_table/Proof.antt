@@ -1,6 +1,6 @@
--- A table that was read ends in its own part.
+-- By the system's answer.
 use borrow.Author.Needs.{needs}
-use Rattle.files.proofs.SpaceLaws.{apart-more}
+use Rattle.files.proofs.SpaceLaws.{loaded-bytes, loaded-missing, loaded-failed}
 use Rattle.files.proofs.directory.load_table.Statement.{statement}
 use Rattle.files.proofs.directory.load_table.Tie as tie
 
@@ -38,19 +38,21 @@ same-length : tie.Need-same-length
 same-length c = search needs
 
 returns : tie.Need-returns
-returns c = rw (c .keep-at .ensures, c .before .end-of .ensures) (apart-more _ (c .before .before .before .before .before .before .before .before .before .before .before .before .pre) _ _)
+returns c =
+    let r = c .before .before .before .before .before .before .before .before .read-table in
+    loaded-bytes _ (r .ensures) _ (c .before .before .before .before .count .given .1) (c .before .end-of .ensures) (c .keep-at .ensures)
 
 same-length-2 : tie.Need-same-length-2
 same-length-2 c = search needs
 
 returns-2 : tie.Need-returns-2
-returns-2 c = search needs
+returns-2 c = loaded-missing _ (c .before .before .before .before .before .before .read-table .ensures) _ (c .before .before .enum-told .given .1)
 
 same-length-3 : tie.Need-same-length-3
 same-length-3 c = search needs
 
 returns-3 : tie.Need-returns-3
-returns-3 c = search needs
+returns-3 c = loaded-failed _ (c .before .before .before .before .before .before .before .read-table .ensures) _ (c .before .before .before .error .given .1)
 
 pub load-table-spec : {M : Type 1} → statement M
 load-table-spec =

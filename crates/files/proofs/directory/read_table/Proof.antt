@@ -1,21 +1,12 @@
--- A table's part of the space has 65,537 bytes.
-use Prim.Native.Nat.{ℕ, _≤_}
+-- The table's part alone is lent.
 use native.Mathlib.Omega.{arith}
-use lib.ListN.{length, length-take, length-drop}
-use Rattle.files.specs.declared.source.Got.{Got}
-use Rattle.files.specs.declared.source.Got.the-variants.{Bytes, Missing, Failed}
-use Rattle.files.specs.Reads.{Within}
 use borrow.Author.Needs.{needs}
+use Rattle.files.proofs.SpaceLaws.{into-none, into-part}
 use Rattle.files.proofs.directory.read_table.Statement.{statement}
 use Rattle.files.proofs.directory.read_table.Tie as tie
 
-within-more : (r : Got) (n m : ℕ) → n ≤ m → Within r n → Within r m
-within-more (Bytes k) n m h w = omega arith
-within-more Missing n m h w = tt
-within-more (Failed e) n m h w = tt
-
 returns : tie.Need-returns
-returns c = search needs
+returns c = into-none _ _
 
 mul-from : tie.Need-mul-from
 mul-from c = search needs
@@ -24,10 +15,10 @@ add-to : tie.Need-add-to
 add-to c = search needs
 
 returns-2 : tie.Need-returns-2
-returns-2 c = search needs
+returns-2 c = into-none _ _
 
-add-table-path : tie.Need-add-table-path
-add-table-path c = search needs
+add-read-file : tie.Need-add-read-file
+add-read-file c = search needs
 
 table-path-requires : tie.Need-table-path-requires
 table-path-requires c κs = search needs
@@ -56,7 +47,7 @@ same-length c = search needs
 returns-3 : tie.Need-returns-3
 returns-3 c =
     let r = c .before .before .read-file in
-    within-more (r .result) (length (r .last .1 .0)) 65537 (omega (arith, simp (length-take, length-drop) at (r .kept .1 .0))) (r .ensures)
+    into-part _ _ _ _ (omega arith) (omega arith) (r .ensures) (r .kept .1 .0)
 
 pub read-table-spec : {M : Type 1} → statement M
 read-table-spec =
@@ -66,7 +57,7 @@ read-table-spec =
     mul-from
     add-to
     returns-2
-    add-table-path
+    add-read-file
     table-path-requires
     array-share-prefix-path
     slice-aggregate-read-file

@@ -1,21 +1,8 @@
--- The bytes before the place stay, and the text stands after them.
-use Prim.Native.Nat.{ℕ, _+_, _≤_}
-use mathlib.Core.Path.{_≡_, refl, sym, _∙_, ap}
-use mathlib.Core.List.{List, _++_, append-assoc}
-use native.Mathlib.Omega.{arith}
-use lib.ListN.{length, take, length-append, length-take}
-use lib.Seq.{take-at, take-length}
-use borrow.Rule.Slice.PartMut.{putMid}
+-- The bytes before the place and behind the text stay.
 use borrow.Author.Needs.{needs}
+use Rattle.files.proofs.PathLaws.{put-at}
 use Rattle.files.proofs.path.append.Statement.{statement}
 use Rattle.files.proofs.path.append.Tie as tie
-
-module _ (path text : List ℕ) (at : ℕ) (h : at ≤ length path) where
-  reach : length (take at path ++ text) ≡ at + length text
-  reach = simp (length-append, length-take) (omega arith)
-
-  after : (rest more : List ℕ) → take (at + length text) (take at path ++ ((take (length text) text ++ rest) ++ more)) ≡ take at path ++ text
-  after rest more = rw take-length (rw (append-assoc text rest more, ← append-assoc (take at path) text (rest ++ more)) (take-at (take at path ++ text) (rest ++ more) (at + length text) reach))
 
 sub-copy : tie.Need-sub-copy
 sub-copy c = search needs
@@ -38,7 +25,7 @@ same-length c = search needs
 returns : tie.Need-returns
 returns c =
     let k = c .before .before .before .before .before .before .args in
-    (search needs, rw (c .before .before .copy .ensures .0, c .before .before .copy .ensures .1) (after (k .path .now) (k .text .now) (k .at) (omega arith) _ _))
+    (search needs, put-at (k .path .now) (k .text .now) (k .at) _ (c .before .before .copy .ensures .1))
 
 pub append-spec : {M : Type 1} → statement M
 append-spec =
