@@ -15,7 +15,8 @@ module _ (texts : List (List ℕ)) (cells name : List ℕ) where
   unfolding afterPackets
   played-one p e = record { packets = p ∷ []; led = e }
 
-  more : (s : LimitState) (ps qs : List (List ℕ)) → afterPackets texts cells name s (ps ++ qs) ≡ afterPackets texts cells name (afterPackets texts cells name s ps) qs
+  more : (s : LimitState) (ps qs : List (List ℕ))
+      → afterPackets texts cells name s (ps ++ qs) ≡ afterPackets texts cells name (afterPackets texts cells name s ps) qs
   unfolding afterPackets
   more s [] qs = refl
   more s (p ∷ ps) qs = more (stateAfter s (limitStepBy texts cells p name s)) ps qs

@@ -14,7 +14,11 @@ use tables::TABLES;
 use words::refusals::say_refused;
 use words::say::number;
 use words::say::words;
+ghost use mathlib.Core.Path.{_≡_};
+ghost use mathlib.Core.Bool.{false};
 ghost use mathlib.Core.List.{map};
+ghost use Prim.Native.Nat.{_-_, _≤_};
+ghost use Rattle.files.specs.Packets.{Kept};
 ghost use Rattle.replay.specs.Turns.{freshState, Played};
 
 // More packets than any file has.
@@ -32,7 +36,10 @@ fn say_cut(k: usize) {
 }
 
 // A packet of which the first six bytes were read, the others being too many; answers whether the archive ends within it.
-fn pass_over(fd: i32, packet: &mut [u8], k: usize, length: usize) -> bool {
+fn pass_over(fd: i32, packet: &mut [u8], k: usize, length: usize) -> bool
+    ensures { λ r. ⌜ (length ≤ 6 → r ≡ false) ⌝ }
+    ensures { λ _. ⌜ Kept (length - 6) (now (packet .entry)) (now (packet .exit)) ⌝ }
+{
     let count = count_of(packet);
     let missing = skip(fd, length, packet);
     if missing != 0 {
