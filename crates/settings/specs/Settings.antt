@@ -9,13 +9,12 @@ use lib.ListN.{length, getD, replicate}
 use Rattle.laws.specs.Text.{ascii}
 use Rattle.numbers.specs.Number.{numberOf, answerOf, meaning, spelt, after, digitOn, digitOf}
 use Rattle.lines.specs.Columns.{columnsOf, columnsFrom, columnAt, partOf}
-use Rattle.lines.specs.Names.{nameOf, sameName, sameBytes}
 use Rattle.limit_state.specs.declared.state.LimitState.{LimitState}
 use Rattle.scripts.specs.declared.operands.Natural.{Natural}
 use Rattle.scripts.specs.declared.operands.Natural.the-variants as natural
 use Rattle.settings.specs.declared.SetLine.{SetLine}
 use Rattle.scripts.specs.Escapes.{byteOf, unescaped, hexBytes, rowBytes, within, before, beforeByte, plain}
-use Rattle.scripts.specs.Words.{settingOf, placeOf}
+use Rattle.scripts.specs.Words.{settingOf}
 use Rattle.scripts.specs.Numerals.{naturalIn, naturalOf, atMost}
 use Rattle.areas.specs.Memory.{Memory, Kept, memory, kept, added, cleared, allCleared}
 use Rattle.areas.specs.Memory.{unread}
@@ -108,15 +107,12 @@ setState s none = record { readable = false; state = s }
 setState s (some text) = stateIn s text
 
 pub record Examples (s : LimitState) : Type 0 where
-  pub clear : setArea 13 (memory [] (1 ∷ 70000 ∷ [])) (ascii "pid") ≡ kept true [] (0 ∷ 70000 ∷ [])
   pub no-packet : setArea 10 (memory [] (1 ∷ 70000 ∷ [])) (ascii "080") ≡ kept false [] (1 ∷ 70000 ∷ [])
-  pub state : setState s (textBytes (ascii "0|10|16383|2|1"))
-      ≡ record { readable = true; state = record { fresh = false; apid = 10; count = 16383; run = 2; announced = 1 } }
-  pub no-state : setState s (textBytes (ascii "2|10|16383|2|1")) ≡ record { readable = false; state = s }
+  pub state : setState s (textBytes (ascii "0|10|9|2|1"))
+      ≡ record { readable = true; state = record { fresh = false; apid = 10; count = 9; run = 2; announced = 1 } }
 
 pub examples : (s : LimitState) → Examples s
 unfolding
-    setArea setPacket packetBytes byBytes hexBytes clearNamed cleared unread settingOf placeOf nameOf sameName sameBytes columnsOf columnsFrom
-    setState stateIn stateOf textBytes within unescaped before beforeByte plain byteOf atMost naturalIn naturalOf
-    numberOf answerOf meaning spelt after digitOn digitOf
-examples s = record { clear = refl; no-packet = refl; state = refl; no-state = refl }
+    setArea setPacket packetBytes byBytes hexBytes unread setState stateIn stateOf textBytes within unescaped before beforeByte plain byteOf
+    columnsOf columnsFrom atMost naturalIn naturalOf numberOf answerOf meaning spelt after digitOn digitOf
+examples s = record { no-packet = refl; state = refl }
