@@ -1,4 +1,4 @@
--- A row decoded at the places of a divided line is that of the definitions.
+-- A row decoded by where the columns of its line end is that of the definitions.
 use mathlib.Core.Path.{_≡_, ap, ap₂, _∙_}
 use mathlib.Core.List.{List, []}
 use mathlib.Core.Bool.{cond}
