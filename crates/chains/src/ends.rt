@@ -1,8 +1,8 @@
 // A chain followed to its end, or until it comes round.
 use crate::circles::ROWS;
-use crate::rows::NO_ROW;
-use crate::rows::byte_at;
+use crate::rows::NO_NEXT;
 use crate::rows::next_row;
+use arrays::byte_at;
 ghost use mathlib.Core.Path.{_≡_};
 ghost use mathlib.Core.Bool.{cond};
 ghost use Prim.Native.Nat.{_*_};
@@ -39,7 +39,7 @@ pub(crate) fn follow(next: &[u16], ended: &[u8; ROWS], n: usize, i: usize) -> Co
             return Course::Ends;
         }
         let row = next_row(next, at);
-        if row == NO_ROW {
+        if row == NO_NEXT {
             return Course::Ends;
         }
         if row == i {
@@ -77,7 +77,7 @@ pub(crate) fn mark_ended(next: &[u16], ended: &mut [u8; ROWS], n: usize, i: usiz
         }
         ended[at] = 1;
         let row = next_row(next, at);
-        if row == NO_ROW {
+        if row == NO_NEXT {
             return;
         }
         at = row;

@@ -1,10 +1,10 @@
 // Which rows' chains end with every row firm.
 use crate::circles::ROWS;
-use crate::rows::NO_ROW;
-use crate::rows::byte_at;
-use crate::rows::half_at;
+use crate::rows::NO_NEXT;
+use crate::rows::depth_at;
 use crate::rows::next_row;
 use crate::rows::put_flag;
+use arrays::byte_at;
 ghost use mathlib.Core.Path.{_≡_};
 ghost use mathlib.Core.Bool.{true};
 ghost use Prim.Native.Nat.{_+_};
@@ -22,7 +22,7 @@ fn firm_depth(next: &[u16], firm: &[u8], depths: &[u16; ROWS], n: usize, i: usiz
     let mut left = n;
     let mut at = i;
     while 0 < left {
-        let depth = half_at(depths, at);
+        let depth = depth_at(depths, at);
         if 0 < depth {
             if depth <= left {
                 return (n - left) + depth;
@@ -32,7 +32,7 @@ fn firm_depth(next: &[u16], firm: &[u8], depths: &[u16; ROWS], n: usize, i: usiz
             return 0;
         }
         let row = next_row(next, at);
-        if row == NO_ROW {
+        if row == NO_NEXT {
             return (n - left) + 1;
         }
         at = row;
@@ -60,7 +60,7 @@ fn keep_depths(next: &[u16], firm: &[u8], depths: &mut [u16; ROWS], depth: usize
         }
         depths[at] = left as u16;
         let row = next_row(next, at);
-        if row == NO_ROW {
+        if row == NO_NEXT {
             return;
         }
         at = row;

@@ -2,7 +2,7 @@
 mod circles;
 mod ends;
 mod firm;
-mod rows;
+pub mod rows;
 
 pub use circles::mark_circles;
 pub use firm::mark_firm;

@@ -1,4 +1,3 @@
 pub mod SpaceLaws
 pub mod LoadLaws
 pub mod PathLaws
-pub mod PacketLaws

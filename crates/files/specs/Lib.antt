@@ -1,4 +1,3 @@
 pub mod Reads
 pub mod Paths
 pub mod Space
-pub mod Packets

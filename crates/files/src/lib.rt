@@ -1,5 +1,4 @@
-// The files that the programs read: the ten tables of a directory, and an archive of packets.
-pub mod archive;
+// The files that the programs read: any file as far as a buffer holds it, and the ten tables of a directory.
 pub mod arguments;
 pub mod directory;
 pub mod errors;

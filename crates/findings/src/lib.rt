@@ -1,8 +1,9 @@
 // Which rows are well-formed, the rows that namings lead to, and reason 10.
 use arrays::byte_at;
 use arrays::half_at;
-use arrays::put_byte;
 use arrays::put_half;
+use chains::rows::NO_ROW;
+use chains::rows::mark_zeros;
 ghost use mathlib.Core.Path.{_≡_};
 ghost use lib.Dec.{eqb};
 ghost use lib.ListN.{getD};
@@ -12,27 +13,14 @@ ghost use Rattle.laws.specs.Values.{tabulate};
 ghost use Rattle.passes.specs.Marked.{under};
 ghost use Rattle.findings.specs.Found.{rowOf, countOf};
 
-pub const NO_ROW: u16 = 65535;
-
 // Reason 10, to which the column that counts is added.
 const DIFFERS: u16 = 10 * 256;
-
-fn as_flag(test: bool) -> u8
-    ensures { λ r. ⌜ r ≡ flag test ⌝ }
-{
-    if test { 1 } else { 0 }
-}
 
 // Marks the rows without reasons 1 to 8.
 pub fn mark_formed(own: &[u16], formed: &mut [u8], n: usize)
     ensures { λ _. ⌜ now (formed .exit) ≡ sets (now (formed .entry)) 0 (tabulate (λ i. flag (eqb (getD (now (own .entry)) i 0) 0)) 0 n) ⌝ }
 {
-    let mut i: usize = 0;
-    while i < n {
-        let verdict = half_at(own, i);
-        put_byte(formed, i, as_flag(verdict == 0));
-        i += 1;
-    }
+    mark_zeros(own, formed, n);
 }
 
 // A row instead of one more than it.

@@ -8,7 +8,7 @@ use native.Mathlib.Nat.{zero-add}
 use lib.Dec.{eqb, ltb}
 use lib.ListN.{length, take, drop}
 use lib.Seq.{sets, sets-eq, length-sets, take-at}
-use borrow.Author.Tests.{lt-ltb, le-ltb, eqb-true}
+use borrow.Author.Tests.{lt-ltb, le-ltb}
 use Rattle.verdicts.specs.Entries.{allRows}
 use Rattle.verdicts.specs.Verdicts.{verdicts}
 use Rattle.verdicts.specs.Answer.{Imported, refused, taken, zeros, tooLong, tooManyRows, importOf}
@@ -50,7 +50,8 @@ module _ (texts : List (List ℕ)) (room : ℕ) where
   unfolding importOf sizesOf
   answer-long {table} e = go (eqb (tooLong texts) 0) (eqb (tooManyRows texts) 0) _ _ _ e
     where
-      go : (a b : Bool) (p q : ℕ) (x : Imported) → cond a (cond b fit (refusedBy 2 p)) (refusedBy 1 q) ≡ refusedBy 1 table → cond a (cond b x (refused 2 p)) (refused 1 q) ≡ refused 1 table
+      go : (a b : Bool) (p q : ℕ) (x : Imported) → cond a (cond b fit (refusedBy 2 p)) (refusedBy 1 q) ≡ refusedBy 1 table
+          → cond a (cond b x (refused 2 p)) (refused 1 q) ≡ refused 1 table
       go true true p q x e = cc
       go true false p q x e = cc
       go false b p q x e = cc
@@ -59,20 +60,11 @@ module _ (texts : List (List ℕ)) (room : ℕ) where
   unfolding importOf sizesOf
   answer-many {table} e = go (eqb (tooLong texts) 0) (eqb (tooManyRows texts) 0) _ _ _ e
     where
-      go : (a b : Bool) (p q : ℕ) (x : Imported) → cond a (cond b fit (refusedBy 2 p)) (refusedBy 1 q) ≡ refusedBy 2 table → cond a (cond b x (refused 2 p)) (refused 1 q) ≡ refused 2 table
+      go : (a b : Bool) (p q : ℕ) (x : Imported) → cond a (cond b fit (refusedBy 2 p)) (refusedBy 1 q) ≡ refusedBy 2 table
+          → cond a (cond b x (refused 2 p)) (refused 1 q) ≡ refused 2 table
       go true true p q x e = cc
       go true false p q x e = cc
       go false b p q x e = cc
-
-  -- neither
-  pub sizes-taken : sizesOf texts ≡ fit → (tooLong texts ≡ 0) × (tooManyRows texts ≡ 0)
-  unfolding sizesOf
-  sizes-taken e = go (eqb (tooLong texts) 0) (eqb (tooManyRows texts) 0) refl refl e
-    where
-      go : (a b : Bool) → eqb (tooLong texts) 0 ≡ a → eqb (tooManyRows texts) 0 ≡ b → cond a (cond b fit (refusedBy 2 (tooManyRows texts))) (refusedBy 1 (tooLong texts)) ≡ fit → (tooLong texts ≡ 0) × (tooManyRows texts ≡ 0)
-      go true true p q e = (eqb-true _ _ p, eqb-true _ _ q)
-      go true false p q e = (cc, cc)
-      go false b p q e = (cc, cc)
 
   -- refusal 3, and none
   module _ (short : tooLong texts ≡ 0) (few : tooManyRows texts ≡ 0) where

@@ -1,11 +1,3 @@
 pub mod AnswerLaws
-pub mod Held
 pub mod ImportLaws
-pub mod JudgedLaws
-pub mod KeptLaws
-pub mod LineLaws
-pub mod NamedLaws
-pub mod PassLaws
-pub mod ResolvedLaws
-pub mod ColumnLaws
 pub mod ZeroLaws

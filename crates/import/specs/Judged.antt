@@ -4,12 +4,12 @@ use mathlib.Core.Path.{_≡_}
 use mathlib.Core.Bool.{cond}
 use mathlib.Core.List.{List}
 use lib.Dec.{ltb}
-use lib.ListN.{length, take, replicate}
+use lib.ListN.{length, take}
 use lib.Seq.{sets}
 use Rattle.verdicts.specs.Answer as answer
 use Rattle.verdicts.specs.Entries.{allRows}
 use Rattle.verdicts.specs.Verdicts.{verdicts}
-use Rattle.import.specs.Passes.{Judges}
+use Rattle.judged.specs.Passes.{JudgedInto}
 use Rattle.import.specs.declared.Imported.{Imported}
 use Rattle.import.specs.declared.Imported.the-variants.{Done, TooLong, TooManyRows, TooFewCells}
 
@@ -23,11 +23,6 @@ said (Done rows good) = answer.taken rows good
 said (TooLong table) = answer.refused 1 table
 said (TooManyRows table) = answer.refused 2 table
 said TooFewCells = answer.refused 3 0
-
--- the passes were gone through, from no holders
-pub record JudgedInto (halves bytes before after : List ℕ) (n : ℕ) : Type 0 where
-  pub holders : List ℕ
-  pub judges : Judges halves bytes (replicate 28672 0) holders before after n
 
 -- of rows that are kept
 pub record DoneBy (halves bytes before after : List ℕ) (n rows good : ℕ) : Type 0 where

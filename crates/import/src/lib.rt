@@ -1,7 +1,6 @@
 // The import: verdicts of all rows of the tables.
 use crate::good::good_rows;
-use crate::judged::judge_kept;
-use crate::parts::IDS;
+use judged::judge_kept;
 use kept::BYTES;
 use kept::HALVES;
 use kept::Keeping;
@@ -11,14 +10,11 @@ use kept::keep;
 use tables::TABLES;
 ghost use mathlib.Core.Path.{_≡_};
 ghost use mathlib.Core.List.{map};
-ghost use Prim.Native.Nat.{_*_, _≤_};
 ghost use lib.ListN.{length};
 ghost use Rattle.verdicts.specs.Answer.{importOf, cellsAfter};
-ghost use Rattle.import.specs.Judged.{said, JudgedInto, AnswersBy};
+ghost use Rattle.import.specs.Judged.{said, AnswersBy};
 
 mod good;
-mod judged;
-mod parts;
 
 // The counts of rows and of good rows; or refused: the first table that is too large, from 1, or too few cells.
 pub enum Imported {
@@ -28,24 +24,14 @@ pub enum Imported {
     TooFewCells,
 }
 
-// The verdicts of n rows that are kept, put to the cells.
-fn judge_into(halves: &[u16], bytes: &[u8], cells: &mut [u16], n: usize)
-    requires { ⌜ (8 * 14336 ≤ length (now halves)) × (5 * 14336 ≤ length (now bytes)) ⌝ }
-    ensures { λ _. ⌜ JudgedInto (now (halves .entry)) (now (bytes .entry)) (now (cells .entry)) (now (cells .exit)) n ⌝ }
-{
-    let mut holders = [0u16; IDS];
-    judge_kept(halves, bytes, &mut holders, cells, n);
-}
-
 // The answer of an import whose n rows are kept.
 fn import_kept(halves: &[u16], bytes: &[u8], cells: &mut [u16], n: usize) -> Imported
-    requires { ⌜ (8 * 14336 ≤ length (now halves)) × (5 * 14336 ≤ length (now bytes)) ⌝ }
     ensures { λ r. ⌜ AnswersBy (now (halves .entry)) (now (bytes .entry)) (now (cells .entry)) (now (cells .exit)) n r ⌝ }
 {
     if cells.len() < n {
         return Imported::TooFewCells;
     }
-    judge_into(halves, bytes, cells, n);
+    judge_kept(halves, bytes, cells, n);
     let good = good_rows(&cells[..n]);
     Imported::Done(n, good)
 }

@@ -18,11 +18,13 @@ use Rattle.verdicts.specs.Verdicts.{sound, ofKind, asked}
 use Rattle.verdicts.specs.Good.{Good}
 use Rattle.verdicts.proofs.SoundLaws.{alone}
 use Rattle.verdicts.proofs.GoodLaw.{good-law}
-use Rattle.keys.specs.Manners.{secondColumn, secondCondition, manners, mannerAt, weight, kindWeight, metBy, isSecond}
-use Rattle.keys.proofs.MannerLaws.{Asks, of-itself, of-second, asks}
-use Rattle.keys.proofs.MarkLaws.{second-apart, second-told}
+use Rattle.manners.specs.Manners.{secondColumn, secondCondition, secondWeight, manners, mannerAt, weight, kindWeight, metBy, isSecond}
+use Rattle.manners.proofs.MannerLaws.{Asks, of-itself, of-second, asks}
+use Rattle.manners.proofs.MarkLaws.{second-apart, second-told}
 use Rattle.chains.specs.Chains.{noRow}
-use Rattle.judging.specs.Judged.{secondAt, kindsOf, askedAt, kindRows}
+use Rattle.kinds.specs.Kinds.{secondAt, kindsOf}
+use Rattle.names.specs.Names.{askedAt}
+use Rattle.judging.specs.Judged.{kindRows}
 use Rattle.judging.proofs.PassLaws.{filled-at}
 use Rattle.judging.proofs.Resolved.{noEntry, rowAt, Answers, Named, absent, present, namesIn, Names, Arrays, code1, row1, code2, row2}
 use Rattle.judging.proofs.Resolved.{Resolved, isGood, good-sound, sole}
@@ -159,9 +161,9 @@ module _ (rows : List Entry) (w : Arrays) (layer : ℕ → ℕ) (v : Resolved ro
     unfolding ofKind kindsOf
     itself-is c = v .marked j p c ∙ sym (ap (λ (m : ℕ). metBy m (weight c)) kinds-at ∙ second-apart _ _ c)
 
-    through-is : ofKind rows (through secondColumn secondCondition) here ≡ metBy (getD (kindsIn rows w) j 0) 16
+    through-is : ofKind rows (through secondColumn secondCondition) here ≡ metBy (getD (kindsIn rows w) j 0) secondWeight
     unfolding kindsOf
-    through-is = same-test _ _ second-to second-from ∙ sym (ap (λ (m : ℕ). metBy m 16) kinds-at ∙ second-told _ _)
+    through-is = same-test _ _ second-to second-from ∙ sym (ap (λ (m : ℕ). metBy m secondWeight) kinds-at ∙ second-told _ _)
 
     by-kind : (k : Kind) → Asks k → ofKind rows k here ≡ metBy (getD (kindsIn rows w) j 0) (kindWeight k)
     unfolding weight

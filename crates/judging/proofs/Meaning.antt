@@ -12,9 +12,10 @@ use Rattle.laws.proofs.Lists.{map-at}
 use Rattle.laws.proofs.Values.{tabulate-at, tabulate-length}
 use Rattle.verdicts.specs.Entries.{Entry}
 use Rattle.verdicts.specs.Verdicts.{verdict}
-use Rattle.keys.specs.Manners.{mannerAt}
+use Rattle.manners.specs.Manners.{mannerAt}
 use Rattle.chains.specs.Chains.{noRow}
-use Rattle.judging.specs.Judged.{nextOf, firmOf, finalBy, cleanBy, firmBy, chainedBy, nextRows, baseRows, goodRows, cellsBy, judgedCells}
+use Rattle.names.specs.Names.{firmOf, finalAt}
+use Rattle.judging.specs.Judged.{filled, nextOf, cleanRows, firmRows, chainedAt, goodAt, cellAt, nextRows, baseRows, cellsBy, cellRows}
 use Rattle.judging.proofs.Resolved.{noEntry, rowAt, Arrays, code1, row1, code2, row2, Resolved}
 use Rattle.judging.proofs.PassLaws.{filled-at}
 use Rattle.judging.proofs.KindMeaning.{kindsIn}
@@ -29,22 +30,22 @@ module _ (rows : List Entry) (w : Arrays) (layer : ℕ → ℕ) (v : Resolved ro
   n = length rows
 
   abbrev nexts : List ℕ
-  nexts = nextRows (w .own) (w .sound) (w .counts) (w .codes1) (w .found1) (w .codes2) (w .found2) kinds n
+  nexts = nextRows (w .own) (w .sound) (w .counts) (w .codes1) (w .found1) (w .codes2) (w .found2) n
 
   abbrev bases : List ℕ
-  bases = baseRows (w .own) (w .sound) (w .counts) (w .codes1) (w .found1) (w .codes2) (w .found2) kinds n
+  bases = baseRows (w .own) (w .sound) (w .counts) (w .codes1) (w .found1) (w .codes2) (w .found2) n
 
   abbrev cleans : List ℕ
-  cleans = cleanBy kinds bases (w .codes1) (w .found1) (w .codes2) (w .found2) nexts n
+  cleans = cleanRows kinds bases (w .codes1) (w .found1) (w .codes2) (w .found2) nexts n
 
   abbrev firms : List ℕ
-  firms = firmBy kinds bases (w .codes1) (w .found1) (w .codes2) (w .found2) nexts n
+  firms = firmRows kinds bases (w .codes1) (w .found1) (w .codes2) (w .found2) nexts n
 
   abbrev chaineds : List ℕ
-  chaineds = chainedBy kinds bases (w .codes1) (w .found1) (w .codes2) (w .found2) nexts n
+  chaineds = filled 0 (chainedAt kinds bases (w .codes1) (w .found1) (w .codes2) (w .found2) nexts n) n
 
   abbrev goods : List ℕ
-  goods = goodRows (w .own) (w .sound) (w .counts) (w .codes1) (w .found1) (w .codes2) (w .found2) kinds n
+  goods = filled 0 (goodAt kinds bases (w .codes1) (w .found1) (w .codes2) (w .found2) nexts n) n
 
   nexts-are : (i : ℕ) → i < n → getD nexts i noRow ≡ nextOf (w .sound) (code1 w i) (row1 w i)
   nexts-are i p = filled-at noRow _ n i noRow (v .few) p
@@ -66,7 +67,7 @@ module _ (rows : List Entry) (w : Arrays) (layer : ℕ → ℕ) (v : Resolved ro
 
   -- a row's verdict by marks that say of what it names which rows are good: those of lower layers, and of its own along a chain
   by-marks : (most : ℕ) (g : List ℕ) → Says rows w layer v most g → 1 ≤ most → (i : ℕ) → i < n → layer i ≤ most + 1
-      → finalBy kinds bases (w .codes1) (w .found1) (w .codes2) (w .found2) g i ≡ verdict rows (rowAt rows i)
+      → finalAt kinds bases (w .codes1) (w .found1) (w .codes2) (w .found2) g i ≡ verdict rows (rowAt rows i)
   by-marks most g says some i p l =
       final-is rows w layer v most g says i p (λ c f. low (mannerAt (code1 w i) .chained) refl c f) (λ c f. omega (arith, v .layers .below2 i p c f)) (getD bases i 0) (bases-are i p)
     where
@@ -79,14 +80,14 @@ module _ (rows : List Entry) (w : Arrays) (layer : ℕ → ℕ) (v : Resolved ro
       filled-at 0 _ n j 0 (v .few) q
       ∙ ap (λ (x : ℕ). flag (eqb x 0)) (filled-at 0 _ n j 0 (v .few) q ∙ by-marks 1 chaineds chained (omega arith) j q l)
 
-  final : (i : ℕ) → i < n → finalBy kinds bases (w .codes1) (w .found1) (w .codes2) (w .found2) goods i ≡ verdict rows (rowAt rows i)
+  final : (i : ℕ) → i < n → finalAt kinds bases (w .codes1) (w .found1) (w .codes2) (w .found2) goods i ≡ verdict rows (rowAt rows i)
   final i p = by-marks 2 goods good (omega arith) i p (v .layers .most i p)
 
   -- the cells are the verdicts of the rows
-  pub judged-are : judgedCells (w .own) (w .sound) (w .counts) (w .codes1) (w .found1) (w .codes2) (w .found2) (w .marks) n ≡ map (verdict rows) rows
-  unfolding judgedCells cellsBy kindsIn
+  pub judged-are : cellRows (w .own) (w .sound) (w .counts) (w .codes1) (w .found1) (w .codes2) (w .found2) (w .marks) n ≡ map (verdict rows) rows
+  unfolding cellRows cellsBy kindsIn
   judged-are =
-      let f : ℕ → ℕ = finalBy kinds bases (w .codes1) (w .found1) (w .codes2) (w .found2) goods in
+      let f : ℕ → ℕ = finalAt kinds bases (w .codes1) (w .found1) (w .codes2) (w .found2) goods in
       let l = tabulate-length f 0 n in
       ext-getD 0 _ _ (l ∙ sym (length-map rows (verdict rows)))
       (λ i h. let p : i < n = rw l at h in

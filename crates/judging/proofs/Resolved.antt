@@ -15,7 +15,7 @@ use Rattle.verdicts.specs.Steps.{twin, holds}
 use Rattle.verdicts.specs.Verdicts.{sound, countCell, verdict}
 use Rattle.verdicts.proofs.SoundLaws.{alone}
 use Rattle.verdicts.proofs.GoodLaw.{good-law}
-use Rattle.keys.specs.Manners.{mannerAt, weight, metBy}
+use Rattle.manners.specs.Manners.{mannerAt, weight, metBy}
 use Rattle.chains.specs.Chains.{noRow}
 
 abbrev pub noEntry : Entry

@@ -1,16 +1,13 @@
 // Reasons 1 to 10 and 12.
-use crate::reads::NO_ROW;
-use crate::reads::byte_at;
-use crate::reads::cell_at;
-use crate::reads::put_cell;
-use crate::reads::put_flag;
-use crate::reads::row_at;
-use keys::manners::naming_chained;
+use arrays::byte_at;
+use arrays::half_at;
+use arrays::put_half;
+use chains::rows::NO_ROW;
+use chains::rows::row_at;
+use manners::naming_chained;
 ghost use mathlib.Core.Path.{_≡_};
-ghost use lib.Dec.{eqb};
 ghost use lib.ListN.{getD};
 ghost use lib.Seq.{sets};
-ghost use Rattle.laws.specs.Prefix.{flag};
 ghost use Rattle.laws.specs.Values.{tabulate};
 ghost use Rattle.chains.specs.Chains.{noRow};
 ghost use Rattle.judging.specs.Judged.{nextOf, baseOf};
@@ -40,7 +37,7 @@ pub(crate) fn next_rows(sound: &[u8], codes: &[u8], found: &[u16], next: &mut [u
     let mut i: usize = 0;
     while i < n {
         let row = next_of(sound, byte_at(codes, i), row_at(found, i));
-        put_cell(next, i, row);
+        put_half(next, i, row);
         i += 1;
     }
 }
@@ -77,24 +74,12 @@ pub(crate) fn base_rows(
     let mut i: usize = 0;
     while i < n {
         let cell = base_of(
-            cell_at(own, i),
+            half_at(own, i),
             byte_at(sound, i),
-            cell_at(counts, i),
+            half_at(counts, i),
             byte_at(circles, i),
         );
-        put_cell(base, i, cell);
-        i += 1;
-    }
-}
-
-// Marks the rows whose verdict is 0.
-pub(crate) fn zero_rows(cells: &[u16], zeros: &mut [u8], n: usize)
-    ensures { λ _. ⌜ now (zeros .exit) ≡ sets (now (zeros .entry)) 0 (tabulate (λ i. flag (eqb (getD (now (cells .entry)) i 0) 0)) 0 n) ⌝ }
-{
-    let mut i: usize = 0;
-    while i < n {
-        let cell = cell_at(cells, i);
-        put_flag(zeros, i, cell == 0);
+        put_half(base, i, cell);
         i += 1;
     }
 }

@@ -1,30 +1,26 @@
 // The verdicts of rows from what their keys and namings were found to be, over arrays by row.
 use crate::base::base_rows;
 use crate::base::next_rows;
-use crate::base::zero_rows;
-use crate::kinds::kind_rows;
-use crate::names::final_rows;
-use crate::names::firm_rows;
 use chains::mark_circles;
 use chains::mark_firm;
+use chains::rows::NO_ROW;
+use chains::rows::mark_zeros;
+use kinds::kind_rows;
+use names::final_rows;
+use names::firm_rows;
 ghost use mathlib.Core.Path.{_≡_};
 ghost use lib.ListN.{getD};
 ghost use lib.Seq.{sets};
 ghost use Rattle.laws.specs.Values.{tabulate};
-ghost use Rattle.judging.specs.Judged.{circlesOf, baseOf, goodBy, finalBy, cellsBy, judgedCells};
+ghost use Rattle.judging.specs.Judged.{circlesOf, baseOf, chainedAt, goodAt, cellAt, cellsBy, cellRows};
 
 mod base;
-mod kinds;
-mod names;
-mod reads;
 
 // The most rows that are judged.
 const ROWS: usize = 14336;
 
 // A chain that ends has fewer rows than this.
 const LONGEST: usize = 14337;
-
-const NO_ROW: u16 = 65535;
 
 // Reasons 1 to 10 and 12 of the first n rows, by the next row of each.
 fn judge_bases(own: &[u16], sound: &[u8], counts: &[u16], next: &[u16], base: &mut [u16], n: usize)
@@ -35,8 +31,8 @@ fn judge_bases(own: &[u16], sound: &[u8], counts: &[u16], next: &[u16], base: &m
     base_rows(own, sound, counts, &circles, base, n);
 }
 
-// Which of the first n rows are good, of those that no other names but rows which aren't named themselves.
-fn judge_good(
+// Which of the first n rows are good along VALID chains, by what rows without reasons say of the other names.
+fn chained_rows(
     kinds: &[u8],
     base: &[u16],
     codes1: &[u8],
@@ -44,16 +40,14 @@ fn judge_good(
     codes2: &[u8],
     found2: &[u16],
     next: &[u16],
-    good: &mut [u8],
+    chained: &mut [u8],
     n: usize,
 )
-    ensures { λ _. ⌜ now (good .exit) ≡ sets (now (good .entry)) 0 (goodBy (now (kinds .entry)) (now (base .entry)) (now (codes1 .entry)) (now (found1 .entry)) (now (codes2 .entry)) (now (found2 .entry)) (now (next .entry)) n) ⌝ }
+    ensures { λ _. ⌜ now (chained .exit) ≡ sets (now (chained .entry)) 0 (tabulate (chainedAt (now (kinds .entry)) (now (base .entry)) (now (codes1 .entry)) (now (found1 .entry)) (now (codes2 .entry)) (now (found2 .entry)) (now (next .entry)) n) 0 n) ⌝ }
 {
     let mut clean = [0u8; ROWS];
     let mut firm = [0u8; ROWS];
-    let mut chained = [0u8; ROWS];
-    let mut cells = [0u16; ROWS];
-    zero_rows(base, &mut clean, n);
+    mark_zeros(base, &mut clean, n);
     firm_rows(
         kinds,
         &clean,
@@ -66,7 +60,36 @@ fn judge_good(
         &mut firm,
         n,
     );
-    mark_firm(next, &firm, &mut chained, LONGEST, n);
+    mark_firm(next, &firm, chained, LONGEST, n);
+}
+
+// Which of the first n rows are good, where all that they name is good along chains or names nothing.
+fn good_rows(
+    kinds: &[u8],
+    base: &[u16],
+    codes1: &[u8],
+    found1: &[u16],
+    codes2: &[u8],
+    found2: &[u16],
+    next: &[u16],
+    good: &mut [u8],
+    n: usize,
+)
+    ensures { λ _. ⌜ now (good .exit) ≡ sets (now (good .entry)) 0 (tabulate (goodAt (now (kinds .entry)) (now (base .entry)) (now (codes1 .entry)) (now (found1 .entry)) (now (codes2 .entry)) (now (found2 .entry)) (now (next .entry)) n) 0 n) ⌝ }
+{
+    let mut chained = [0u8; ROWS];
+    let mut cells = [0u16; ROWS];
+    chained_rows(
+        kinds,
+        base,
+        codes1,
+        found1,
+        codes2,
+        found2,
+        next,
+        &mut chained,
+        n,
+    );
     final_rows(
         kinds,
         &chained,
@@ -78,7 +101,36 @@ fn judge_good(
         &mut cells,
         n,
     );
-    zero_rows(&cells, good, n);
+    mark_zeros(&cells, good, n);
+}
+
+// The verdicts of the first n rows by the reasons before their names, and by their names.
+fn judge_names(
+    kinds: &[u8],
+    base: &[u16],
+    codes1: &[u8],
+    found1: &[u16],
+    codes2: &[u8],
+    found2: &[u16],
+    next: &[u16],
+    cells: &mut [u16],
+    n: usize,
+)
+    ensures { λ _. ⌜ now (cells .exit) ≡ sets (now (cells .entry)) 0 (tabulate (cellAt (now (kinds .entry)) (now (base .entry)) (now (codes1 .entry)) (now (found1 .entry)) (now (codes2 .entry)) (now (found2 .entry)) (now (next .entry)) n) 0 n) ⌝ }
+{
+    let mut good = [0u8; ROWS];
+    good_rows(
+        kinds,
+        base,
+        codes1,
+        found1,
+        codes2,
+        found2,
+        next,
+        &mut good,
+        n,
+    );
+    final_rows(kinds, &good, base, codes1, found1, codes2, found2, cells, n);
 }
 
 // The verdicts of the first n rows by the kinds that rows are of, put to the cells.
@@ -94,14 +146,13 @@ fn judge_kinds(
     cells: &mut [u16],
     n: usize,
 )
-    ensures { λ _. ⌜ now (cells .exit) ≡ sets (now (cells .entry)) 0 (cellsBy (now (own .entry)) (now (sound .entry)) (now (counts .entry)) (now (codes1 .entry)) (now (found1 .entry)) (now (codes2 .entry)) (now (found2 .entry)) (now (kinds .entry)) n) ⌝ }
+    ensures { λ _. ⌜ now (cells .exit) ≡ sets (now (cells .entry)) 0 (cellsBy (now (own .entry)) (now (sound .entry)) (now (counts .entry)) (now (codes1 .entry)) (now (found1 .entry)) (now (codes2 .entry)) (now (found2 .entry)) n (now (kinds .entry))) ⌝ }
 {
     let mut next = [NO_ROW; ROWS];
     let mut base = [0u16; ROWS];
-    let mut good = [0u8; ROWS];
     next_rows(sound, codes1, found1, &mut next, n);
     judge_bases(own, sound, counts, &next, &mut base, n);
-    judge_good(
+    judge_names(
         kinds,
         &base,
         codes1,
@@ -109,17 +160,6 @@ fn judge_kinds(
         codes2,
         found2,
         &next,
-        &mut good,
-        n,
-    );
-    final_rows(
-        kinds,
-        &good,
-        &base,
-        codes1,
-        found1,
-        codes2,
-        found2,
         cells,
         n,
     );
@@ -139,7 +179,7 @@ pub fn judge_rows(
     cells: &mut [u16],
     n: usize,
 )
-    ensures { λ _. ⌜ now (cells .exit) ≡ sets (now (cells .entry)) 0 (judgedCells (now (own .entry)) (now (sound .entry)) (now (counts .entry)) (now (codes1 .entry)) (now (found1 .entry)) (now (codes2 .entry)) (now (found2 .entry)) (now (marks .entry)) n) ⌝ }
+    ensures { λ _. ⌜ now (cells .exit) ≡ sets (now (cells .entry)) 0 (cellRows (now (own .entry)) (now (sound .entry)) (now (counts .entry)) (now (codes1 .entry)) (now (found1 .entry)) (now (codes2 .entry)) (now (found2 .entry)) (now (marks .entry)) n) ⌝ }
 {
     let mut kinds = [0u8; ROWS];
     kind_rows(marks, codes1, found1, codes2, found2, &mut kinds, n);

@@ -22,7 +22,7 @@ use Rattle.symbols.proofs.InternLaws.{Grows, interns, id-now, extends, count-mo
 use Rattle.keys.specs.declared.records.Slot.{Slot}
 use Rattle.keys.specs.declared.records.Named.{Named}
 use Rattle.keys.specs.declared.records.RowKeys.{RowKeys}
-use Rattle.keys.specs.Manners.{bit}
+use Rattle.manners.specs.Manners.{bit}
 use Rattle.keys.specs.Says.{isNamed}
 use Rattle.kept.specs.declared.interning.FirstIds.{FirstIds}
 use Rattle.kept.specs.Stored.{slotId, namedId}

@@ -39,14 +39,18 @@ module _ (s : Arrays) where
       pub short-bytes : 114688 ≤ length (s .halves) → length (s .bytes) < 71680 → hasPlaces s ≡ false
       short-bytes g h = rw (le-leb _ _ w, le-leb _ _ l, le-leb _ _ g, lt-leb _ _ h)
 
+      pub all-long : 114688 ≤ length (s .halves) → 71680 ≤ length (s .bytes) → hasPlaces s ≡ true
+      all-long g h = rw (le-leb _ _ w, le-leb _ _ l, le-leb _ _ g, le-leb _ _ h)
+
 -- the rows are kept, after the links were cleared
 pub keeps-rows : (texts : List (List ℕ)) (words links halves bytes cleared words₁ links₁ halves₁ bytes₁ : List ℕ) (rows symbols : ℕ) → sizesOf texts ≡ fit
-    → cleared ≡ replicate (length links) 0 → rows ≡ length (allRows texts) → Stored (allRows texts) words₁ links₁ symbols halves₁ bytes₁
+    → hasPlaces (arrays words links 0 halves bytes) ≡ true → cleared ≡ replicate (length links) 0 → rows ≡ length (allRows texts) → Stored (allRows texts) words₁ links₁ symbols halves₁ bytes₁
     → Situations texts halves₁ bytes₁ rows → SameSizes (arrays words cleared 0 halves bytes) (arrays words₁ links₁ symbols halves₁ bytes₁) → Bytes texts
     → KeepsRows texts (arrays words links 0 halves bytes) (arrays words₁ links₁ 0 halves₁ bytes₁) rows symbols
-keeps-rows texts words links halves bytes cleared words₁ links₁ halves₁ bytes₁ rows symbols f e c s t z b =
+keeps-rows texts words links halves bytes cleared words₁ links₁ halves₁ bytes₁ rows symbols f p e c s t z b =
     record {
       fits = f;
+      room = p;
       count = c;
       stored = s;
       situated = t;

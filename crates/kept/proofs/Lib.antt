@@ -6,3 +6,4 @@ pub mod FirstPassLaws
 pub mod AllKeptLaws
 pub mod SituationLaws
 pub mod KeepingLaws
+pub mod AnswerLaws

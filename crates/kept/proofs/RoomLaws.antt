@@ -21,8 +21,8 @@ use Rattle.verdicts.specs.Facts.{pidFacts, picFacts, plfFacts, pcfFacts, cafFac
 use Rattle.verdicts.specs.Entries.{Reading, fine, bad, readingOf, own, said}
 use Rattle.keys.specs.declared.records.Named.{Named}
 use Rattle.keys.specs.declared.records.RowKeys.{RowKeys}
-use Rattle.keys.specs.Keyed.{symbolOf}
-use Rattle.keys.specs.Manners.{bit, manners, mannerAt, weight, sameManner, codeFrom, codeOf}
+use Rattle.key_symbols.specs.Keyed.{symbolOf}
+use Rattle.manners.specs.Manners.{bit, manners, mannerAt, weight, sameManner, codeFrom, codeOf}
 use Rattle.keys.specs.Held.{slotOf, namedOf, keysOf, rowKeysOf}
 use Rattle.keys.specs.Says.{isNamed}
 use Rattle.kept.specs.Ids.{names, besides, firstWanted, wanted}

@@ -11,7 +11,7 @@ use Rattle.symbols.specs.Arrays.{symbols, heads}
 use Rattle.symbols.specs.Searches.{Table}
 use Rattle.keys.specs.declared.records.Named.{Named}
 use Rattle.keys.specs.declared.records.RowKeys.{RowKeys}
-use Rattle.keys.specs.Manners.{bit}
+use Rattle.manners.specs.Manners.{bit}
 use Rattle.keys.specs.Says.{isNamed}
 use Rattle.kept.specs.declared.interning.FirstIds.{FirstIds}
 use Rattle.kept.specs.declared.interning.RowIds.{RowIds}

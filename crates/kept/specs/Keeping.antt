@@ -1,7 +1,7 @@
 -- What keeping the rows of tables answers, and what it leaves in the arrays.
 use Prim.Native.Nat.{ℕ, _+_, _*_, _≤_, _<_}
 use mathlib.Core.Path.{_≡_}
-use mathlib.Core.Bool.{Bool, false, _&&_}
+use mathlib.Core.Bool.{Bool, true, false, _&&_}
 use mathlib.Core.List.{List}
 use lib.Dec.{leb}
 use lib.ListN.{length}
@@ -21,6 +21,7 @@ hasPlaces s =
 -- the rows of tables that fit are kept
 pub record KeepsRows (texts : List (List ℕ)) (s₀ s₁ : Arrays) (rows symbols : ℕ) : Type 0 where
   pub fits : sizesOf texts ≡ fit
+  pub room : hasPlaces s₀ ≡ true
   pub count : rows ≡ length (allRows texts)
   pub stored : Stored (allRows texts) (s₁ .words) (s₁ .links) symbols (s₁ .halves) (s₁ .bytes)
   pub situated : Situations texts (s₁ .halves) (s₁ .bytes) rows

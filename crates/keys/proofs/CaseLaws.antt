@@ -1,7 +1,7 @@
 -- Slots and namings of rows in which a column may say nothing.
 use mathlib.Core.Path.{_≡_, refl, ap}
 use mathlib.Core.Bool.{Bool, true, false, cond}
-use mathlib.Core.List.{[], _∷_, _++_}
+use mathlib.Core.List.{List, [], _∷_, _++_}
 use Prim.Native.Nat.{ℕ}
 use lib.Dec.{eqb}
 use lib.ListN.{drop}
@@ -11,21 +11,20 @@ use Rattle.schemas.specs.declared.Table.{Table}
 use Rattle.formed.specs.Formed.{formed}
 use Rattle.rows.specs.declared.records.PidRow.{PidRow}
 use Rattle.rows.specs.declared.records.PcfRow.{PcfRow}
-use Rattle.rows.specs.declared.records.OptionalCurve.{OptionalCurve}
 use Rattle.rows.specs.declared.letters.Valid.{Valid}
 use Rattle.rows.specs.declared.letters.Valid.the-variants.{Yes, No}
-use Rattle.rows.specs.declared.letters.Category.{Category}
-use Rattle.rows.specs.declared.letters.Category.the-variants.{Numeric, Status, Text}
 use Rattle.rows.specs.declared.letters.LimitValue.{LimitValue}
 use Rattle.rows.specs.declared.letters.LimitValue.the-variants as LV
 use Rattle.symbols.specs.declared.Symbol.{Symbol}
-use Rattle.verdicts.specs.Key.{Key, packet, structure}
-use Rattle.verdicts.specs.Facts.{Kind, Facts, Naming, factsOf, pidKeys, curtxKey, pcfFacts, ofEngineering}
+use Rattle.verdicts.specs.Key.{Key, packet, structure, parameter}
+use Rattle.verdicts.specs.Facts.{anyRow, whole, Kind, itself, Facts, Naming, plainly, factsOf, pidKeys, curtxKey, pcfFacts, ofEngineering}
 use Rattle.verdicts.specs.Entries.{readingOf, own, said, fine, bad}
-use Rattle.keys.specs.Keyed.{nameSymbol, curveSymbol, symbolOf}
-use Rattle.keys.specs.Manners.{manners, weight, sameManner, codeFrom, codeOf, marksOf}
-use Rattle.keys.specs.Held.{noSlot, slotFor, noName, noCount, slotOf, namedOf, countOf, keysOf}
-use Rattle.keys.specs.Held.{columnKeys, rowKeysOf, noKeys, isYes, curtxSpace, isEngineering}
+use Rattle.key_symbols.specs.Keyed.{symbolOf}
+use Rattle.manners.specs.Manners.{mannerOf, manners, weight, sameManner, codeFrom, codeOf, marksOf}
+use Rattle.keys.specs.declared.records.RowKeys.{RowKeys}
+use Rattle.keys.specs.Held.{noSlot, slotFor, noName, slotOf, namedOf, countOf, keysOf}
+use Rattle.keys.specs.Held.{columnKeys, rowKeysOf, noKeys, isYes, isEngineering}
+use Rattle.keys.specs.Parts.{holder, withNames, naming, counter, member}
 
 -- the keys of a pid row
 module _ (r : PidRow) {yes : Bool} {s : Symbol} where
@@ -45,19 +44,17 @@ abbrev pub unchained : ℕ → Key → Kind → Naming
 unchained column key kind = record { column = column; key = key; kind = kind; chained = false }
 
 -- two namings that may not be given
-module _ (m n : Naming) where
-  pub name-one : (v w : Bool) → namedOf (cond v (m ∷ []) [] ++ cond w (n ∷ []) []) ≡ cond v (namedOf (m ∷ [])) (cond w (namedOf (n ∷ [])) noName)
-  unfolding namedOf
-  name-one true w = refl
-  name-one false true = refl
-  name-one false false = refl
+module _ (row : RowKeys) (m n : Naming) (coded : eqb (codeOf (mannerOf m)) 0 ≡ false) where
+  abbrev those : Bool → Bool → List Naming
+  those v w = cond v (m ∷ []) [] ++ cond w (n ∷ []) []
 
-  pub name-two : (v w : Bool) → namedOf (drop 1 (cond v (m ∷ []) [] ++ cond w (n ∷ []) [])) ≡ cond v (cond w (namedOf (n ∷ [])) noName) noName
+  named-both : (v w : Bool) → withNames row (namedOf (those v w)) (namedOf (drop 1 (those v w)))
+      ≡ naming row (cond v (namedOf (m ∷ [])) noName) (cond w (namedOf (n ∷ [])) noName)
   unfolding namedOf
-  name-two true true = refl
-  name-two true false = refl
-  name-two false true = refl
-  name-two false false = refl
+  named-both true true = rw coded
+  named-both true false = rw coded
+  named-both false true = refl
+  named-both false false = refl
 
 -- one
 pub name-given : (n : Naming) (w : Bool) → namedOf (cond w (n ∷ []) []) ≡ cond w (namedOf (n ∷ [])) noName
@@ -70,29 +67,31 @@ unfolding namedOf
 name-under-c n LV.Raw = refl
 name-under-c n LV.Engineering = refl
 
-pub curtx-symbol : (g : Category) (c : OptionalCurve) → symbolOf (curtxKey g c) ≡ curveSymbol (curtxSpace g) (c .name) 0
-unfolding symbolOf curtxSpace
-curtx-symbol Numeric c = refl
-curtx-symbol Status c = refl
-curtx-symbol Text c = refl
-
 -- the keys of a pcf row
-pub pcf-said : (n : ℕ) (r : PcfRow) →
-    let curtx = cond (r .curtx .given) (record { code = 4; key = curveSymbol (curtxSpace (r .categ)) (r .curtx .name) 0 }) noName in
-    keysOf n (pcfFacts r)
-    ≡ record {
-      verdict = n;
-      first = slotFor (nameSymbol 4 (r .name) 0);
-      second = noSlot;
-      one = cond (r .valid .given) (record { code = 3; key = nameSymbol 4 (r .valid .name) 0 }) curtx;
-      two = cond (r .valid .given) curtx noName;
-      group = noSlot;
-      count = noCount;
-      marks = marksOf (pcfFacts r .meets);
-    }
-unfolding keysOf pcfFacts slotOf namedOf countOf symbolOf manners weight sameManner codeFrom codeOf
-pcf-said n r =
-    rw (name-one _ _ (r .valid .given) (r .curtx .given), name-two _ _ (r .valid .given) (r .curtx .given), curtx-symbol (r .categ) (r .curtx))
+pub pcf-said : (v : ℕ) (r : PcfRow) → keysOf v (pcfFacts r)
+    ≡ naming (holder v (symbolOf (parameter (r .name))) (marksOf (pcfFacts r .meets)))
+    (cond (r .valid .given) (record { code = 3; key = symbolOf (parameter (r .valid .name)) }) noName)
+    (cond (r .curtx .given) (record { code = 4; key = symbolOf (curtxKey (r .categ) (r .curtx)) }) noName)
+unfolding keysOf pcfFacts slotOf namedOf countOf manners weight sameManner codeFrom codeOf
+pcf-said v r =
+    named-both (holder v (symbolOf (parameter (r .name))) (marksOf (pcfFacts r .meets)))
+    (record { column = 8; key = parameter (r .valid .name); kind = itself whole; chained = true })
+    (unchained 12 (curtxKey (r .categ) (r .curtx)) (itself anyRow))
+    refl (r .valid .given) (r .curtx .given)
+
+-- the keys of a row that counts, as caf and txf have them
+pub counter-said : (v : ℕ) (k : Key) (column number : ℕ)
+    → keysOf v (record { keys = k ∷ []; names = []; counts = record { column = column; number = number; group = k } ∷ []; groups = []; meets = plainly })
+    ≡ counter v (symbolOf k) column number
+unfolding keysOf slotOf namedOf countOf marksOf weight
+counter-said v k column number = refl
+
+-- and of one that is counted in the group that its first column names, as cap and txp have them
+pub member-said : (v : ℕ) (k g : Key)
+    → keysOf v (record { keys = k ∷ []; names = unchained 1 g (itself anyRow) ∷ []; counts = []; groups = g ∷ []; meets = plainly })
+    ≡ member v (symbolOf k) (symbolOf g)
+unfolding keysOf slotOf namedOf countOf marksOf weight manners sameManner codeFrom codeOf
+member-said v k g = refl
 
 -- a row with one of reasons 1 to 8 is blanked
 blanked-at : (z : Bool) (v : ℕ) (f : Facts) → eqb v 0 ≡ z

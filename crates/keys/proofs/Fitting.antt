@@ -9,9 +9,10 @@ use Rattle.rows.specs.declared.letters.LimitValue.{LimitValue}
 use Rattle.rows.specs.declared.letters.LimitValue.the-variants as LV
 use Rattle.verdicts.specs.Key.{Key}
 use Rattle.verdicts.specs.Facts.{Naming, Count, Facts, ofEngineering}
-use Rattle.keys.specs.Keyed.{spaceOf, parameters, rank}
-use Rattle.keys.specs.Manners.{mannerOf, mannerAt, codeOf}
-use Rattle.keys.specs.Says.{Bounded}
+use Rattle.key_symbols.specs.Keyed.{spaceOf}
+use Rattle.keys.specs.Ranks.{parameters, rank}
+use Rattle.manners.specs.Manners.{mannerOf, mannerAt, codeOf}
+use Rattle.key_symbols.specs.Bounded.{Bounded}
 
 -- every element of a list
 abbrev pub All : {A : Type 0} → (A → Type 0) → List A → Type 0

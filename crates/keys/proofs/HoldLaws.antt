@@ -14,12 +14,13 @@ use Rattle.verdicts.specs.Facts.{Naming, Count}
 use Rattle.verdicts.specs.Entries.{Entry, facts}
 use Rattle.verdicts.specs.Steps.{holds, belongs}
 use Rattle.verdicts.specs.Verdicts.{follows}
-use Rattle.keys.specs.Manners.{manners, mannerAt}
+use Rattle.manners.specs.Manners.{manners, mannerAt}
 use Rattle.keys.specs.declared.records.Slot.{Slot}
 use Rattle.keys.specs.declared.records.RowKeys.{RowKeys}
-use Rattle.keys.specs.Keyed.{symbolOf}
-use Rattle.keys.specs.Says.{Bounded, has, SymbolNaming, ofNaming, ofNamed, isNamed, SymbolCount, ofCount, countIn, Says}
-use Rattle.keys.proofs.ExactLaws.{symbol-exact}
+use Rattle.key_symbols.specs.Keyed.{symbolOf}
+use Rattle.key_symbols.specs.Bounded.{Bounded}
+use Rattle.keys.specs.Says.{has, SymbolNaming, ofNaming, ofNamed, isNamed, SymbolCount, ofCount, countIn, Says}
+use Rattle.key_symbols.proofs.ExactLaws.{symbol-exact}
 
 -- what is asked of each element of a list is asked of what it is mapped to
 any-through : {A B : Type 0} (f : A → Bool) (g : B → Bool) (to : A → B) (l : List A) → ((a : A) → List·Memᴰ a l → f a ≡ g (to a)) → any f l ≡ any g (map to l)

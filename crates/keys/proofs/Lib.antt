@@ -1,9 +1,4 @@
-pub mod NumberLaws
-pub mod WordLaws
 pub mod BoundLaws
-pub mod ExactLaws
-pub mod MarkLaws
-pub mod MannerLaws
 pub mod CaseLaws
 pub mod Fitting
 pub mod RowLaws

@@ -14,8 +14,10 @@ use Rattle.verdicts.specs.Entries.{Entry, facts}
 use Rattle.verdicts.specs.Steps.{holds}
 use Rattle.keys.specs.declared.records.Slot.{Slot}
 use Rattle.keys.specs.declared.records.RowKeys.{RowKeys}
-use Rattle.keys.specs.Keyed.{symbolOf, spaceOf, rank}
-use Rattle.keys.specs.Says.{Bounded, has, rankIn, Says}
+use Rattle.key_symbols.specs.Keyed.{symbolOf, spaceOf}
+use Rattle.keys.specs.Ranks.{rank}
+use Rattle.key_symbols.specs.Bounded.{Bounded}
+use Rattle.keys.specs.Says.{has, rankIn, Says}
 use Rattle.keys.proofs.HoldLaws.{holds-has}
 
 -- a slot that has a symbol

@@ -24,10 +24,12 @@ use Rattle.verdicts.specs.Key.{packet, parameter, limits, check}
 use Rattle.verdicts.specs.Facts.{anyRow, whole, numeric, itself, through, Facts, pidKeys, curtxKey, factsOf}
 use Rattle.verdicts.specs.Facts.{pidFacts, picFacts, plfFacts, pcfFacts, cafFacts, capFacts, txfFacts, txpFacts, ocfFacts, ocpFacts}
 use Rattle.verdicts.specs.Entries.{readingOf, said, fine, bad}
-use Rattle.keys.specs.Keyed.{nameSymbol, curveSymbol, symbolOf, ranks, rank}
-use Rattle.keys.specs.Manners.{manners, mannerAt, weight, sameManner, codeFrom, codeOf}
-use Rattle.keys.specs.Says.{NameBounded, CurveBounded, Bounded}
-use Rattle.keys.proofs.BoundLaws.{name-bounded, curve-bounded, column-bytes, natural-bounded}
+use Rattle.key_symbols.specs.Keyed.{nameSymbol, curveSymbol, valueSymbol, symbolOf}
+use Rattle.keys.specs.Ranks.{ranks, rank}
+use Rattle.manners.specs.Manners.{secondColumn, secondCondition, manners, mannerAt, weight, sameManner, codeFrom, codeOf}
+use Rattle.key_symbols.specs.Bounded.{NameBounded, CurveBounded, ValueBounded, Bounded}
+use Rattle.key_symbols.proofs.NameLaws.{name-bounded, curve-bounded, value-bounded}
+use Rattle.keys.proofs.BoundLaws.{column-bytes, natural-bounded}
 use Rattle.keys.proofs.CaseLaws.{unchained}
 use Rattle.keys.proofs.Fitting.{KeysFit, Listed, Fits, listed, both-given, second-given, under-c}
 
@@ -50,7 +52,7 @@ pcf-valid r h =
 
 pcf-curtx : (g : Category) (r : PcfRow) → CurveBounded (r .curtx .name)
     → Listed (parameter (r .name) ∷ []) (unchained 12 (curtxKey g (r .curtx)) (itself anyRow))
-unfolding Bounded symbolOf nameSymbol curveSymbol ranks rank manners mannerAt weight sameManner codeFrom codeOf
+unfolding Bounded symbolOf nameSymbol curveSymbol valueSymbol ranks rank manners mannerAt weight sameManner codeFrom codeOf
 pcf-curtx Numeric r h = listed _ _ h (omega arith) refl refl refl
 pcf-curtx Status r h = listed _ _ h (omega arith) refl refl refl
 pcf-curtx Text r h = listed _ _ h (omega arith) refl refl refl
@@ -62,10 +64,13 @@ module _ (line : List ℕ) (h : (i : ℕ) → getD line i 0 < 256) where
   curve-at : (k : ℕ) → CurveBounded (curveNameOf (column line k))
   curve-at k = curve-bounded _ (column-bytes line h k)
 
+  value-at : (k : ℕ) → ValueBounded (curveNameOf (column line k))
+  value-at k = value-bounded _ (column-bytes line h k)
+
   facts-fit : (t : Table) → Fits (factsOf t line)
   unfolding factsOf pidFacts picFacts plfFacts pcfFacts cafFacts capFacts txfFacts txpFacts ocfFacts ocpFacts
       pidRow picRow plfRow pcfRow cafRow capRow txfRow txpRow ocfRow ocpRow optionalName optionalCurve
-      Bounded symbolOf nameSymbol curveSymbol ranks rank manners mannerAt weight sameManner codeFrom codeOf
+      Bounded symbolOf nameSymbol curveSymbol valueSymbol ranks rank manners mannerAt weight sameManner codeFrom codeOf
   facts-fit Pid = record { keys = pid-keys (pidRow line .valid) (pidRow line) (natural-bounded _, natural-bounded _); names = tt; counts = tt; groups = tt }
   facts-fit Pic = record { keys = natural-bounded _; names = tt; counts = tt; groups = tt }
   facts-fit Plf =
@@ -84,15 +89,15 @@ module _ (line : List ℕ) (h : (i : ℕ) → getD line i 0 < 256) where
         groups = tt;
       }
   facts-fit Caf = record { keys = curve-at 0; names = tt; counts = (refl, refl, curve-at 0); groups = tt }
-  facts-fit Cap = record { keys = curve-at 0; names = listed _ _ (curve-at 0) (omega arith) refl refl refl; counts = tt; groups = curve-at 0 }
+  facts-fit Cap = record { keys = value-at 0; names = listed _ _ (curve-at 0) (omega arith) refl refl refl; counts = tt; groups = curve-at 0 }
   facts-fit Txf = record { keys = curve-at 0; names = tt; counts = (refl, refl, curve-at 0); groups = tt }
-  facts-fit Txp = record { keys = curve-at 0; names = listed _ _ (curve-at 0) (omega arith) refl refl refl; counts = tt; groups = curve-at 0 }
+  facts-fit Txp = record { keys = value-at 0; names = listed _ _ (curve-at 0) (omega arith) refl refl refl; counts = tt; groups = curve-at 0 }
   facts-fit Ocf =
       let n = ocfRow line .name in
       record {
         keys = name-at 0;
         names =
-            under-c (limits n ∷ []) (unchained 1 (parameter n) (itself numeric)) (unchained 4 (parameter n) (through 12 anyRow))
+            under-c (limits n ∷ []) (unchained 1 (parameter n) (itself numeric)) (unchained 4 (parameter n) (through secondColumn secondCondition))
             (listed _ _ (name-at 0) (omega arith) refl refl refl)
             (listed _ _ (name-at 0) (omega arith) refl refl refl)
             refl

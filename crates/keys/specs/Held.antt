@@ -6,7 +6,7 @@ use Prim.Native.Nat.{ℕ}
 use lib.ListN.{drop}
 use Rattle.laws.specs.Text.{ascii}
 use Rattle.numbers.specs.Number.{numberOf, meaning, spelt, after, digitOn, digitOf}
-use Rattle.lines.specs.Lines.{Line}
+use Rattle.lines.specs.Lines.{Line, lineFrom, nextLine}
 use Rattle.lines.specs.Names.{curveNameOf}
 use Rattle.lines.specs.Columns.{columnsOf, columnsFrom, foreignIn, allowed, printable}
 use Rattle.schemas.specs.Reasons.{lineOf, shape, firstReason, columnReason, kindReason, numberReason}
@@ -19,23 +19,19 @@ use Rattle.formed.specs.Contradictions.{contradiction}
 use Rattle.formed.specs.Formed.{orContradiction, formed}
 use Rattle.rows.specs.declared.letters.Valid.{Valid}
 use Rattle.rows.specs.declared.letters.Valid.the-variants.{Yes, No}
-use Rattle.rows.specs.declared.letters.Category.{Category}
-use Rattle.rows.specs.declared.letters.Category.the-variants.{Numeric, Status, Text}
 use Rattle.rows.specs.declared.letters.LimitValue.{LimitValue}
 use Rattle.rows.specs.declared.letters.LimitValue.the-variants as LV
 use Rattle.symbols.specs.declared.Symbol.{Symbol}
 use Rattle.verdicts.specs.Key.{Key}
 use Rattle.verdicts.specs.Facts.{Facts, Naming, Count, capFacts, factsOf}
 use Rattle.verdicts.specs.Entries.{readingOf, own, said, bad}
+use Rattle.key_symbols.specs.Keyed.{number, numberFrom, symbol, noSymbol, curveSymbol, valueSymbol, integerWord, symbolOf}
 use Rattle.keys.specs.declared.records.Slot.{Slot}
 use Rattle.keys.specs.declared.records.Named.{Named}
 use Rattle.keys.specs.declared.records.Counting.{Counting}
 use Rattle.keys.specs.declared.records.RowKeys.{RowKeys}
-use Rattle.keys.specs.Keyed.{number, numberFrom, symbol, curveSymbol, integerWord, symbolOf}
-use Rattle.keys.specs.Manners.{mannerOf, manners, weight, sameManner, codeFrom, codeOf, marksOf}
-
-abbrev pub noSymbol : Symbol
-noSymbol = symbol 0 0 0 0
+use Rattle.keys.specs.declared.records.LineKeys.{LineKeys}
+use Rattle.manners.specs.Manners.{mannerOf, manners, weight, sameManner, codeFrom, codeOf, marksOf}
 
 abbrev pub noSlot : Slot
 noSlot = record { given = false; key = noSymbol }
@@ -90,43 +86,15 @@ rowKeysOf table line = keysOf (own (readingOf table line)) (said (readingOf tabl
 abbrev pub noKeys : ℕ → RowKeys
 noKeys verdict = keysOf verdict (said (bad verdict))
 
--- of a row that counts, and of one that is counted in the group that its first column names
-abbrev pub counterKeys : ℕ → Symbol → ℕ → ℕ → RowKeys
-counterKeys verdict key column number =
-    record {
-      verdict = verdict;
-      first = slotFor key;
-      second = noSlot;
-      one = noName;
-      two = noName;
-      group = noSlot;
-      count = record { column = column; number = number };
-      marks = 1;
-    }
-
-abbrev pub memberKeys : ℕ → Symbol → Symbol → Named → RowKeys
-memberKeys verdict key group two =
-    record {
-      verdict = verdict;
-      first = slotFor key;
-      second = noSlot;
-      one = record { code = 5; key = group };
-      two = two;
-      group = slotFor group;
-      count = noCount;
-      marks = 1;
-    }
+-- what is read of the line that starts at a place of a table: its keys, as its columns say them, and where the next line starts
+pub record ColumnsRead (table : Table) (bytes : List ℕ) (at : ℕ) (read : LineKeys) : Type 0 where
+  pub keys : read .keys ≡ columnKeys table (lineFrom bytes at)
+  pub next : read .next ≡ nextLine bytes at .next
 
 -- 01: "VALID 1 Y/N"
 abbrev pub isYes : Valid → Bool
 isYes Yes = true
 isYes No = false
-
--- 01: "S needs CURTX, naming a txf row; N may name a caf row"
-unfoldable pub curtxSpace : Category → ℕ
-curtxSpace Numeric = 5
-curtxSpace Status = 7
-curtxSpace Text = 5
 
 -- 01: "INTER 1! U/C"
 abbrev pub isEngineering : LimitValue → Bool
@@ -143,16 +111,17 @@ pub record Examples : Type 0 where
         verdict = 0;
         first = slotFor (symbol 6 0x4331000000000000 0x20000 5);
         second = noSlot;
-        one = record { code = 5; key = symbol 5 0x4331000000000000 0x20000 0 };
+        one = record { code = 5; key = symbol 5 0x4331000000000000 2 0 };
         two = noName;
-        group = slotFor (symbol 5 0x4331000000000000 0x20000 0);
+        group = slotFor (symbol 5 0x4331000000000000 2 0);
         count = noCount;
         marks = 1;
       }
   pub unended : rowKeysOf Cap (lineOf row false) ≡ noKeys 256
 
 pub examples : Examples
-unfolding rowKeysOf keysOf slotOf namedOf countOf marksOf symbolOf curveSymbol number numberFrom integerWord codeOf codeFrom sameManner manners weight
+unfolding rowKeysOf keysOf slotOf namedOf countOf marksOf symbolOf curveSymbol valueSymbol number numberFrom integerWord
+    codeOf codeFrom sameManner manners weight
     readingOf factsOf capFacts capRow curveNameOf integerOr integerFrom formed orContradiction contradiction shape schema cap foreignIn allowed printable
     column columnsOf columnsFrom firstReason columnReason kindReason numberReason numberOf meaning spelt after digitOn digitOf
 examples = record { point = refl; unended = refl }

@@ -1,4 +1,4 @@
-pub mod Keyed
-pub mod Manners
+pub mod Ranks
 pub mod Held
+pub mod Parts
 pub mod Says

@@ -2,46 +2,20 @@
 use mathlib.Core.Path.{_≡_}
 use mathlib.Core.Bool.{Bool, true, false, not, cond, _&&_}
 use mathlib.Core.List.{List, [], _∷_, map, List·Memᴰ}
-use Prim.Native.Nat.{ℕ, _^_, _<_}
+use Prim.Native.Nat.{ℕ, _<_}
 use lib.Dec.{eqb}
-use lib.ListN.{length}
 use Rattle.laws.specs.Lists.{keep}
-use Rattle.lines.specs.declared.names.Name.{Name}
-use Rattle.lines.specs.declared.names.CurveName.{CurveName}
 use Rattle.symbols.specs.declared.Symbol.{Symbol}
 use Rattle.symbols.specs.Symbols.{sameSymbol}
-use Rattle.verdicts.specs.Key.{Key, packet, structure, identification, location, parameter, curve, point, texts, range, limits, check}
+use Rattle.verdicts.specs.Key.{Key}
 use Rattle.verdicts.specs.Facts.{Condition, Naming, Count, Facts}
+use Rattle.key_symbols.specs.Keyed.{symbolOf, spaceOf}
+use Rattle.keys.specs.Ranks.{parameters, rank}
+use Rattle.key_symbols.specs.Bounded.{Bounded}
 use Rattle.keys.specs.declared.records.Slot.{Slot}
 use Rattle.keys.specs.declared.records.Named.{Named}
 use Rattle.keys.specs.declared.records.RowKeys.{RowKeys}
-use Rattle.keys.specs.Keyed.{symbolOf, spaceOf, parameters, rank}
-use Rattle.keys.specs.Manners.{Manner, mannerOf, mannerAt, weight, metBy}
-
--- every digit is below the base
-abbrev pub Digits : ℕ → List ℕ → Type 0
-Digits base [] = Unit {0}
-Digits base (d ∷ ds) = (d < base) × Digits base ds
-
--- keys that rows of bytes can have: names of eight or ten bytes, and below 2 ^ 32 what shares a word with another number
-abbrev pub NameBounded : Name → Type 0
-NameBounded n = (length (n .bytes) ≡ 8) × Digits 256 (n .bytes)
-
-abbrev pub CurveBounded : CurveName → Type 0
-CurveBounded n = (length (n .bytes) ≡ 10) × Digits 256 (n .bytes)
-
-unfoldable pub Bounded : Key → Type 0
-Bounded (packet ptype stype apid pi1 pi2) = (stype < 2 ^ 32) × (pi1 < 2 ^ 32)
-Bounded (structure spid) = Unit {0}
-Bounded (identification ptype stype apid) = stype < 2 ^ 32
-Bounded (location name spid) = NameBounded name
-Bounded (parameter name) = NameBounded name
-Bounded (curve numbr) = CurveBounded numbr
-Bounded (point numbr x) = CurveBounded numbr
-Bounded (texts numbr) = CurveBounded numbr
-Bounded (range numbr from) = CurveBounded numbr
-Bounded (limits name) = NameBounded name
-Bounded (check name position) = NameBounded name
+use Rattle.manners.specs.Manners.{Manner, mannerOf, mannerAt, weight, metBy}
 
 -- the symbols in slots
 abbrev pub givenIn : List Slot → List Symbol

@@ -1,13 +1,11 @@
 // Keys: what a row holds, names and is counted in, as symbols.
-pub mod manners;
-mod marks;
+mod parts;
 pub mod records;
 mod tables;
-mod words;
 
+use parts::blanked;
 use records::LineKeys;
 use schemas::Table;
-use tables::blanked;
 use tables::caf_keys;
 use tables::cap_keys;
 use tables::ocf_keys;
@@ -20,11 +18,10 @@ use tables::txf_keys;
 use tables::txp_keys;
 ghost use mathlib.Core.Path.{_≡_};
 ghost use Rattle.lines.specs.Lines.{nextLine, lineFrom};
-ghost use Rattle.keys.specs.Held.{columnKeys, rowKeysOf};
+ghost use Rattle.keys.specs.Held.{ColumnsRead, rowKeysOf};
 
 fn column_keys(kind: Table, table: &[u8], at: usize) -> LineKeys
-    ensures { λ r. ⌜ r .keys ≡ columnKeys kind (lineFrom (now (table .entry)) at) ⌝ }
-    ensures { λ r. ⌜ r .next ≡ nextLine (now (table .entry)) at .next ⌝ }
+    ensures { λ r. ⌜ ColumnsRead kind (now (table .entry)) at r ⌝ }
 {
     match kind {
         Table::Pid => pid_keys(table, at),

@@ -3,10 +3,10 @@ use crate::step::count_of;
 use crate::step::offer;
 use crate::step::say_packet;
 use crate::step::say_state;
-use files::archive::MOST_PACKET;
-use files::archive::Next;
-use files::archive::next_packet;
-use files::archive::skip;
+use archives::MOST_PACKET;
+use archives::Next;
+use archives::next_packet;
+use archives::skip;
 use files::errors::say_error;
 use limit_state::state::LimitState;
 use lines::columns::part;
@@ -18,7 +18,7 @@ ghost use mathlib.Core.Path.{_≡_};
 ghost use mathlib.Core.Bool.{false};
 ghost use mathlib.Core.List.{map};
 ghost use Prim.Native.Nat.{_-_, _≤_};
-ghost use Rattle.files.specs.Packets.{Kept};
+ghost use Rattle.archives.specs.Packets.{Kept};
 ghost use Rattle.replay.specs.Turns.{freshState, Played};
 
 // More packets than any file has.

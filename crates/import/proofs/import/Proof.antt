@@ -1,13 +1,11 @@
 -- By what keeping the rows answers.
-use mathlib.Core.Path.{refl, sym}
-use native.Mathlib.Omega.{arith}
-use lib.ListN.{replicate, length-replicate}
-use Rattle.kept.specs.FirstPass.{arrays}
-use Prim.Native.Nat.{ℕ}
+use mathlib.Core.Path.{refl, sym, _∙_}
 use Rattle.verdicts.specs.Answer.{cellsAfter}
+use Rattle.kept.proofs.AnswerLaws.{kept-long, kept-many, kept-short, kept-done}
+use Rattle.laws.proofs.Cases.{false≢true}
 use Rattle.import.specs.Judged.{said}
 use Rattle.import.proofs.AnswerLaws.{answer-long, answer-many}
-use Rattle.import.proofs.ImportLaws.{answer-by, kept-long, kept-many, kept-room, kept-done, has-places}
+use Rattle.import.proofs.ImportLaws.{answer-by, has-places}
 use borrow.Author.Needs.{needs}
 use Rattle.import.proofs.import.Statement.{statement}
 use Rattle.import.proofs.import.Tie as tie
@@ -46,30 +44,33 @@ slice-aggregate-import-kept-2 : tie.Need-slice-aggregate-import-kept-2
 slice-aggregate-import-kept-2 c = search needs
 
 import-kept-requires : tie.Need-import-kept-requires
-import-kept-requires c κs =
-    let k = kept-done _ _ _ _ (c .before .before .before .before .before .before .before .before .before .before .keep .ensures) _ _ (c .before .before .before .before .rows .given .1) in
-    (omega (arith, k .sizes .halves, length-replicate {A = ℕ} 114688 0), omega (arith, k .sizes .bytes, length-replicate {A = ℕ} 71680 0))
+import-kept-requires c κs = search needs
 
 returns : tie.Need-returns
 unfolding said cellsAfter
-returns c = (sym (answer-long _ _ (kept-long _ _ _ _ (c .before .before .before .before .before .before .before .keep .ensures) _ (c .before .table .given .1))), refl)
+returns c =
+    let kept = c .before .before .before .before .before .before .before in
+    (sym (answer-long _ _ (kept-long _ _ _ _ (kept .keep .ensures) _ (c .before .table .given .1) .0)), refl)
 
 returns-2 : tie.Need-returns-2
 unfolding said cellsAfter
-returns-2 c = (sym (answer-many _ _ (kept-many _ _ _ _ (c .before .before .before .before .before .before .before .keep .ensures) _ (c .before .table2 .given .1))), refl)
+returns-2 c =
+    let kept = c .before .before .before .before .before .before .before in
+    (sym (answer-many _ _ (kept-many _ _ _ _ (kept .keep .ensures) _ (c .before .table2 .given .1) .0)), refl)
 
 returns-3 : tie.Need-returns-3
 returns-3 c =
-    absurd (kept-room _ _ _ _ (c .before .before .before .before .before .before .keep .ensures)
-    (has-places (arrays (replicate 114688 0) (replicate 73728 0) 0 (replicate 114688 0) (replicate 71680 0)) (sym (length-replicate {A = ℕ} 114688 0)) (sym (length-replicate {A = ℕ} 73728 0)) (sym (length-replicate {A = ℕ} 114688 0)) (sym (length-replicate {A = ℕ} 71680 0)))
-    (c .enum-told .given .1))
+    let kept = c .before .before .before .before .before .before in
+    absurd (false≢true (sym (kept-short _ _ _ _ (kept .keep .ensures) (c .enum-told .given .1) .1) ∙ has-places))
 
 same-length : tie.Need-same-length
 same-length c = search needs
 
 returns-4 : tie.Need-returns-4
 returns-4 c =
-    answer-by _ _ _ _ _ (kept-done _ _ _ _ (c .before .before .before .before .before .before .before .before .before .before .before .before .before .keep .ensures) _ _ (c .before .before .before .before .before .before .before .rows .given .1)) _ _ _ (c .before .before .import-kept .ensures)
+    let rows = c .before .before .before .before .before .before .before in
+    answer-by _ _ _ _ _ (kept-done _ _ _ _ (rows .before .before .before .before .before .before .keep .ensures) _ _ (rows .rows .given .1)) _ _ _
+    (c .before .before .import-kept .ensures)
 
 pub import-spec : {M : Type 1} → statement M
 import-spec =

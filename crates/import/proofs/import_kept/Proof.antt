@@ -11,14 +11,15 @@ returns : tie.Need-returns
 unfolding AnswersBy
 returns c = (c .if1 .taken, refl)
 
-judge-into-requires : tie.Need-judge-into-requires
-judge-into-requires c κs = search needs
+judge-kept-requires : tie.Need-judge-kept-requires
+judge-kept-requires c κs = search needs
 
 slice-reshare-prefix-good-rows : tie.Need-slice-reshare-prefix-good-rows
 slice-reshare-prefix-good-rows c = search needs
 
 slice-aggregate-good-rows : tie.Need-slice-aggregate-good-rows
-slice-aggregate-good-rows c = sym (length-take-le _ _ (omega (arith, c .before .before .before .judge-into .kept .1 .1 .0, c .before .before .before .before .before .if1 .left)))
+slice-aggregate-good-rows c =
+    sym (length-take-le _ _ (omega (arith, c .before .before .before .judge-kept .kept .1 .1 .0, c .before .before .before .before .before .if1 .left)))
 
 good-rows-requires : tie.Need-good-rows-requires
 good-rows-requires c κs = search needs
@@ -28,14 +29,16 @@ same-length c = search needs
 
 returns-2 : tie.Need-returns-2
 unfolding AnswersBy
-returns-2 c = record { all = refl; enough = c .before .before .before .before .before .before .if1 .left; judged = c .before .before .before .before .judge-into .ensures; zeros = c .good-rows .ensures }
+returns-2 c =
+    let judged = c .before .before .before .before in
+    record { all = refl; enough = judged .before .before .if1 .left; judged = judged .judge-kept .ensures; zeros = c .good-rows .ensures }
 
 pub import-kept-spec : {M : Type 1} → statement M
 import-kept-spec =
     tie.close
     (tie.spec
     returns
-    judge-into-requires
+    judge-kept-requires
     slice-reshare-prefix-good-rows
     slice-aggregate-good-rows
     good-rows-requires

@@ -19,40 +19,27 @@ slice-aggregate-judge-bases-2 c = search needs
 judge-bases-requires : tie.Need-judge-bases-requires
 judge-bases-requires c κs = search needs
 
-slice-aggregate-judge-good : tie.Need-slice-aggregate-judge-good
-slice-aggregate-judge-good c = search needs
+slice-aggregate-judge-names : tie.Need-slice-aggregate-judge-names
+slice-aggregate-judge-names c = search needs
 
-slice-aggregate-judge-good-2 : tie.Need-slice-aggregate-judge-good-2
-slice-aggregate-judge-good-2 c = search needs
+slice-aggregate-judge-names-2 : tie.Need-slice-aggregate-judge-names-2
+slice-aggregate-judge-names-2 c = search needs
 
-slice-aggregate-judge-good-3 : tie.Need-slice-aggregate-judge-good-3
-slice-aggregate-judge-good-3 c = search needs
-
-judge-good-requires : tie.Need-judge-good-requires
-judge-good-requires c κs = search needs
-
-slice-aggregate-final-rows : tie.Need-slice-aggregate-final-rows
-slice-aggregate-final-rows c = search needs
-
-slice-aggregate-final-rows-2 : tie.Need-slice-aggregate-final-rows-2
-slice-aggregate-final-rows-2 c = search needs
-
-final-rows-requires : tie.Need-final-rows-requires
-final-rows-requires c κs = search needs
+judge-names-requires : tie.Need-judge-names-requires
+judge-names-requires c κs = search needs
 
 same-length : tie.Need-same-length
 same-length c = search needs
 
 returns : tie.Need-returns
 returns c =
-    let l = c .before .before .before .before .before .before .before .before .before .before .before .before .before .before .before .before in
+    let l = c .before .before .before .before .before .before .before .before .before .before .before in
     let a = l .before .before .before .before .before .before .before .before .before .before .before .args in
-    rows-law (a .own .now) (a .sound .now) (a .counts .now) (a .codes1 .now) (a .found1 .now) (a .codes2 .now) (a .found2 .now) (a .kinds .now) (a .n)
-    (a .cells .now) _ _ _ _
+    rows-law (a .own .now) (a .sound .now) (a .counts .now) (a .codes1 .now) (a .found1 .now) (a .codes2 .now) (a .found2 .now) (a .n)
+    (a .kinds .now) (a .cells .now) _ _ _
     (l .next-rows .ensures)
-    (c .before .before .before .before .before .before .before .before .before .before .before .before .judge-bases .ensures)
-    (c .before .before .before .before .before .before .before .judge-good .ensures)
-    (c .before .before .final-rows .ensures)
+    (c .before .before .before .before .before .before .before .judge-bases .ensures)
+    (c .before .before .judge-names .ensures)
 
 pub judge-kinds-spec : {M : Type 1} → statement M
 judge-kinds-spec =
@@ -63,12 +50,8 @@ judge-kinds-spec =
     slice-aggregate-judge-bases
     slice-aggregate-judge-bases-2
     judge-bases-requires
-    slice-aggregate-judge-good
-    slice-aggregate-judge-good-2
-    slice-aggregate-judge-good-3
-    judge-good-requires
-    slice-aggregate-final-rows
-    slice-aggregate-final-rows-2
-    final-rows-requires
+    slice-aggregate-judge-names
+    slice-aggregate-judge-names-2
+    judge-names-requires
     same-length
     returns)

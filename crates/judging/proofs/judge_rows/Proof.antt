@@ -22,8 +22,8 @@ same-length c = search needs
 returns : tie.Need-returns
 returns c =
     let a = c .before .before .before .before .before .before .before .before .before .before .before .before .before .before .before .before .before .args in
-    kinds-law (a .own .now) (a .sound .now) (a .counts .now) (a .codes1 .now) (a .found1 .now) (a .codes2 .now) (a .found2 .now) _ (a .n) (a .marks .now)
-    (a .cells .now) _
+    kinds-law (a .own .now) (a .sound .now) (a .counts .now) (a .codes1 .now) (a .found1 .now) (a .codes2 .now) (a .found2 .now) (a .n) _ (a .cells .now)
+    (a .marks .now) _
     (c .before .before .before .before .before .before .kind-rows .ensures)
     (c .before .before .judge-kinds .ensures)
 

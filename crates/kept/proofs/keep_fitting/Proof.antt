@@ -4,7 +4,7 @@ use native.Mathlib.Omega.{arith}
 use Rattle.kept.specs.FirstPass.{arrays}
 use Rattle.kept.specs.Keeping.{Keeps}
 use Rattle.kept.proofs.SituationLaws.{ready-cleared}
-use Rattle.kept.proofs.KeepingLaws.{sizes-taken, short-words, short-links, short-halves, short-bytes, keeps-rows}
+use Rattle.kept.proofs.KeepingLaws.{sizes-taken, short-words, short-links, short-halves, short-bytes, all-long, keeps-rows}
 use borrow.Author.Needs.{needs}
 use Rattle.kept.proofs.keep_fitting.Statement.{statement}
 use Rattle.kept.proofs.keep_fitting.Tie as tie
@@ -52,11 +52,15 @@ same-length-4 c = search needs
 returns-5 : tie.Need-returns-5
 unfolding Keeps
 returns-5 c =
-    let s = c .before .before .before .before .before .before .before .before .before .before .before .before .before .before .before .before .before .before .before .before .before .before .before .before .before in
+    let cleared = c .before .before .before .before .before .before .before .before .before .before .before .before .before .before .before in
+    let tests = cleared .before .before in
+    let s = tests .before .before .before .before .before .before .before .before in
     let a = s .args in
     let k = c .before .before .before .before .before .before .before .before .keep-tables .ensures in
-    keeps-rows _ (a .words .now) (a .links .now) (a .halves .now) (a .bytes .now) _ _ _ _ _ _ _ (s .pre) (c .before .before .before .before .before .before .before .before .before .before .before .before .before .before .before .clear-halves .ensures)
-    (k .0) (k .1 .0) (k .1 .1 .0) (k .1 .1 .1 .0) (k .1 .1 .1 .1)
+    keeps-rows _ (a .words .now) (a .links .now) (a .halves .now) (a .bytes .now) _ _ _ _ _ _ _ (s .pre)
+    (all-long (arrays (a .words .now) (a .links .now) 0 (a .halves .now) (a .bytes .now))
+    (tests .before .before .before .if1 .left) (tests .before .before .if2 .left) (tests .before .if3 .left) (tests .if4 .left))
+    (cleared .clear-halves .ensures) (k .0) (k .1 .0) (k .1 .1 .0) (k .1 .1 .1 .0) (k .1 .1 .1 .1)
 
 pub keep-fitting-spec : {M : Type 1} → statement M
 keep-fitting-spec =

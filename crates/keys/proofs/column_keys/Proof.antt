@@ -64,34 +64,34 @@ ocp-keys-requires : tie.Need-ocp-keys-requires
 ocp-keys-requires c κs = tt
 
 returns : tie.Need-returns
-returns c = (rw (c .before .enum-told .given .1) (c .pid-keys .ensures .0), c .pid-keys .ensures .1)
+returns c = rw (c .before .enum-told .given .1) (c .pid-keys .ensures)
 
 returns-2 : tie.Need-returns-2
-returns-2 c = (rw (c .before .enum-told2 .given .1) (c .pic-keys .ensures .0), c .pic-keys .ensures .1)
+returns-2 c = rw (c .before .enum-told2 .given .1) (c .pic-keys .ensures)
 
 returns-3 : tie.Need-returns-3
-returns-3 c = (rw (c .before .enum-told3 .given .1) (c .plf-keys .ensures .0), c .plf-keys .ensures .1)
+returns-3 c = rw (c .before .enum-told3 .given .1) (c .plf-keys .ensures)
 
 returns-4 : tie.Need-returns-4
-returns-4 c = (rw (c .before .enum-told4 .given .1) (c .pcf-keys .ensures .0), c .pcf-keys .ensures .1)
+returns-4 c = rw (c .before .enum-told4 .given .1) (c .pcf-keys .ensures)
 
 returns-5 : tie.Need-returns-5
-returns-5 c = (rw (c .before .enum-told5 .given .1) (c .caf-keys .ensures .0), c .caf-keys .ensures .1)
+returns-5 c = rw (c .before .enum-told5 .given .1) (c .caf-keys .ensures)
 
 returns-6 : tie.Need-returns-6
-returns-6 c = (rw (c .before .enum-told6 .given .1) (c .cap-keys .ensures .0), c .cap-keys .ensures .1)
+returns-6 c = rw (c .before .enum-told6 .given .1) (c .cap-keys .ensures)
 
 returns-7 : tie.Need-returns-7
-returns-7 c = (rw (c .before .enum-told7 .given .1) (c .txf-keys .ensures .0), c .txf-keys .ensures .1)
+returns-7 c = rw (c .before .enum-told7 .given .1) (c .txf-keys .ensures)
 
 returns-8 : tie.Need-returns-8
-returns-8 c = (rw (c .before .enum-told8 .given .1) (c .txp-keys .ensures .0), c .txp-keys .ensures .1)
+returns-8 c = rw (c .before .enum-told8 .given .1) (c .txp-keys .ensures)
 
 returns-9 : tie.Need-returns-9
-returns-9 c = (rw (c .before .enum-told9 .given .1) (c .ocf-keys .ensures .0), c .ocf-keys .ensures .1)
+returns-9 c = rw (c .before .enum-told9 .given .1) (c .ocf-keys .ensures)
 
 returns-10 : tie.Need-returns-10
-returns-10 c = (rw (c .before .enum-told10 .given .1) (c .ocp-keys .ensures .0), c .ocp-keys .ensures .1)
+returns-10 c = rw (c .before .enum-told10 .given .1) (c .ocp-keys .ensures)
 
 pub column-keys-spec : {M : Type 1} → statement M
 column-keys-spec =

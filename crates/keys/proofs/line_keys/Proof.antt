@@ -15,7 +15,7 @@ returns : tie.Need-returns
 unfolding keysOf
 returns c = let e = c .before .column-keys .ensures in
     let b = c .blanked .ensures in
-    (b .0 ∙ rw (e .0) (row-blanked _ _), b .1 ∙ e .1)
+    (b .0 ∙ rw (e .keys) (row-blanked _ _), b .1 ∙ e .next)
 
 pub line-keys-spec : {M : Type 1} → statement M
 line-keys-spec = tie.close (tie.spec column-keys-requires blanked-requires returns)

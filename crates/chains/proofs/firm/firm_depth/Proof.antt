@@ -16,8 +16,8 @@ abbrev μ-loop : tie.MeasureT-loop
 loop-holds : tie.Need-loop-holds Inv-loop μ-loop
 loop-holds c = behind-none _ _ _ _
 
-half-at-requires : tie.Need-half-at-requires Inv-loop μ-loop
-half-at-requires c κs = tt
+depth-at-requires : tie.Need-depth-at-requires Inv-loop μ-loop
+depth-at-requires c κs = tt
 
 sub-result : tie.Need-sub-result Inv-loop μ-loop
 sub-result c = c .before .before .before .before .before .loop .inv .most
@@ -32,7 +32,7 @@ returns c =
     let l = a .loop in
     let some = c .before .if1 .taken in
     is-deep _ _ _ _ _ _ (l .inv) _ some (c .if2 .taken)
-    (rw (h .half-at .ensures) (a .before .before .before .pre .row (l .at) (λ q. omega (arith, q, h .half-at .ensures, some))))
+    (rw (h .depth-at .ensures) (a .before .before .before .pre .row (l .at) (λ q. omega (arith, q, h .depth-at .ensures, some))))
 
 byte-at-requires : tie.Need-byte-at-requires Inv-loop μ-loop
 byte-at-requires c κs = tt
@@ -82,7 +82,7 @@ firm-depth-spec =
     Inv-loop
     μ-loop
     loop-holds
-    half-at-requires
+    depth-at-requires
     sub-result
     add-result
     returns

@@ -16,14 +16,14 @@ abbrev μ-loop : tie.MeasureT-loop
 loop-holds : tie.Need-loop-holds Inv-loop μ-loop
 loop-holds c = write-start _ _ _
 
-cell-at-requires : tie.Need-cell-at-requires Inv-loop μ-loop
-cell-at-requires c κs = tt
+half-at-requires : tie.Need-half-at-requires Inv-loop μ-loop
+half-at-requires c κs = tt
 
 byte-at-requires : tie.Need-byte-at-requires Inv-loop μ-loop
 byte-at-requires c κs = tt
 
-cell-at-requires-2 : tie.Need-cell-at-requires-2 Inv-loop μ-loop
-cell-at-requires-2 c κs = tt
+half-at-requires-2 : tie.Need-half-at-requires-2 Inv-loop μ-loop
+half-at-requires-2 c κs = tt
 
 byte-at-requires-2 : tie.Need-byte-at-requires-2 Inv-loop μ-loop
 byte-at-requires-2 c κs = tt
@@ -31,8 +31,8 @@ byte-at-requires-2 c κs = tt
 base-of-requires : tie.Need-base-of-requires Inv-loop μ-loop
 base-of-requires c κs = tt
 
-put-cell-requires : tie.Need-put-cell-requires Inv-loop μ-loop
-put-cell-requires c κs = tt
+put-half-requires : tie.Need-put-half-requires Inv-loop μ-loop
+put-half-requires c κs = tt
 
 add-i : tie.Need-add-i Inv-loop μ-loop
 add-i c = omega arith
@@ -43,7 +43,7 @@ loop-less c = omega arith
 loop-again : tie.Need-loop-again Inv-loop μ-loop
 loop-again c =
     let l = c .before .before .before .before .before .before .before .before .before in
-    write-put _ _ _ _ _ (l .before .loop .inv) _ _ (l .loop-test .taken) (c .before .before .put-cell .ensures) (cc)
+    write-put _ _ _ _ _ (l .before .loop .inv) _ _ (l .loop-test .taken) (c .before .before .put-half .ensures) (cc)
 
 same-length : tie.Need-same-length Inv-loop μ-loop
 same-length c = c .before .loop .inv .size
@@ -58,12 +58,12 @@ base-rows-spec =
     Inv-loop
     μ-loop
     loop-holds
-    cell-at-requires
+    half-at-requires
     byte-at-requires
-    cell-at-requires-2
+    half-at-requires-2
     byte-at-requires-2
     base-of-requires
-    put-cell-requires
+    put-half-requires
     add-i
     loop-less
     loop-again

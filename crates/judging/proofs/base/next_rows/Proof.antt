@@ -26,8 +26,8 @@ row-at-requires c κs = tt
 next-of-requires : tie.Need-next-of-requires Inv-loop μ-loop
 next-of-requires c κs = tt
 
-put-cell-requires : tie.Need-put-cell-requires Inv-loop μ-loop
-put-cell-requires c κs = tt
+put-half-requires : tie.Need-put-half-requires Inv-loop μ-loop
+put-half-requires c κs = tt
 
 add-i : tie.Need-add-i Inv-loop μ-loop
 add-i c = omega arith
@@ -38,7 +38,7 @@ loop-less c = omega arith
 loop-again : tie.Need-loop-again Inv-loop μ-loop
 loop-again c =
     let l = c .before .before .before .before .before .before .before in
-    write-put _ _ _ _ _ (l .before .loop .inv) _ _ (l .loop-test .taken) (c .before .before .put-cell .ensures) (cc)
+    write-put _ _ _ _ _ (l .before .loop .inv) _ _ (l .loop-test .taken) (c .before .before .put-half .ensures) (cc)
 
 same-length : tie.Need-same-length Inv-loop μ-loop
 same-length c = c .before .loop .inv .size
@@ -56,7 +56,7 @@ next-rows-spec =
     byte-at-requires
     row-at-requires
     next-of-requires
-    put-cell-requires
+    put-half-requires
     add-i
     loop-less
     loop-again

@@ -1,8 +1,6 @@
 -- The row is read, and each symbol is the definition's.
-use borrow.Author.Needs.{needs}
 use Rattle.verdicts.specs.Facts.{factsOf, ocpFacts}
-use Rattle.keys.specs.Keyed.{symbolOf}
-use Rattle.keys.specs.Manners.{manners, weight, sameManner, codeFrom, codeOf, marksOf}
+use Rattle.manners.specs.Manners.{manners, weight, sameManner, codeFrom, codeOf, marksOf}
 use Rattle.keys.specs.Held.{slotOf, namedOf, countOf, keysOf}
 use Rattle.keys.proofs.CaseLaws.{name-given}
 use Rattle.keys.proofs.tables.ocp_keys.Statement.{statement}
@@ -11,50 +9,52 @@ use Rattle.keys.proofs.tables.ocp_keys.Tie as tie
 read-ocp-requires : tie.Need-read-ocp-requires
 read-ocp-requires c κs = tt
 
-cast-name-symbol : tie.Need-cast-name-symbol
-cast-name-symbol c = search needs
+check-key-requires : tie.Need-check-key-requires
+check-key-requires c κs = tt
 
-name-symbol-requires : tie.Need-name-symbol-requires
-name-symbol-requires c κs = tt
-
-name-symbol-requires-2 : tie.Need-name-symbol-requires-2
-name-symbol-requires-2 c κs = tt
-
-name-symbol-requires-3 : tie.Need-name-symbol-requires-3
-name-symbol-requires-3 c κs = tt
-
-choose-requires : tie.Need-choose-requires
-choose-requires c κs = tt
+limits-key-requires : tie.Need-limits-key-requires
+limits-key-requires c κs = tt
 
 member-requires : tie.Need-member-requires
 member-requires c κs = tt
 
+parameter-key-requires : tie.Need-parameter-key-requires
+parameter-key-requires c κs = tt
+
+named-requires : tie.Need-named-requires
+named-requires c κs = tt
+
+naming-requires : tie.Need-naming-requires
+naming-requires c κs = tt
+
 returns : tie.Need-returns
-unfolding keysOf factsOf slotOf namedOf countOf symbolOf marksOf codeOf codeFrom sameManner manners weight ocpFacts
+unfolding factsOf ocpFacts keysOf slotOf namedOf countOf marksOf weight codeOf codeFrom sameManner manners
 returns c =
-    let e = c .before .before .before .before .before .before .before .before .before .read-ocp .ensures in (
-      rw (
+    let e = c .before .before .before .before .before .before .before .before .before .read-ocp .ensures in
+    record {
+      keys = rw (
         ← e .0 .0,
         ← e .0 .1,
-        c .member .ensures,
         name-given,
-        c .before .choose .ensures,
-        c .before .before .name-symbol3 .ensures,
-        c .before .before .before .name-symbol2 .ensures,
-        c .before .before .before .before .name-symbol .ensures,
-      ),
-      e .1,
-    )
+        c .naming .ensures,
+        c .before .named .ensures,
+        c .before .before .parameter-key .ensures .0,
+        c .before .before .before .member .ensures,
+        c .before .before .before .before .limits-key .ensures .0,
+        c .before .before .before .before .before .check-key .ensures .0,
+      );
+      next = e .1;
+    }
 
 pub ocp-keys-spec : {M : Type 1} → statement M
 ocp-keys-spec =
     tie.close
     (tie.spec
     read-ocp-requires
-    cast-name-symbol
-    name-symbol-requires
-    name-symbol-requires-2
-    name-symbol-requires-3
-    choose-requires
+    check-key-requires
+    limits-key-requires
     member-requires
+    parameter-key-requires
+    named-requires
+    naming-requires
     returns)

@@ -1,0 +1,9 @@
+pub mod ColumnLaws
+pub mod Held
+pub mod KeptLaws
+pub mod NamedLaws
+pub mod PassLaws
+pub mod ResolvedLaws
+pub mod JudgedLaws
+pub mod LineLaws
+pub mod TableLaws

@@ -1,0 +1,54 @@
+// The conditions that a pcf row meets, each by its weight.
+use formed::contradictions::is_whole;
+use rows::letters::Category;
+use rows::letters::Nature;
+use rows::records::PcfRow;
+ghost use mathlib.Core.Path.{_≡_};
+ghost use Rattle.verdicts.specs.Facts.{raw, numeric, pcfFacts};
+ghost use Rattle.manners.specs.Manners.{mark, marksOf};
+
+fn mark(met: bool, weight: u8) -> u8
+    ensures { λ r. ⌜ r ≡ mark met weight ⌝ }
+{
+    if met {
+        return weight;
+    }
+    0
+}
+
+fn is_raw(row: PcfRow) -> bool
+    ensures { λ r. ⌜ r ≡ pcfFacts row .meets raw ⌝ }
+{
+    let natur = row.natur;
+    match natur {
+        Nature::Raw => true,
+        Nature::Dynamic => false,
+        Nature::Expression => false,
+        Nature::HardCoded => false,
+        Nature::Saved => false,
+        Nature::Constant => false,
+    }
+}
+
+fn is_numeric(row: PcfRow) -> bool
+    ensures { λ r. ⌜ r ≡ pcfFacts row .meets numeric ⌝ }
+{
+    if is_whole(row.ptc) {
+        let categ = row.categ;
+        return match categ {
+            Category::Numeric => true,
+            Category::Status => false,
+            Category::Text => false,
+        };
+    }
+    false
+}
+
+pub fn pcf_marks(row: PcfRow) -> u8
+    ensures { λ r. ⌜ r ≡ marksOf (pcfFacts row .meets) ⌝ }
+{
+    let raw = mark(is_raw(row), 2);
+    let whole = mark(is_whole(row.ptc), 4);
+    let numeric = mark(is_numeric(row), 8);
+    1 + raw + whole + numeric
+}
