@@ -1,0 +1,39 @@
+-- Columns read place by place, and the line that starts at a byte.
+use mathlib.Core.Path.{_≡_, sym, ap, _∙_}
+use mathlib.Core.List.{List, []}
+use Prim.Native.Nat.{ℕ, _+_, _-_, _≤_, _<_}
+use native.Mathlib.Omega.{arith}
+use lib.Dec.{ltb}
+use lib.ListN.{length, getD, take, drop, drop-of-length-le, List·getD-eq-default}
+use lib.Seq.{take-nil}
+use borrow.Author.Tests.{lt-ltb, le-ltb}
+use Rattle.lines.specs.Lines.{lineLength, nextLine, lineFrom}
+use Rattle.lines.specs.declared.walk.NextLine.{NextLine}
+use Rattle.symbols.specs.declared.Symbol.{Symbol}
+use Rattle.symbols.specs.Searches.{found}
+use Rattle.database.specs.Arrays.{mostKeys, keyed}
+
+-- past a column's end
+pub past-end : (columns : List ℕ) (column i : ℕ) → length columns ≤ i → 0 ≡ getD columns (column + i) 0
+past-end columns column i h = sym (List·getD-eq-default columns 0 {n = column + i} (omega arith))
+
+module _ (text : List ℕ) (start : ℕ) where
+  pub line-none : length text ≤ start → [] ≡ lineFrom text start .bytes
+  unfolding lineFrom
+  line-none h = rw (drop-of-length-le text h, take-nil)
+
+  pub line-part : {n : NextLine} → n ≡ nextLine text start → take (n .end - start) (drop start text) ≡ lineFrom text start .bytes
+  unfolding lineFrom nextLine
+  line-part {n} e =
+      let w : n .end - start ≡ lineLength (drop start text) = omega (arith, ap (λ (m : NextLine). m .end) e) in
+      rw w
+
+-- what a column says of a key, by the key's id
+module _ (words links columns : List ℕ) (column : ℕ) (k : Symbol) {id : ℕ} (e : id ≡ found words links k) where
+  pub keyed-in : {x : ℕ} → id < 28672 → x ≡ getD columns (column + id) 0 → x ≡ keyed words links columns column k
+  unfolding keyed
+  keyed-in h q = rw (← e, lt-ltb id 28672 h) q
+
+  pub keyed-out : 28672 ≤ id → 0 ≡ keyed words links columns column k
+  unfolding keyed
+  keyed-out h = rw (← e, le-ltb id 28672 h)

@@ -1,0 +1,135 @@
+// The database: tables in lent arrays, in which a row is found by its key, and rows are followed by their group.
+use arrays::half_at;
+use lines::walk::next_line;
+use symbols::Symbol;
+use symbols::find;
+use tables::TABLES;
+use tables::table_at;
+use units::RowNumber;
+ghost use mathlib.Core.Path.{_≡_};
+ghost use mathlib.Core.List.{map, []};
+ghost use Prim.Native.Nat.{_+_, _≤_, _<_};
+ghost use lib.ListN.{length, getD, drop};
+ghost use lib.Seq.{sets};
+ghost use Rattle.lines.specs.Lines.{lineFrom};
+ghost use Rattle.database.specs.Arrays.{rowAt, keyed, placesFrom, holderColumn, firstColumn, nextColumn};
+
+// A column of keys has this many places.
+const KEYS: usize = 28672;
+
+// A group has at most so many rows, as a table has.
+pub const MOST_MEMBERS: usize = 1024;
+
+// Where the columns of keys start: one more than the good row that holds a key, and than the first of the group that goes by it.
+pub const HOLDER: usize = 0;
+
+pub const FIRST: usize = 28672;
+
+// And those of rows: one more than the next row of the group, the row's number, its table, and where its line starts.
+pub const NEXT: usize = 57344;
+
+pub const NUMBER: usize = 71680;
+
+pub const TABLE: usize = 86016;
+
+pub const START: usize = 100352;
+
+// All columns.
+pub const COLUMNS: usize = 114688;
+
+fn wide(x: u16) -> usize
+    ensures { λ r. ⌜ (r ≡ x) × (r < 65536) ⌝ }
+{
+    x as usize
+}
+
+// What a column has at place i.
+fn column_at(columns: &[u16], column: usize, i: usize) -> usize
+    requires { ⌜ column < 114688 ⌝ }
+    ensures { λ r. ⌜ (r ≡ getD (now (columns .entry)) (column + i) 0) × (r < 65536) ⌝ }
+{
+    if columns.len() <= i {
+        return 0;
+    }
+    wide(half_at(columns, column + i))
+}
+
+// What a column of keys says of a key; 0 of one that isn't there.
+fn keyed_at(words: &[u64], links: &[u16], columns: &[u16], column: usize, key: Symbol) -> usize
+    requires { ⌜ column < 114688 ⌝ }
+    ensures { λ r. ⌜ (r ≡ keyed (now (words .entry)) (now (links .entry)) (now (columns .entry)) column key) × (r < 65536) ⌝ }
+{
+    let id = wide(find(words, links, key));
+    if id < KEYS {
+        return column_at(columns, column, id);
+    }
+    0
+}
+
+// One more than the place of the good row that holds a key, 0 where none does.
+pub fn holder_of(words: &[u64], links: &[u16], columns: &[u16], key: Symbol) -> usize
+    ensures { λ r. ⌜ (r ≡ keyed (now (words .entry)) (now (links .entry)) (now (columns .entry)) holderColumn key) × (r < 65536) ⌝ }
+{
+    keyed_at(words, links, columns, HOLDER, key)
+}
+
+// The line that starts at a byte of a table; empty past its end.
+fn line_at(table: &[u8], start: usize) -> &[u8]
+    ensures { λ r. ⌜ now r ≡ lineFrom (now (table .entry)) start .bytes ⌝ }
+{
+    if table.len() <= start {
+        return &table[..0];
+    }
+    let end = next_line(table, start).end;
+    &table[start..end]
+}
+
+// The line of row i, from 0.
+pub fn line_of<'a>(tables: [&'a [u8]; TABLES], columns: &[u16], i: usize) -> &'a [u8]
+    ensures { λ r. ⌜ now r ≡ rowAt (map now (tables .entry)) (now (columns .entry)) i .bytes ⌝ }
+{
+    let table = column_at(columns, TABLE, i);
+    let start = column_at(columns, START, i);
+    line_at(table_at(tables, table), start)
+}
+
+// Its number in its table.
+pub fn number_of(columns: &[u16], i: usize) -> RowNumber
+    ensures { λ r. ⌜ r .0 ≡ rowAt [] (now (columns .entry)) i .number ⌝ }
+{
+    RowNumber(column_at(columns, NUMBER, i))
+}
+
+// Where its line starts in its table.
+pub fn start_of(columns: &[u16], i: usize) -> usize
+    ensures { λ r. ⌜ (r ≡ rowAt [] (now (columns .entry)) i .start) × (r < 65536) ⌝ }
+{
+    column_at(columns, START, i)
+}
+
+// Lists the places of the rows of a group, in their order; how many these are. Further places stay.
+pub fn list_members(
+    words: &[u64],
+    links: &[u16],
+    columns: &[u16],
+    group: Symbol,
+    places: &mut [usize; MOST_MEMBERS],
+) -> usize
+    ensures { λ r. ⌜ r ≡ length (placesFrom (now (columns .entry)) (keyed (now (words .entry)) (now (links .entry)) (now (columns .entry)) firstColumn group)) ⌝ }
+    ensures { λ _. ⌜ now (places .exit) ≡ sets (now (places .entry)) 0
+        (placesFrom (now (columns .entry)) (keyed (now (words .entry)) (now (links .entry)) (now (columns .entry)) firstColumn group)) ⌝ }
+    ensures { λ r. ⌜ r ≤ 1024 ⌝ }
+{
+    let mut at = keyed_at(words, links, columns, FIRST, group);
+    let mut n: usize = 0;
+    while n < MOST_MEMBERS {
+        if at == 0 {
+            return n;
+        }
+        let i = at - 1;
+        places[n] = i;
+        at = column_at(columns, NEXT, i);
+        n += 1;
+    }
+    n
+}

@@ -1,0 +1,4 @@
+pub mod PutLaws
+pub mod NumberLaws
+pub mod ColumnLaws
+pub mod IndexingLaws

@@ -1,0 +1,87 @@
+// The columns of the index put to their places.
+use arrays::byte_at;
+use arrays::half_at;
+use arrays::put_half;
+use database::FIRST;
+use database::HOLDER;
+use database::NEXT;
+use database::NUMBER;
+use database::TABLE;
+use judged::parts::IDS;
+ghost use mathlib.Core.Path.{_≡_};
+ghost use Prim.Native.Nat.{_+_, _≤_, _<_};
+ghost use lib.ListN.{getD};
+ghost use Rattle.database.specs.Arrays.{numberColumn, tableColumn};
+ghost use Rattle.indexing.specs.Indexing.{putFrom, following, numberOf, indexColumns};
+
+// The first n numbers of an array, put from a place on.
+fn put_halves(from: &[u16], columns: &mut [u16], place: usize, n: usize)
+    requires { ⌜ place + n ≤ 114688 ⌝ }
+    ensures { λ _. ⌜ now (columns .exit) ≡ putFrom (now (columns .entry)) place (λ i. getD (now (from .entry)) i 0) n ⌝ }
+{
+    let mut i: usize = 0;
+    while i < n {
+        put_half(columns, place + i, half_at(from, i));
+        i += 1;
+    }
+}
+
+fn wide(x: u8) -> u16
+    ensures { λ r. ⌜ r ≡ x ⌝ }
+{
+    x as u16
+}
+
+// The tables of the first n rows.
+fn put_tables(tables: &[u8], columns: &mut [u16], n: usize)
+    requires { ⌜ n ≤ 14336 ⌝ }
+    ensures { λ _. ⌜ now (columns .exit) ≡ putFrom (now (columns .entry)) tableColumn (λ i. getD (now (tables .entry)) i 0) n ⌝ }
+{
+    let mut i: usize = 0;
+    while i < n {
+        put_half(columns, TABLE + i, wide(byte_at(tables, i)));
+        i += 1;
+    }
+}
+
+// The number of the row after one, by the tables of both.
+fn next_number(number: u16, table: u8, next: u8) -> u16
+    requires { ⌜ number < 65535 ⌝ }
+    ensures { λ r. ⌜ r ≡ following number table next ⌝ }
+{
+    if table == next { number + 1 } else { 1 }
+}
+
+// The numbers of the first n rows, each in its table.
+fn put_numbers(tables: &[u8], columns: &mut [u16], n: usize)
+    requires { ⌜ n ≤ 14336 ⌝ }
+    ensures { λ _. ⌜ now (columns .exit) ≡ putFrom (now (columns .entry)) numberColumn (numberOf (now (tables .entry))) n ⌝ }
+{
+    let mut number: u16 = 1;
+    let mut i: usize = 0;
+    while i < n {
+        put_half(columns, NUMBER + i, number);
+        number = next_number(number, byte_at(tables, i), byte_at(tables, i + 1));
+        i += 1;
+    }
+}
+
+// All columns but where lines start, which stay where they are.
+pub(crate) fn put_index(
+    columns: &mut [u16],
+    tables: &[u8],
+    holders: &[u16],
+    firsts: &[u16],
+    nexts: &[u16],
+    n: usize,
+)
+    requires { ⌜ n ≤ 14336 ⌝ }
+    ensures { λ _. ⌜ now (columns .exit) ≡ indexColumns (now (columns .entry)) (now (tables .entry))
+        (now (holders .entry)) (now (firsts .entry)) (now (nexts .entry)) n ⌝ }
+{
+    put_halves(holders, columns, HOLDER, IDS);
+    put_halves(firsts, columns, FIRST, IDS);
+    put_halves(nexts, columns, NEXT, n);
+    put_numbers(tables, columns, n);
+    put_tables(tables, columns, n);
+}

@@ -1,0 +1,14 @@
+pub mod ListLaws
+pub mod ChainLaws
+pub mod StartLaws
+pub mod RowLaws
+pub mod GoodLaws
+pub mod IdLaws
+pub mod KeyLaws
+pub mod GroupTables
+pub mod IndexedRows
+pub mod HolderLaws
+pub mod MemberLaws
+pub mod IndexLaws
+pub mod NumberLaws
+pub mod LoadedLaws
