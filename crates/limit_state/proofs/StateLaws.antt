@@ -1,7 +1,7 @@
 -- Which numbers make a state, and which packets are newer.
 use mathlib.Core.Path.{_≡_, refl, ap, _∙_}
 use mathlib.Core.Bool.{Bool, true, false, not, _&&_, _||_}
-use Prim.Native.Nat.{ℕ, _+_, _-_, _%_, _≤_, _<_}
+use Prim.Native.Nat.{ℕ, zero, suc, _+_, _-_, _%_, _≤_, _<_}
 use native.Mathlib.Omega.{arith}
 use lib.Dec.{ltb, leb}
 use borrow.Author.Tests.{ltb-false, leb-true, le-ltb, lt-leb, le-leb}
@@ -73,3 +73,13 @@ unfolding isNewer ahead
 newer-by last d low high =
     let e : ((last + d) % 16384 + (16384 - last % 16384)) % 16384 ≡ d = omega arith in
     rw (e, le-leb 1 d low, le-leb d 8191 high)
+
+-- a packet from 0 to 8,192 counts before the last isn't
+pub behind-old : (count last d : ℕ) → d ≤ 8192 → (count + d) % 16384 ≡ last % 16384 → isNewer count last ≡ false
+unfolding isNewer ahead
+behind-old count last zero near e =
+    let z : (count + (16384 - last % 16384)) % 16384 ≡ 0 = omega arith in
+    rw z
+behind-old count last (suc d) near e =
+    let far : 8191 < (count + (16384 - last % 16384)) % 16384 = omega arith in
+    rw (lt-leb ((count + (16384 - last % 16384)) % 16384) 8191 far, and-false)

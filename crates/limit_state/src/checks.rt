@@ -32,7 +32,7 @@ pub fn level_of(check: CheckType) -> u8
 }
 
 // The element i of a list, 0 past its end.
-fn limit_at(limits: &[i64], i: usize) -> i64
+pub(crate) fn limit_at(limits: &[i64], i: usize) -> i64
     ensures { λ r. ⌜ r ≡ getD (now (limits .entry)) i (pos 0) ⌝ }
 {
     if i < limits.len() { limits[i] } else { 0 }

@@ -1,0 +1,14 @@
+-- The state stays.
+use mathlib.Core.Path.{refl}
+use Rattle.outcomes.specs.Refusals.{refusedBy}
+use Rattle.stepping.specs.Step.{stateAfter}
+use Rattle.stepping.specs.Answer.{saidStep}
+use Rattle.calls.proofs.limit_step.refuse.Statement.{statement}
+use Rattle.calls.proofs.limit_step.refuse.Tie as tie
+
+returns : tie.Need-returns
+unfolding saidStep stateAfter refusedBy
+returns c = record { said = refl; after = refl }
+
+pub refuse-spec : {M : Type 1} → statement M
+refuse-spec = tie.close (tie.spec returns)

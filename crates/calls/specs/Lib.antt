@@ -1,0 +1,4 @@
+pub mod Tables
+pub mod Extraction
+pub mod Engineering
+pub mod Calls

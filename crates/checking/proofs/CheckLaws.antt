@@ -1,0 +1,127 @@
+-- The checks that apply in a packet, one row of ocp after the other.
+use mathlib.Core.Path.{_≡_, refl, sym, ap, _∙_}
+use mathlib.Core.Bool.{Bool, true, false}
+use mathlib.Core.List.{List, [], _∷_, _++_, map, map-map, append-assoc, append-nil}
+use Prim.Native.Nat.{ℕ, suc, _+_, _≤_, _<_}
+use native.Mathlib.Omega.{arith}
+use native.Mathlib.Numerals.{add-one}
+use lib.IntN.{ℤ}
+use lib.ListN.{length, getD, take, drop, set, length-set, drop-of-length-le}
+use Rattle.laws.specs.Lists.{keep}
+use Rattle.laws.proofs.Lists.{split}
+use Rattle.lines.specs.declared.names.Name.{Name}
+use Rattle.rows.specs.Records.{plfRow, pcfRow, ocpRow}
+use Rattle.rows.specs.declared.records.OcpRow.{OcpRow}
+use Rattle.outcomes.specs.Outcome.{Outcome, andThen}
+use Rattle.outcomes.specs.Values.{Value}
+use Rattle.verdicts.specs.Key.{limits}
+use Rattle.database.specs.Rows.{Row, Rows}
+use Rattle.database.specs.Arrays.{database, rowAt, answers}
+use Rattle.parameters.specs.RawValues.{rawOf}
+use Rattle.parameters.specs.Located.{byLines, located, atPlaces}
+use Rattle.parameters.specs.declared.locate.Places.{Places}
+use Rattle.parameters.proofs.LocatedLaws.{at-found, at-missing}
+use Rattle.engineering.proofs.GatherLaws.{Listed}
+use Rattle.limit_state.specs.Held.{levelOf}
+use Rattle.limit_state.specs.Checks.{Check, checkOf, checksIn}
+use Rattle.limit_state.proofs.SeverityInLaws.{stored-more}
+use Rattle.checking.specs.Checks.{checksOf, hasValue, firstRaw, applies}
+use Rattle.checking.specs.Room.{Room}
+
+-- Whether a check applies
+
+module _ (rows : Rows) (p : List ℕ) (spid : ℕ) (row : OcpRow) where
+  pub applies-free : row .rlchk .given ≡ false → true ≡ applies rows p spid row
+  unfolding applies
+  applies-free f = rw f
+
+  module _ (texts : List (List ℕ)) (columns : List ℕ) (at : Places) (t : row .rlchk .given ≡ true)
+      (is : atPlaces texts columns at ≡ located rows spid (row .rlchk .name)) where
+    pub applies-nowhere : at .found ≡ false → false ≡ applies rows p spid row
+    unfolding applies firstRaw hasValue andThen
+    applies-nowhere f = rw (t, ← is, at-missing texts columns at f)
+
+    pub applies-located : at .found ≡ true → (raw : Outcome Value) {b : Bool} (plf pcf : List ℕ)
+        → plf ≡ rowAt texts columns (at .plf) .bytes → pcf ≡ rowAt texts columns (at .pcf) .bytes
+        → raw ≡ rawOf p (plfRow plf) (pcfRow pcf) 0 → b ≡ hasValue raw (row .valpar) → b ≡ applies rows p spid row
+    unfolding applies firstRaw andThen byLines
+    applies-located f raw plf pcf el ec er eb = rw (t, ← is, at-found texts columns at f, ← el, ← ec, ← er) eb
+
+-- The checks that pass a test, stored one after the other
+
+module _ (texts : List (List ℕ)) (columns : List ℕ) (passes : OcpRow → Bool) where
+  abbrev pub counting : (places : List ℕ) → List Check
+  counting places = map checkOf (keep passes (map (λ i. ocpRow (rowAt texts columns i .bytes)) places))
+
+  -- with the checks of the places left, those stored are those of all places
+  pub record Filling (places : List ℕ) (lows highs : List ℤ) (levels : List ℕ) (n i : ℕ) : Type 0 where
+    pub few : n ≤ i
+    pub within : i ≤ length places
+    pub short : length places ≤ 1024
+    pub checks : checksIn lows highs (take n levels) ++ counting (drop i places) ≡ counting places
+    pub room : Room lows highs levels
+
+  pub fill-start : (places : List ℕ) (lows highs : List ℤ) (levels : List ℕ) → length places ≤ 1024 → Room lows highs levels
+      → Filling places lows highs levels 0 0
+  unfolding checksIn
+  fill-start places lows highs levels s r = record { few = omega arith; within = omega arith; short = s; checks = refl; room = r }
+
+  module _ {places : List ℕ} {lows highs : List ℤ} {levels : List ℕ} {n i : ℕ} (f : Filling places lows highs levels n i) where
+    module _ (h : i < length places) {line : List ℕ} {row : OcpRow} (l : line ≡ rowAt texts columns (getD places i 0) .bytes) (e : row ≡ ocpRow line) where
+      read : ocpRow (rowAt texts columns (getD places i 0) .bytes) ≡ row
+      read = sym (e ∙ ap ocpRow l)
+
+      with-row : passes row ≡ true → counting (drop i places) ≡ checkOf row ∷ counting (drop (i + 1) places)
+      with-row t = rw (split places i 0 h, read, t)
+
+      without-row : passes row ≡ false → counting (drop i places) ≡ counting (drop (i + 1) places)
+      without-row t = rw (split places i 0 h, read, t)
+
+      stored : {low high : ℤ} {level : ℕ} → low ≡ row .lvalu → high ≡ row .hvalu → level ≡ levelOf (row .check)
+          → checksIn (set lows n low) (set highs n high) (take (n + 1) (set levels n level)) ≡ checksIn lows highs (take n levels) ++ checkOf row ∷ []
+      unfolding checkOf
+      stored a b c =
+          let room : n < 1024 = omega (arith, f .few, f .short) in
+          rw (a, b, c, add-one n)
+          (stored-more lows highs levels n (row .lvalu) (row .hvalu) (levelOf (row .check))
+          (omega (arith, f .room .low)) (omega (arith, f .room .high)) (omega (arith, f .room .level)))
+
+      pub fill-more : {b : Bool} {low high : ℤ} {level : ℕ} → b ≡ passes row → b ≡ true → low ≡ row .lvalu → high ≡ row .hvalu → level ≡ levelOf (row .check)
+          → Filling places (set lows n low) (set highs n high) (set levels n level) (n + 1) (i + 1)
+      fill-more {low = low} {high = high} {level = level} q t x y z =
+          record {
+            few = omega (arith, f .few);
+            within = omega arith;
+            short = f .short;
+            checks =
+                rw (stored x y z, append-assoc (checksIn lows highs (take n levels)) (checkOf row ∷ []) (counting (drop (i + 1) places)))
+                (ap (λ (later : List Check). checksIn lows highs (take n levels) ++ later) (sym (with-row (sym q ∙ t))) ∙ f .checks);
+            room =
+                record {
+                  low = length-set lows n low ∙ f .room .low;
+                  high = length-set highs n high ∙ f .room .high;
+                  level = length-set levels n level ∙ f .room .level;
+                };
+          }
+
+      pub fill-other : {b : Bool} → b ≡ passes row → b ≡ false → Filling places lows highs levels n (i + 1)
+      fill-other q t =
+          record {
+            few = omega (arith, f .few);
+            within = omega arith;
+            short = f .short;
+            checks = ap (λ (later : List Check). checksIn lows highs (take n levels) ++ later) (sym (without-row (sym q ∙ t))) ∙ f .checks;
+            room = f .room;
+          }
+
+    pub fill-done : length places ≤ i → checksIn lows highs (take n levels) ≡ counting places
+    fill-done h = sym (append-nil (checksIn lows highs (take n levels))) ∙ (rw (drop-of-length-le places {i = i} h) at (f .checks))
+
+-- the checks of the places that were listed are the parameter's
+pub listed-checks : {texts : List (List ℕ)} {words links columns : List ℕ} {name : Name} {places : List ℕ} {n : ℕ} (passes : OcpRow → Bool)
+    → Listed texts words links columns (limits name) places n
+    → counting texts columns passes (take n places) ≡ map checkOf (keep passes (checksOf (answers (database texts words links columns)) name))
+unfolding checksOf
+listed-checks {texts} {words} {links} {columns} {name} {places} {n} passes l =
+    let line : Row → OcpRow = λ row. ocpRow (row .bytes) in
+    ap (λ (rows : List OcpRow). map checkOf (keep passes rows)) (sym (map-map line (rowAt texts columns) (take n places)) ∙ ap (map line) (l .rows))

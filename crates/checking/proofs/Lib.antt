@@ -1,0 +1,4 @@
+pub mod CheckLaws
+pub mod PassLaws
+pub mod ParameterLaws
+pub mod WholeLaws

@@ -1,0 +1,144 @@
+// A parameter in a packet, checked.
+use crate::checks::gather_checks;
+use crate::occurrences::Checked;
+use crate::occurrences::Manner;
+use crate::occurrences::check_occurrences;
+use database::MOST_MEMBERS;
+use database::line_of;
+use engineering::scale::Scale;
+use engineering::scale::gather_scale;
+use limit_state::severity::Progress;
+use lines::names::Name;
+use parameters::locate::Places;
+use parameters::reading::validity;
+use rows::decoded::pcf_of;
+use rows::letters::LimitValue;
+use rows::records::OcfRow;
+use rows::records::OptionalCurve;
+use tables::TABLES;
+use units::Spid;
+ghost use mathlib.Core.Path.{_≡_};
+ghost use mathlib.Core.List.{map};
+ghost use lib.ListN.{length};
+ghost use Rattle.rows.specs.Records.{pcfRow};
+ghost use Rattle.database.specs.Arrays.{database, rowAt, answers};
+ghost use Rattle.parameters.specs.Located.{byLines};
+ghost use Rattle.engineering.specs.Scale.{scaleIn};
+ghost use Rattle.checking.specs.Values.{scaleUnder};
+ghost use Rattle.checking.specs.Progress.{checkedOf};
+ghost use Rattle.checking.specs.Manner.{MannerOf};
+ghost use Rattle.checking.specs.Pass.{saidChecked};
+
+// What is checked: a parameter in packets of a SPID, its limits, and the places of its plf and pcf rows.
+pub struct Subject {
+    pub spid: Spid,
+    pub name: Name,
+    pub limits: OcfRow,
+    pub at: Places,
+}
+
+// How the value that is checked comes from the raw one, by INTER and CURTX.
+fn scale_under(
+    tables: [&[u8]; TABLES],
+    words: &[u64],
+    links: &[u16],
+    columns: &[u16],
+    inter: LimitValue,
+    curtx: OptionalCurve,
+    xs: &mut [i64; MOST_MEMBERS],
+    ys: &mut [i64; MOST_MEMBERS],
+) -> Scale
+    requires { ⌜ (length (now xs) ≡ 1024) × (length (now ys) ≡ 1024) ⌝ }
+    ensures { λ r. ⌜ scaleIn r (now (xs .exit)) (now (ys .exit))
+        ≡ scaleUnder (answers (database (map now (tables .entry)) (now (words .entry)) (now (links .entry)) (now (columns .entry)))) inter curtx ⌝ }
+    ensures { λ _. ⌜ (length (now (xs .exit)) ≡ 1024) × (length (now (ys .exit)) ≡ 1024) ⌝ }
+{
+    match inter {
+        LimitValue::Raw => Scale::AsRead,
+        LimitValue::Engineering => gather_scale(tables, words, links, columns, curtx, xs, ys),
+    }
+}
+
+// How the readings of the parameter are checked. The points of its curve are the first of the arrays.
+fn manner_of(
+    tables: [&[u8]; TABLES],
+    words: &[u64],
+    links: &[u16],
+    columns: &[u16],
+    p: &[u8],
+    subject: Subject,
+    xs: &mut [i64; MOST_MEMBERS],
+    ys: &mut [i64; MOST_MEMBERS],
+) -> Manner
+    requires { ⌜ (length (now xs) ≡ 1024) × (length (now ys) ≡ 1024) ⌝ }
+    ensures { λ r. ⌜ MannerOf (answers (database (map now (tables .entry)) (now (words .entry)) (now (links .entry)) (now (columns .entry))))
+        (now (p .entry)) (subject .spid .0) (subject .limits) (pcfRow (rowAt (map now (tables .entry)) (now (columns .entry)) (subject .at .pcf) .bytes))
+        r (now (xs .exit)) (now (ys .exit)) ⌝ }
+{
+    let spid = subject.spid;
+    let at = subject.at;
+    let place = at.pcf;
+    let limits = subject.limits;
+    let inter = limits.inter;
+    let nbchck = limits.nbchck;
+    let curtx = pcf_of(line_of(tables, columns, place)).curtx;
+    let valid = validity(tables, words, links, columns, p, spid, place);
+    let scale = scale_under(tables, words, links, columns, inter, curtx, xs, ys);
+    Manner {
+        nbchck,
+        valid,
+        scale,
+    }
+}
+
+// The checks and the curve's points are gathered once.
+pub fn check_parameter(
+    tables: [&[u8]; TABLES],
+    words: &[u64],
+    links: &[u16],
+    columns: &[u16],
+    p: &[u8],
+    subject: Subject,
+    progress: Progress,
+) -> Checked
+    ensures { λ r. ⌜ saidChecked r ≡ checkedOf (answers (database (map now (tables .entry)) (now (words .entry)) (now (links .entry)) (now (columns .entry))))
+        (now (p .entry)) (subject .spid .0) (subject .name) (subject .limits) progress
+        (byLines (rowAt (map now (tables .entry)) (now (columns .entry)) (subject .at .plf) .bytes)
+        (rowAt (map now (tables .entry)) (now (columns .entry)) (subject .at .pcf) .bytes)) ⌝ }
+{
+    let mut lows = [0i64; MOST_MEMBERS];
+    let mut highs = [0i64; MOST_MEMBERS];
+    let mut levels = [0u8; MOST_MEMBERS];
+    let mut xs = [0i64; MOST_MEMBERS];
+    let mut ys = [0i64; MOST_MEMBERS];
+    let spid = subject.spid;
+    let name = subject.name;
+    let checks = gather_checks(
+        tables,
+        words,
+        links,
+        columns,
+        p,
+        spid,
+        name,
+        &mut lows,
+        &mut highs,
+        &mut levels,
+    );
+    let manner = manner_of(tables, words, links, columns, p, subject, &mut xs, &mut ys);
+    let at = subject.at;
+    let plf = line_of(tables, columns, at.plf);
+    let pcf = line_of(tables, columns, at.pcf);
+    check_occurrences(
+        p,
+        plf,
+        pcf,
+        &xs,
+        &ys,
+        &lows,
+        &highs,
+        &levels[..checks],
+        manner,
+        progress,
+    )
+}

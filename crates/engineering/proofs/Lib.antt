@@ -1,0 +1,10 @@
+pub mod FillLaws
+pub mod GatherLaws
+pub mod CurveLaws
+pub mod ScaleLaws
+pub mod OrderLaws
+pub mod OffCurveLaws
+pub mod AltxtLaws
+pub mod NamedLaws
+pub mod TextLaws
+pub mod EngineeringLaws

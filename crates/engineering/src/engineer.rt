@@ -1,0 +1,78 @@
+// Engineering values.
+use crate::curve::CurveResult;
+use crate::scale::scale_value;
+use crate::text::TableOffset;
+use crate::text::text_value;
+use outcomes::Refusal;
+use outcomes::Value;
+use rows::decoded::pcf_of;
+use rows::letters::Category;
+use rows::records::OptionalCurve;
+use tables::TABLES;
+use units::RowNumber;
+ghost use mathlib.Core.Path.{_≡_};
+ghost use mathlib.Core.List.{map};
+ghost use Rattle.rows.specs.Records.{pcfRow};
+ghost use Rattle.outcomes.specs.Outcome.{andThen};
+ghost use Rattle.database.specs.Arrays.{database, answers};
+ghost use Rattle.engineering.specs.Points.{saidResult};
+ghost use Rattle.engineering.specs.Engineering.{asValue, byCategory, engineered, saidEngineered};
+
+// A value; a text as its txp row, and ALTXT's place in that table and its length; or why there is none.
+// `text_part` hands back the bytes of such a text.
+pub enum Engineered {
+    Is(Value),
+    Text(RowNumber, TableOffset, usize),
+    Refused(Refusal),
+}
+
+fn as_value(result: CurveResult) -> Engineered
+    ensures { λ r. ⌜ saidEngineered r ≡ andThen (saidResult result) asValue ⌝ }
+{
+    match result {
+        CurveResult::Is(v) => Engineered::Is(Value::Number(v)),
+        CurveResult::Refused(refusal) => Engineered::Refused(refusal),
+    }
+}
+
+// By the category and CURTX of a pcf row. 01: "N without CURTX and T answer the raw value".
+fn by_category(
+    tables: [&[u8]; TABLES],
+    words: &[u64],
+    links: &[u16],
+    columns: &[u16],
+    category: Category,
+    curtx: OptionalCurve,
+    raw: i64,
+) -> Engineered
+    ensures { λ r. ⌜ saidEngineered r
+        ≡ byCategory (answers (database (map now (tables .entry)) (now (words .entry)) (now (links .entry)) (now (columns .entry)))) category curtx raw ⌝ }
+{
+    match category {
+        Category::Numeric => as_value(scale_value(tables, words, links, columns, curtx, raw)),
+        Category::Status => {
+            let name = curtx.name;
+            text_value(tables, words, links, columns, name, raw)
+        }
+        Category::Text => Engineered::Is(Value::Number(raw)),
+    }
+}
+
+// The engineering value of a raw one, by the line of its parameter in pcf.
+pub fn engineer_value(
+    tables: [&[u8]; TABLES],
+    words: &[u64],
+    links: &[u16],
+    columns: &[u16],
+    line: &[u8],
+    raw: i64,
+) -> Engineered
+    ensures { λ r. ⌜ saidEngineered r
+        ≡ engineered (answers (database (map now (tables .entry)) (now (words .entry)) (now (links .entry)) (now (columns .entry))))
+        (pcfRow (now (line .entry))) raw ⌝ }
+{
+    let row = pcf_of(line);
+    let category = row.categ;
+    let curtx = row.curtx;
+    by_category(tables, words, links, columns, category, curtx, raw)
+}

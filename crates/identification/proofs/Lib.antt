@@ -1,0 +1,5 @@
+pub mod FieldLaws
+pub mod OutcomeLaws
+pub mod IdentifierLaws
+pub mod PicLaws
+pub mod PidLaws

@@ -1,0 +1,35 @@
+-- The pid row that the five numbers choose.
+use mathlib.Core.Path.{_≡_, refl}
+use mathlib.Core.Bool.{false}
+use mathlib.Core.List.{List, []}
+use mathlib.Core.Option.{none, some}
+use Prim.Native.Nat.{ℕ}
+use Rattle.rows.specs.Records.{pidRow}
+use Rattle.rows.specs.declared.records.PidRow.{PidRow}
+use Rattle.verdicts.specs.Key.{Key}
+use Rattle.key_symbols.specs.Bounded.{fits, packetOf}
+use Rattle.key_symbols.specs.declared.FiveNumbers.{FiveNumbers}
+use Rattle.outcomes.specs.Outcome.{answer, refused}
+use Rattle.database.specs.Rows.{Row, Rows}
+use Rattle.database.specs.Arrays.{Database, rowAt, rowFor, keyedBy, answers}
+use Rattle.identification.specs.Identification.{chosen, chooseBy}
+
+-- a key that doesn't fit is held by no row
+pub holder-unfit : (d : Database) (k : Key) → fits k ≡ false → answers d .holder k ≡ none
+unfolding answers keyedBy rowFor
+holder-unfit d k e = rw e
+
+-- a row's number stands in the columns alone
+pub number-alone : (texts : List (List ℕ)) (columns : List ℕ) (i : ℕ) → rowAt [] columns i .number ≡ rowAt texts columns i .number
+unfolding rowAt
+number-alone texts columns i = refl
+
+module _ (rows : Rows) (n : FiveNumbers) where
+  pub choice-none : rows .holder (packetOf n) ≡ none → refused 25 0 ≡ chooseBy rows n
+  unfolding chooseBy chosen
+  choice-none e = rw e
+
+  pub choice-some : {row : Row} {number : ℕ} {pid : PidRow} {line : List ℕ} → rows .holder (packetOf n) ≡ some row → number ≡ row .number
+      → line ≡ row .bytes → pid ≡ pidRow line → answer (record { row = number; spid = pid .spid .0; numbers = n }) ≡ chooseBy rows n
+  unfolding chooseBy chosen
+  choice-some e m l p = rw (e, m, p, l)

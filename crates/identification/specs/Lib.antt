@@ -1,0 +1,4 @@
+pub mod Headed
+pub mod Identifiers
+pub mod Numbers
+pub mod Identification

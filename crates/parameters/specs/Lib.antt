@@ -1,0 +1,3 @@
+pub mod RawValues
+pub mod Located
+pub mod Readings

@@ -1,0 +1,4 @@
+pub mod AnswerLaws
+pub mod AcceptedLaws
+pub mod OnceLaws
+pub mod InvalidLaws

@@ -1,0 +1,4 @@
+pub mod Time
+pub mod Step
+pub mod Answer
+pub mod StepExamples

@@ -1,0 +1,2 @@
+// A limit step: the state of a parameter's limit checks after a packet.
+pub mod step;

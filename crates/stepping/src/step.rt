@@ -1,0 +1,205 @@
+// A limit step: the state after a packet.
+use checking::occurrences::Checked;
+use checking::parameter::Subject;
+use checking::parameter::check_parameter;
+use database::holder_of;
+use database::line_of;
+use identification::Head;
+use identification::Headed;
+use identification::Identified;
+use identification::head_of;
+use identification::identify_headed;
+use key_symbols::limits_key;
+use limit_state::severity::Progress;
+use limit_state::state::LimitState;
+use limit_state::state::is_newer;
+use limit_state::state::is_state;
+use lines::names::Name;
+use lines::names::name_of;
+use outcomes::Refusal;
+use parameters::locate::locate;
+use rows::decoded::ocf_of;
+use tables::TABLES;
+use units::Spid;
+ghost use mathlib.Core.Path.{_≡_};
+ghost use mathlib.Core.List.{map};
+ghost use Rattle.outcomes.specs.Outcome.{andThen, answer};
+ghost use Rattle.outcomes.specs.Refusals.{refusedBy};
+ghost use Rattle.database.specs.Arrays.{database, rowAt, answers};
+ghost use Rattle.parameters.specs.Located.{byLines};
+ghost use Rattle.stepping.specs.Time.{inTime};
+ghost use Rattle.checking.specs.Pass.{saidChecked};
+ghost use Rattle.stepping.specs.Step.{accepted, stepAt, stepOf, stepHeaded, stepIn};
+ghost use Rattle.stepping.specs.Answer.{saidStep, Answers};
+
+// Whether the packet was taken, or why not.
+pub enum Answer {
+    Taken,
+    Refused(Refusal),
+}
+
+// The answer, and the state after the packet: refused, it is the state that was offered.
+pub struct Stepped {
+    pub answer: Answer,
+    pub state: LimitState,
+}
+
+fn refuse(state: LimitState, refusal: Refusal) -> Stepped
+    ensures { λ r. ⌜ Answers state (refusedBy refusal) r ⌝ }
+{
+    Stepped {
+        answer: Answer::Refused(refusal),
+        state,
+    }
+}
+
+// An accepted packet sets APID and count, and its state is no longer fresh.
+fn accept(head: Head, checked: Checked, state: LimitState) -> Stepped
+    ensures { λ r. ⌜ Answers state (andThen (saidChecked checked) (λ progress. answer (accepted head progress))) r ⌝ }
+{
+    match checked {
+        Checked::Is(progress) => Stepped {
+            answer: Answer::Taken,
+            state: LimitState {
+                fresh: false,
+                apid: head.apid,
+                count: head.count,
+                run: progress.run,
+                announced: progress.announced,
+            },
+        },
+        Checked::Refused(refusal) => refuse(state, refusal),
+    }
+}
+
+// Whether the state takes a packet of this APID and count: 36 before 35.
+fn in_time(state: LimitState, head: Head) -> Answer
+    ensures { λ r. ⌜ saidStep r state ≡ inTime state head ⌝ }
+{
+    if state.fresh {
+        return Answer::Taken;
+    }
+    if head.apid != state.apid {
+        return Answer::Refused(Refusal::OtherApid);
+    }
+    if is_newer(head.count, state.count) {
+        Answer::Taken
+    } else {
+        Answer::Refused(Refusal::NotNewer)
+    }
+}
+
+// The parameter and its limits are found.
+fn step_at(
+    tables: [&[u8]; TABLES],
+    words: &[u64],
+    links: &[u16],
+    columns: &[u16],
+    p: &[u8],
+    head: Head,
+    subject: Subject,
+    state: LimitState,
+) -> Stepped
+    ensures { λ r. ⌜ Answers state
+        (stepAt (answers (database (map now (tables .entry)) (now (words .entry)) (now (links .entry)) (now (columns .entry))))
+        (now (p .entry)) (subject .name) state head (subject .spid .0) (subject .limits)
+        (byLines (rowAt (map now (tables .entry)) (now (columns .entry)) (subject .at .plf) .bytes)
+        (rowAt (map now (tables .entry)) (now (columns .entry)) (subject .at .pcf) .bytes))) r ⌝ }
+{
+    match in_time(state, head) {
+        Answer::Taken => {
+            let progress = Progress {
+                run: state.run,
+                announced: state.announced,
+            };
+            let checked = check_parameter(tables, words, links, columns, p, subject, progress);
+            accept(head, checked, state)
+        }
+        Answer::Refused(refusal) => refuse(state, refusal),
+    }
+}
+
+// A packet of this SPID.
+fn step_of(
+    tables: [&[u8]; TABLES],
+    words: &[u64],
+    links: &[u16],
+    columns: &[u16],
+    p: &[u8],
+    head: Head,
+    spid: Spid,
+    name: Name,
+    state: LimitState,
+) -> Stepped
+    ensures { λ r. ⌜ Answers state (stepOf (answers (database (map now (tables .entry)) (now (words .entry)) (now (links .entry)) (now (columns .entry))))
+        (now (p .entry)) name state head (spid .0)) r ⌝ }
+{
+    let place = holder_of(words, links, columns, limits_key(name));
+    if place == 0 {
+        return refuse(state, Refusal::NoLimits);
+    }
+    let at = locate(words, links, columns, spid, name);
+    if !at.found {
+        return refuse(state, Refusal::NoPlfRow);
+    }
+    let subject = Subject {
+        spid,
+        name,
+        limits: ocf_of(line_of(tables, columns, place - 1)),
+        at,
+    };
+    step_at(tables, words, links, columns, p, head, subject, state)
+}
+
+// A packet whose header passes.
+fn step_headed(
+    tables: [&[u8]; TABLES],
+    words: &[u64],
+    links: &[u16],
+    columns: &[u16],
+    p: &[u8],
+    head: Head,
+    name: Name,
+    state: LimitState,
+) -> Stepped
+    ensures { λ r. ⌜ Answers state (stepHeaded (answers (database (map now (tables .entry)) (now (words .entry)) (now (links .entry)) (now (columns .entry))))
+        (now (p .entry)) name state head) r ⌝ }
+{
+    match identify_headed(tables, words, links, columns, p, head) {
+        Identified::Is(row, spid, numbers) => {
+            step_of(tables, words, links, columns, p, head, spid, name, state)
+        }
+        Identified::Refused(refusal) => refuse(state, refusal),
+    }
+}
+
+// The state of the named parameter after a packet.
+pub fn step_in(
+    tables: [&[u8]; TABLES],
+    words: &[u64],
+    links: &[u16],
+    columns: &[u16],
+    p: &[u8],
+    name: &[u8],
+    state: LimitState,
+) -> Stepped
+    ensures { λ r. ⌜ Answers state (stepIn (answers (database (map now (tables .entry)) (now (words .entry)) (now (links .entry)) (now (columns .entry))))
+        (now (p .entry)) (now (name .entry)) state) r ⌝ }
+{
+    if !is_state(state) {
+        return refuse(state, Refusal::NoState);
+    }
+    match head_of(p) {
+        Headed::Is(head) => step_headed(
+            tables,
+            words,
+            links,
+            columns,
+            p,
+            head,
+            name_of(name),
+            state,
+        ),
+        Headed::Refused(refusal) => refuse(state, refusal),
+    }
+}
