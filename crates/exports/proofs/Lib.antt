@@ -1,4 +1,2 @@
 pub mod AnswerLaws
-pub mod RowRanges
-pub mod SmallPlaces
-pub mod StepPlaces
+pub mod ImportPlaces

@@ -4,17 +4,14 @@ use crate::tell::tell_extracted;
 use crate::tell::tell_identified;
 use crate::tell::tell_imported;
 use crate::tell::tell_stepped;
+use calls::engineer::engineer;
+use calls::extract::extract;
+use calls::identify::identify;
+use calls::limit_step::limit_step;
 use import::import;
 use limit_state::state::LimitState;
-use limits::step::limit_step;
-use packets::extract::extract;
-use packets::identify::identify;
-use values::engineer::engineer;
-ghost use Rattle.packets.specs.Identification.{identifyOf};
-ghost use Rattle.packets.specs.Extraction.{extractOf};
-ghost use Rattle.values.specs.Engineering.{engineerOf};
-ghost use Rattle.limits.specs.Step.{limitStepOf};
-ghost use Rattle.exports.specs.Answers.{ofIdentification, ofRead, ofEngineering, ofStepping, Told, ImportTold, ten};
+ghost use Rattle.calls.specs.Calls.{identifyOf, extractOf, engineerOf, limitStepOf};
+ghost use Rattle.exports.specs.Answers.{ofIdentity, ofReading, ofEngineered, ofState, Told, ImportTold, ten};
 
 mod places;
 mod tell;
@@ -35,7 +32,10 @@ pub extern "C" fn petrolyaz_import<'a>(
     cells: &mut [u16],
     answer: &mut [i64; 8],
 ) -> u64
-    ensures { λ r. ⌜ ImportTold (ten (now (pid .entry)) (now (pic .entry)) (now (plf .entry)) (now (pcf .entry)) (now (caf .entry)) (now (cap .entry)) (now (txf .entry)) (now (txp .entry)) (now (ocf .entry)) (now (ocp .entry))) (now (cells .entry)) (now (cells .exit)) (now (answer .entry)) (now (answer .exit)) r ⌝ }
+    ensures { λ r. ⌜ ImportTold
+        (ten (now (pid .entry)) (now (pic .entry)) (now (plf .entry)) (now (pcf .entry)) (now (caf .entry))
+        (now (cap .entry)) (now (txf .entry)) (now (txp .entry)) (now (ocf .entry)) (now (ocp .entry)))
+        (now (cells .entry)) (now (cells .exit)) (now (answer .entry)) (now (answer .exit)) r ⌝ }
 {
     let tables = [pid, pic, plf, pcf, caf, cap, txf, txp, ocf, ocp];
     tell_imported(import(tables, cells), answer)
@@ -57,7 +57,10 @@ pub extern "C" fn petrolyaz_identify<'a>(
     packet: &[u8],
     answer: &mut [i64; 8],
 ) -> u64
-    ensures { λ r. ⌜ Told (ofIdentification (identifyOf (ten (now (pid .entry)) (now (pic .entry)) (now (plf .entry)) (now (pcf .entry)) (now (caf .entry)) (now (cap .entry)) (now (txf .entry)) (now (txp .entry)) (now (ocf .entry)) (now (ocp .entry))) (now (packet .entry)))) (now (answer .entry)) (now (answer .exit)) r ⌝ }
+    ensures { λ r. ⌜ Told ofIdentity (identifyOf
+        (ten (now (pid .entry)) (now (pic .entry)) (now (plf .entry)) (now (pcf .entry)) (now (caf .entry))
+        (now (cap .entry)) (now (txf .entry)) (now (txp .entry)) (now (ocf .entry)) (now (ocp .entry)))
+        (now (packet .entry))) (now (answer .entry)) (now (answer .exit)) r ⌝ }
 {
     let tables = [pid, pic, plf, pcf, caf, cap, txf, txp, ocf, ocp];
     tell_identified(identify(tables, packet), answer)
@@ -81,7 +84,10 @@ pub extern "C" fn petrolyaz_extract<'a>(
     occurrence: usize,
     answer: &mut [i64; 8],
 ) -> u64
-    ensures { λ r. ⌜ Told (ofRead (extractOf (ten (now (pid .entry)) (now (pic .entry)) (now (plf .entry)) (now (pcf .entry)) (now (caf .entry)) (now (cap .entry)) (now (txf .entry)) (now (txp .entry)) (now (ocf .entry)) (now (ocp .entry))) (now (packet .entry)) (now (name .entry)) occurrence)) (now (answer .entry)) (now (answer .exit)) r ⌝ }
+    ensures { λ r. ⌜ Told ofReading (extractOf
+        (ten (now (pid .entry)) (now (pic .entry)) (now (plf .entry)) (now (pcf .entry)) (now (caf .entry))
+        (now (cap .entry)) (now (txf .entry)) (now (txp .entry)) (now (ocf .entry)) (now (ocp .entry)))
+        (now (packet .entry)) (now (name .entry)) occurrence) (now (answer .entry)) (now (answer .exit)) r ⌝ }
 {
     let tables = [pid, pic, plf, pcf, caf, cap, txf, txp, ocf, ocp];
     tell_extracted(extract(tables, packet, name, occurrence), answer)
@@ -105,7 +111,10 @@ pub extern "C" fn petrolyaz_engineer<'a>(
     occurrence: usize,
     answer: &mut [i64; 8],
 ) -> u64
-    ensures { λ r. ⌜ Told (ofEngineering (engineerOf (ten (now (pid .entry)) (now (pic .entry)) (now (plf .entry)) (now (pcf .entry)) (now (caf .entry)) (now (cap .entry)) (now (txf .entry)) (now (txp .entry)) (now (ocf .entry)) (now (ocp .entry))) (now (packet .entry)) (now (name .entry)) occurrence)) (now (answer .entry)) (now (answer .exit)) r ⌝ }
+    ensures { λ r. ⌜ Told ofEngineered (engineerOf
+        (ten (now (pid .entry)) (now (pic .entry)) (now (plf .entry)) (now (pcf .entry)) (now (caf .entry))
+        (now (cap .entry)) (now (txf .entry)) (now (txp .entry)) (now (ocf .entry)) (now (ocp .entry)))
+        (now (packet .entry)) (now (name .entry)) occurrence) (now (answer .entry)) (now (answer .exit)) r ⌝ }
 {
     let tables = [pid, pic, plf, pcf, caf, cap, txf, txp, ocf, ocp];
     tell_engineered(engineer(tables, packet, name, occurrence), answer)
@@ -133,15 +142,19 @@ pub extern "C" fn petrolyaz_limit_step<'a>(
     announced: u8,
     answer: &mut [i64; 8],
 ) -> u64
-    ensures { λ r. ⌜ Told (ofStepping (limitStepOf (ten (now (pid .entry)) (now (pic .entry)) (now (plf .entry)) (now (pcf .entry)) (now (caf .entry)) (now (cap .entry)) (now (txf .entry)) (now (txp .entry)) (now (ocf .entry)) (now (ocp .entry))) (now (packet .entry)) (now (name .entry)) (record { fresh = fresh; apid = apid; count = count; run = run; announced = announced }))) (now (answer .entry)) (now (answer .exit)) r ⌝ }
+    ensures { λ r. ⌜ Told ofState (limitStepOf
+        (ten (now (pid .entry)) (now (pic .entry)) (now (plf .entry)) (now (pcf .entry)) (now (caf .entry))
+        (now (cap .entry)) (now (txf .entry)) (now (txp .entry)) (now (ocf .entry)) (now (ocp .entry)))
+        (now (packet .entry)) (now (name .entry))
+        (record { fresh = fresh; apid = apid; count = count; run = run; announced = announced })) (now (answer .entry)) (now (answer .exit)) r ⌝ }
 {
     let tables = [pid, pic, plf, pcf, caf, cap, txf, txp, ocf, ocp];
     let state = LimitState {
-        fresh: fresh,
-        apid: apid,
-        count: count,
-        run: run,
-        announced: announced,
+        fresh,
+        apid,
+        count,
+        run,
+        announced,
     };
     tell_stepped(limit_step(tables, packet, name, state), answer)
 }

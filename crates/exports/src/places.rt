@@ -1,14 +1,20 @@
 // What stands in a result and in the places of an answer.
+use outcomes::Refusal;
+use outcomes::number_of;
+use outcomes::place_of;
 ghost use mathlib.Core.Path.{_≡_};
 ghost use Prim.Native.Nat.{_^_, _≤_, _<_};
 ghost use lib.ListN.{take};
+ghost use Rattle.outcomes.specs.Refusals.{numberOf, placeOf};
 ghost use Rattle.exports.specs.Answers.{code, word, flag, written};
 
 // A refusal as one number.
-pub(crate) fn refuse(number: u8, place: usize) -> u64
-    requires { ⌜ place < 2 ^ 32 ⌝ }
-    ensures { λ r. ⌜ r ≡ code number place ⌝ }
+pub(crate) fn refuse(refusal: Refusal) -> u64
+    requires { ⌜ placeOf refusal < 2 ^ 32 ⌝ }
+    ensures { λ r. ⌜ r ≡ code (numberOf refusal) (placeOf refusal) ⌝ }
 {
+    let number = number_of(refusal);
+    let place = place_of(refusal);
     number as u64 * 4294967296 + place as u64
 }
 

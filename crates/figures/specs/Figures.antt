@@ -13,9 +13,13 @@ use Rattle.fields.specs.Place.{bitInside, inside}
 use Rattle.fields.specs.Field.{isWidth, fieldAt, unsignedAt}
 use Rattle.fields.specs.Sign.{complementOf, signedAt}
 use Rattle.fields.specs.Figures.{packet}
+use Rattle.outcomes.specs.Outcome as outcome
+use Rattle.outcomes.specs.Outcome.{Outcome, answer}
 use Rattle.headers.specs.Header as header
-use Rattle.headers.specs.Header.{Heading, heading, headerOf}
-use Rattle.packets.specs.Numbers.{typeOf, subtypeOf}
+use Rattle.headers.specs.Header.{headerOf}
+use Rattle.identification.specs.Headed.{headFrom, headOf}
+use Rattle.identification.specs.Numbers.{typeOf, subtypeOf}
+use Rattle.identification.specs.declared.Head.{Head}
 use Rattle.rows.specs.declared.letters.OffEnds.{OffEnds}
 use Rattle.rows.specs.declared.letters.OffEnds.the-variants.{Extrapolate, Refuse}
 use Rattle.curves.specs.Floor.{floorDiv}
@@ -38,10 +42,10 @@ pub data Asked : Type 0 where
   curve : OffEnds → (raw : ℤ) → Asked
   number : String → Asked
 
--- a header that isn't refused tells the APID
-unfoldable pub apidIn : Heading → Said
-apidIn (header.refused n) = refused n
-apidIn (heading flagged id count) = value (pos id)
+-- a number of a packet by its header, where that isn't refused
+unfoldable pub byHead : (Head → ℕ) → Outcome Head → Said
+byHead tell (outcome.refused n place) = refused n
+byHead tell (answer head) = value (pos (tell head))
 
 -- a text that is no number has no value
 unfoldable pub valueIn : Option ℤ → Said
@@ -50,9 +54,9 @@ valueIn (some z) = value z
 
 -- what the definitions answer
 unfoldable pub told : Asked → Said
-told apid = apidIn (headerOf packet)
-told ptype = value (pos (typeOf packet))
-told subtype = value (pos (subtypeOf packet))
+told apid = byHead (λ (head : Head). head .apid) (headOf packet)
+told ptype = byHead (λ (head : Head). typeOf head packet) (headOf packet)
+told subtype = byHead (λ (head : Head). subtypeOf head packet) (headOf packet)
 told (unsigned width byte bit) = unsignedAt packet (8 * byte + bit) width
 told (signed width byte bit) = signedAt packet (8 * byte + bit) width
 told (curve ends raw) = curveAt ends curveXs curveYs raw
@@ -93,7 +97,7 @@ figures =
 -- every figure is what the definitions answer
 pub figures-hold : map (λ (f : Asked × Said). told (f .0)) figures ≡ map (λ (f : Asked × Said). f .1) figures
 unfolding
-    figures told packet apidIn headerOf header.version header.typeBit header.flagged header.apid header.sequenceCount header.lengthField typeOf subtypeOf
+    figures told packet byHead headOf headFrom headerOf header.version header.typeBit header.flagged header.apid header.sequenceCount header.lengthField
     unsignedAt signedAt complementOf fieldAt isWidth inside bitInside numberAt bitAt
     curveXs curveYs curveAt placed fromLast beforeFirst offEnd through pointAt notAbove below above nearestOf better closer nearer passes
     lineAt isSegment isPoint isCoordinate isRaw within resultOf heightAt floorDiv

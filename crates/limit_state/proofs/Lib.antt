@@ -1,5 +1,4 @@
 pub mod StateLaws
 pub mod SeverityLaws
 pub mod CheckLaws
-pub mod SeverityOfLaws
 pub mod SeverityInLaws

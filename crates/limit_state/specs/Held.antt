@@ -24,7 +24,3 @@ pub record Held (checks : List OcpRow) (lows highs : List ℤ) (levels : List �
   pub low : lows ≡ map (λ (row : OcpRow). row .lvalu) checks
   pub high : highs ≡ map (λ (row : OcpRow). row .hvalu) checks
   pub level : levels ≡ map (λ (row : OcpRow). levelOf (row .check)) checks
-
--- a claim of the checks, whichever these arrays hold
-abbrev pub OfHeld : (lows highs : List ℤ) (levels : List ℕ) → (List OcpRow → Type 0) → Type 0
-OfHeld lows highs levels Claim = (checks : List OcpRow) → Held checks lows highs levels → Claim checks

@@ -5,13 +5,13 @@ use Prim.Native.Nat.{ℕ}
 use lib.ListN.{length}
 use borrow.Author.Tests.{eq-eqb, ne-eqb}
 use Rattle.lines.specs.Columns.{columnsOf, columnAt}
-use Rattle.packets.specs.Identification.{identifyOf}
+use Rattle.calls.specs.Calls.{identifyOf}
 use Rattle.scripts.specs.declared.operands.Natural.{Natural}
 use Rattle.scripts.specs.declared.operands.Natural.the-variants as natural
 use Rattle.scripts.specs.Numerals.{naturalIn}
 use Rattle.answers.specs.declared.answer.Answer.{Answer}
 use Rattle.answers.specs.Answers.{unreadable}
-use Rattle.replies.specs.Replies.{identifiedAnswer}
+use Rattle.replies.specs.Replies.{replyOf, identityAnswer}
 use Rattle.packet_questions.specs.PacketReplies.{occurrenceIn, byNatural, identifyReply}
 
 module _ (text : List ℕ) (n : ℕ) (e : n ≡ length (columnsOf text)) where
@@ -36,7 +36,7 @@ unfolding byNatural
 by-unread f o e = rw e
 
 module _ (texts : List (List ℕ)) (packet text : List ℕ) where
-  pub identify-asked : length text ≡ 0 → identifiedAnswer (identifyOf texts packet) ≡ identifyReply texts packet text
+  pub identify-asked : length text ≡ 0 → replyOf identityAnswer (identifyOf texts packet) ≡ identifyReply texts packet text
   unfolding identifyReply
   identify-asked h = rw (eq-eqb (length text) 0 h)
 

@@ -9,16 +9,14 @@ use lib.ListN.{length}
 use Rattle.laws.specs.Text.{ascii}
 use Rattle.numbers.specs.Number.{numberOf, answerOf, meaning, spelt, after, digitOn, digitOf}
 use Rattle.lines.specs.Columns.{columnsOf, columnsFrom, columnAt}
-use Rattle.packets.specs.Identification.{identifyOf}
-use Rattle.packets.specs.Extraction.{extractOf}
-use Rattle.values.specs.Engineering.{engineerOf}
+use Rattle.calls.specs.Calls.{identifyOf, extractOf, engineerOf}
 use Rattle.scripts.specs.declared.operands.Natural.{Natural}
 use Rattle.scripts.specs.declared.operands.Natural.the-variants as natural
 use Rattle.scripts.specs.Numerals.{naturalIn, naturalOf}
 use Rattle.answers.specs.declared.answer.Answer.{Answer}
 use Rattle.answers.specs.Answers.{integerAnswer, unreadable}
 use Rattle.inside.specs.Inside.{numberAnswer, widthReply, unsignedReply, signedReply, stringReply, lineReply}
-use Rattle.replies.specs.Replies.{identifiedAnswer, readAnswer, engineeringAnswer}
+use Rattle.replies.specs.Replies.{replyOf, identityAnswer, readingAnswer, engineeredAnswer}
 
 -- the occurrence after a name, 0 where none is named
 unfoldable pub occurrenceIn : List ℕ → Natural
@@ -31,13 +29,15 @@ byNatural answer (natural.Is n) = answer n
 byNatural answer natural.Unread = unreadable
 
 unfoldable pub identifyReply : List (List ℕ) → (packet text : List ℕ) → Answer
-identifyReply texts packet text = cond (eqb (length text) 0) (identifiedAnswer (identifyOf texts packet)) unreadable
+identifyReply texts packet text = cond (eqb (length text) 0) (replyOf identityAnswer (identifyOf texts packet)) unreadable
 
 unfoldable pub extractReply : List (List ℕ) → (packet text : List ℕ) → Answer
-extractReply texts packet text = byNatural (λ k. readAnswer (extractOf texts packet (columnAt (columnsOf text) 0) k)) (occurrenceIn text)
+extractReply texts packet text =
+    byNatural (λ k. replyOf readingAnswer (extractOf texts packet (columnAt (columnsOf text) 0) k)) (occurrenceIn text)
 
 unfoldable pub engineerReply : List (List ℕ) → (packet text : List ℕ) → Answer
-engineerReply texts packet text = byNatural (λ k. engineeringAnswer (engineerOf texts packet (columnAt (columnsOf text) 0) k)) (occurrenceIn text)
+engineerReply texts packet text =
+    byNatural (λ k. replyOf engineeredAnswer (engineerOf texts packet (columnAt (columnsOf text) 0) k)) (occurrenceIn text)
 
 -- the questions that lend no cells, by their place in the list of questions
 unfoldable pub replyTo : ℕ → List (List ℕ) → (packet text : List ℕ) → Answer

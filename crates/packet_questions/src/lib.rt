@@ -1,23 +1,23 @@
 // The questions that lend no cells, asked of the tables and the packet.
 use answers::answer::Answer;
 use answers::answer::unread;
+use calls::engineer::engineer;
+use calls::extract::extract;
+use calls::identify::identify;
 use inside::inner::ask_line;
 use inside::inner::ask_number;
 use inside::inner::ask_signed;
 use inside::inner::ask_string;
 use inside::inner::ask_unsigned;
 use inside::inner::ask_width;
-use packets::extract::extract;
-use packets::identify::identify;
 use replies::packet_replies::say_engineered;
-use replies::packet_replies::say_extracted;
 use replies::packet_replies::say_identified;
+use replies::packet_replies::say_reading;
 use scripts::operands::Natural;
 use scripts::operands::column_at;
 use scripts::operands::column_count;
 use scripts::operands::natural_in;
 use tables::TABLES;
-use values::engineer::engineer;
 ghost use mathlib.Core.Path.{_≡_};
 ghost use mathlib.Core.List.{map};
 ghost use Rattle.packet_questions.specs.PacketReplies.{identifyReply, occurrenceIn, extractReply, engineerReply, replyTo};
@@ -49,7 +49,7 @@ fn ask_extract(tables: [&[u8]; TABLES], packet: &[u8], text: &[u8]) -> Answer
     ensures { λ r. ⌜ r ≡ extractReply (map now (tables .entry)) (now (packet .entry)) (now (text .entry)) ⌝ }
 {
     match occurrence_of(text) {
-        Natural::Is(k) => say_extracted(extract(tables, packet, column_at(text, 0), k as usize)),
+        Natural::Is(k) => say_reading(extract(tables, packet, column_at(text, 0), k as usize)),
         Natural::Unread => unread(),
     }
 }

@@ -7,13 +7,14 @@ use mathlib.Core.Option.{Option, some, none}
 use lib.Dec.{eqb}
 use lib.ListN.{getD}
 use Rattle.laws.specs.Text.{ascii}
-use Rattle.limits.specs.Step.{limitStepOf, stateAfter}
 use Rattle.limit_state.specs.declared.state.LimitState.{LimitState}
+use Rattle.stepping.specs.Step.{stateAfter}
+use Rattle.calls.specs.Calls.{limitStepOf}
 use Rattle.scripts.specs.Escapes.{unescaped, rowBytes, isOpen, ended, within, before, plain}
 use Rattle.answers.specs.declared.compare.Verdict.{Verdict}
 use Rattle.answers.specs.declared.compare.Verdict.the-variants.{Unread}
 use Rattle.answers.specs.Compared.{verdictOf}
-use Rattle.replies.specs.Replies.{steppingAnswer}
+use Rattle.replies.specs.Replies.{replyOf, stateAnswer}
 use Rattle.cell_questions.specs.CellReplies.{importReply, rowReply}
 use Rattle.packet_questions.specs.PacketReplies.{replyTo}
 use Rattle.questions.specs.declared.Judged.{Judged}
@@ -22,7 +23,7 @@ use Rattle.questions.specs.declared.Judged.{Judged}
 unfoldable pub stepJudged : List (List ℕ) → (packet text : List ℕ) → LimitState → (line : List ℕ) → Judged
 stepJudged texts packet text s line =
     record {
-      verdict = verdictOf (steppingAnswer (limitStepOf texts packet text s)) (getD texts 7 []) [] line;
+      verdict = verdictOf (replyOf stateAnswer (limitStepOf texts packet text s)) (getD texts 7 []) [] line;
       state = stateAfter s (limitStepOf texts packet text s);
     }
 

@@ -1,11 +1,10 @@
 // A question asked of the tables and the packet, and whether the line under it is the answer.
 use answers::compare::Verdict;
 use answers::compare::compare;
+use calls::limit_step::limit_step;
 use cell_questions::judge_import;
 use cell_questions::judge_row;
 use limit_state::state::LimitState;
-use limits::step::Stepped;
-use limits::step::limit_step;
 use lines::columns::part;
 use packet_questions::answer_to;
 use replies::packet_replies::say_stepped;
@@ -18,8 +17,6 @@ use tables::table_at;
 ghost use mathlib.Core.Path.{_≡_};
 ghost use mathlib.Core.List.{map};
 ghost use lib.ListN.{length};
-ghost use Rattle.limits.specs.Answer.{said};
-ghost use Rattle.limits.specs.Step.{stateAfter};
 ghost use Rattle.scripts.specs.Escapes.{readIn};
 ghost use Rattle.questions.specs.Questions.{stepJudged, questionVerdict, judgedText, questionBytesIn, judged};
 
@@ -30,21 +27,6 @@ pub struct Judged {
 }
 
 // A refusal leaves the state as it was.
-fn state_after(stepped: Stepped, state: LimitState) -> LimitState
-    ensures { λ r. ⌜ r ≡ stateAfter state (said stepped) ⌝ }
-{
-    match stepped {
-        Stepped::Is(next) => next,
-        Stepped::OffCurve => state,
-        Stepped::OutOfRange => state,
-        Stepped::NoLimits => state,
-        Stepped::NoState => state,
-        Stepped::NotNewer => state,
-        Stepped::OtherApid => state,
-        Stepped::Refused(_) => state,
-    }
-}
-
 fn judge_step(
     name: &[u8],
     number: usize,
@@ -57,6 +39,7 @@ fn judge_step(
     ensures { λ r. ⌜ r ≡ stepJudged (map now (tables .entry)) (now (packet .entry)) (now (text .entry)) state (now (line .entry)) ⌝ }
 {
     let stepped = limit_step(tables, packet, text, state);
+    let after = stepped.state;
     let cells = [0u16; 0];
     let verdict = compare(
         name,
@@ -68,7 +51,7 @@ fn judge_step(
     );
     Judged {
         verdict,
-        state: state_after(stepped, state),
+        state: after,
     }
 }
 

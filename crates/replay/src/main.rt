@@ -1,31 +1,15 @@
 // Offers the packets of an archive, one after the other, to the limit step of a parameter.
 mod archive;
+mod loaded;
+mod say;
 mod step;
 
-use archive::replay_archive;
 use files::arguments::LONGEST;
 use files::directory::SPACE;
 use files::directory::load_directory;
 use files::directory::tables_in;
-use import::Imported;
-use import::import;
-use tables::MOST_ROWS;
-use tables::TABLES;
-use words::refusals::say_refused;
+use loaded::replay_tables;
 use words::say::words;
-
-const CELLS: usize = MOST_ROWS * TABLES;
-
-// The tables are judged here, once for all packets.
-fn judge(tables: [&[u8]; TABLES], name: &[u8], file: &[u8]) {
-    let mut cells = [0u16; CELLS];
-    match import(tables, &mut cells) {
-        Imported::Done(_, _) => replay_archive(tables, &cells, name, file),
-        Imported::TooLong(t) => say_refused(1, t),
-        Imported::TooManyRows(t) => say_refused(2, t),
-        Imported::TooFewCells => say_refused(3, 0),
-    }
-}
 
 fn replay(directory: &[u8], name: &[u8], file: &[u8]) {
     let mut memory = [0u8; SPACE];
@@ -33,7 +17,7 @@ fn replay(directory: &[u8], name: &[u8], file: &[u8]) {
     let loaded = load_directory(directory, space);
     let ends = loaded.ends;
     if loaded.whole {
-        judge(tables_in(space, ends), name, file);
+        replay_tables(tables_in(space, ends), name, file);
     }
 }
 

@@ -8,23 +8,25 @@ use answers::answer::says;
 use answers::answer::two;
 use curves::ints::less;
 use curves::ints::size;
-use limits::step::Stepped;
-use packets::extract::Extracted;
-use packets::identify::Identified;
-use packets::refusal::Refusal;
-use packets::refusal::number_of;
-use packets::refusal::place_of;
-use values::engineer::Engineered;
+use engineering::engineer::Engineered;
+use identification::Identified;
+use limit_state::state::LimitState;
+use outcomes::Refusal;
+use outcomes::Value;
+use outcomes::number_of;
+use outcomes::place_of;
+use parameters::reading::Reading;
+use stepping::step;
+use stepping::step::Stepped;
 ghost use mathlib.Core.Path.{_≡_};
-ghost use Rattle.packets.specs.Identification as identify;
-ghost use Rattle.packets.specs.Extraction as extract;
-ghost use Rattle.packets.specs.Refusals.{numberOf, placeOf};
-ghost use Rattle.readings.specs.Readings.{integer, string};
-ghost use Rattle.values.specs.Engineering as engineer;
-ghost use Rattle.values.specs.Engineering.{altxt};
-ghost use Rattle.limits.specs.Answer as step;
+ghost use Rattle.outcomes.specs.Refusals.{numberOf, placeOf};
+ghost use Rattle.outcomes.specs.Values.{valueOf, number, part};
+ghost use Rattle.identification.specs.Identification.{saidIdentified};
+ghost use Rattle.parameters.specs.Readings.{saidReading};
+ghost use Rattle.engineering.specs.Engineering.{text, saidEngineered};
+ghost use Rattle.stepping.specs.Answer.{saidStep};
 ghost use Rattle.answers.specs.Answers.{refusing};
-ghost use Rattle.replies.specs.Replies.{identifiedAnswer, readAnswer, engineeringAnswer, steppingAnswer};
+ghost use Rattle.replies.specs.Replies.{replyOf, identityAnswer, rawAnswer, readingAnswer, valueAnswer, engineeredAnswer, stateAnswer};
 
 fn refused_question(refusal: Refusal) -> Answer
     ensures { λ r. ⌜ r ≡ refusing (numberOf refusal) (placeOf refusal) ⌝ }
@@ -33,7 +35,7 @@ fn refused_question(refusal: Refusal) -> Answer
 }
 
 pub fn say_identified(identified: Identified) -> Answer
-    ensures { λ r. ⌜ r ≡ identifiedAnswer (identify.said identified) ⌝ }
+    ensures { λ r. ⌜ r ≡ replyOf identityAnswer (saidIdentified identified) ⌝ }
 {
     match identified {
         Identified::Is(row, spid, n) => says(
@@ -53,8 +55,8 @@ pub fn say_identified(identified: Identified) -> Answer
     }
 }
 
-fn say_reading(v: i64, valid: bool) -> Answer
-    ensures { λ r. ⌜ r ≡ readAnswer (integer v valid) ⌝ }
+fn say_raw_number(v: i64, valid: bool) -> Answer
+    ensures { λ r. ⌜ r ≡ rawAnswer (number v) valid ⌝ }
 {
     let negative = less(v, 0);
     let magnitude = size(v);
@@ -64,8 +66,8 @@ fn say_reading(v: i64, valid: bool) -> Answer
     says(b"#, invalid", negative, one(magnitude))
 }
 
-fn say_part(from: u64, bytes: u64, valid: bool) -> Answer
-    ensures { λ r. ⌜ r ≡ readAnswer (string from bytes valid) ⌝ }
+fn say_raw_part(from: u64, bytes: u64, valid: bool) -> Answer
+    ensures { λ r. ⌜ r ≡ rawAnswer (part from bytes) valid ⌝ }
 {
     if valid {
         return says(b"string from #, # bytes, valid", false, two(from, bytes));
@@ -73,18 +75,39 @@ fn say_part(from: u64, bytes: u64, valid: bool) -> Answer
     says(b"string from #, # bytes, invalid", false, two(from, bytes))
 }
 
-pub fn say_extracted(extracted: Extracted) -> Answer
-    ensures { λ r. ⌜ r ≡ readAnswer (extract.said extracted) ⌝ }
+fn say_raw(value: Value, valid: bool) -> Answer
+    ensures { λ r. ⌜ r ≡ rawAnswer (valueOf value) valid ⌝ }
 {
-    match extracted {
-        Extracted::Number(v, valid) => say_reading(v, valid),
-        Extracted::Part(from, bytes, valid) => say_part(from.0 as u64, bytes as u64, valid),
-        Extracted::Refused(refusal) => refused_question(refusal),
+    match value {
+        Value::Number(v) => say_raw_number(v, valid),
+        Value::Part(from, bytes) => say_raw_part(from.0 as u64, bytes as u64, valid),
+    }
+}
+
+pub fn say_reading(reading: Reading) -> Answer
+    ensures { λ r. ⌜ r ≡ replyOf readingAnswer (saidReading reading) ⌝ }
+{
+    match reading {
+        Reading::Is(value, valid) => say_raw(value, valid),
+        Reading::Refused(refusal) => refused_question(refusal),
+    }
+}
+
+fn say_value(value: Value) -> Answer
+    ensures { λ r. ⌜ r ≡ valueAnswer (valueOf value) ⌝ }
+{
+    match value {
+        Value::Number(v) => say_integer(v),
+        Value::Part(from, bytes) => says(
+            b"string from #, # bytes",
+            false,
+            two(from.0 as u64, bytes as u64),
+        ),
     }
 }
 
 fn say_text(row: u64, from: usize, bytes: usize) -> Answer
-    ensures { λ r. ⌜ r ≡ engineeringAnswer (altxt row from bytes) ⌝ }
+    ensures { λ r. ⌜ r ≡ engineeredAnswer (text (record { row = row; start = from; bytes = bytes })) ⌝ }
 {
     let values = [row, from as u64, bytes as u64, 0, 0, 0, 0];
     compose(
@@ -98,46 +121,36 @@ fn say_text(row: u64, from: usize, bytes: usize) -> Answer
 }
 
 pub fn say_engineered(engineered: Engineered) -> Answer
-    ensures { λ r. ⌜ r ≡ engineeringAnswer (engineer.said engineered) ⌝ }
+    ensures { λ r. ⌜ r ≡ replyOf engineeredAnswer (saidEngineered engineered) ⌝ }
 {
     match engineered {
-        Engineered::Number(v) => say_integer(v),
-        Engineered::Part(from, bytes) => says(
-            b"string from #, # bytes",
-            false,
-            two(from.0 as u64, bytes as u64),
-        ),
+        Engineered::Is(value) => say_value(value),
         Engineered::Text(row, from, bytes) => say_text(row.0 as u64, from.0, bytes),
-        Engineered::OffCurve => refused(30, 0),
-        Engineered::OutOfRange => refused(31, 0),
-        Engineered::NoText => refused(32, 0),
         Engineered::Refused(refusal) => refused_question(refusal),
     }
 }
 
-pub fn say_stepped(stepped: Stepped) -> Answer
-    ensures { λ r. ⌜ r ≡ steppingAnswer (step.said stepped) ⌝ }
+fn say_state(state: LimitState) -> Answer
+    ensures { λ r. ⌜ r ≡ stateAnswer state ⌝ }
 {
-    match stepped {
-        Stepped::Is(state) => says(
-            b"APID #, count #, run #, announced #",
-            false,
-            [
-                state.apid as u64,
-                state.count as u64,
-                state.run as u64,
-                state.announced as u64,
-                0,
-                0,
-                0,
-            ],
-        ),
-        Stepped::OffCurve => refused(30, 0),
-        Stepped::OutOfRange => refused(31, 0),
-        Stepped::NoLimits => refused(33, 0),
-        Stepped::NoState => refused(34, 0),
-        Stepped::NotNewer => refused(35, 0),
-        Stepped::OtherApid => refused(36, 0),
-        Stepped::Refused(refusal) => refused_question(refusal),
+    let apid = state.apid as u64;
+    let count = state.count as u64;
+    let run = state.run as u64;
+    let announced = state.announced as u64;
+    says(
+        b"APID #, count #, run #, announced #",
+        false,
+        [apid, count, run, announced, 0, 0, 0],
+    )
+}
+
+pub fn say_stepped(stepped: Stepped) -> Answer
+    ensures { λ r. ⌜ r ≡ replyOf stateAnswer (saidStep (stepped .answer) (stepped .state)) ⌝ }
+{
+    let state = stepped.state;
+    let taken = stepped.answer;
+    match taken {
+        step::Answer::Taken => say_state(state),
+        step::Answer::Refused(refusal) => refused_question(refusal),
     }
 }

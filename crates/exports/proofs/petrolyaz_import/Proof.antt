@@ -1,9 +1,10 @@
 -- What `import` says, told, and the cells as it leaves them.
 use mathlib.Core.Path.{refl, ap}
-use Rattle.exports.specs.Answers.{ofImport}
-use Rattle.exports.proofs.SmallPlaces.{import-small}
-use Rattle.exports.proofs.AnswerLaws.{small-same, import-told}
 use borrow.Author.Needs.{needs}
+use Rattle.refusal_places.proofs.SmallLaws.{small-same}
+use Rattle.exports.specs.Answers.{countsOf}
+use Rattle.exports.proofs.ImportPlaces.{import-small}
+use Rattle.exports.proofs.AnswerLaws.{import-told}
 use Rattle.exports.proofs.petrolyaz_import.Statement.{statement}
 use Rattle.exports.proofs.petrolyaz_import.Tie as tie
 
@@ -11,7 +12,7 @@ import-requires : tie.Need-import-requires
 import-requires c κs = search needs
 
 tell-imported-requires : tie.Need-tell-imported-requires
-tell-imported-requires c κs = small-same (ap ofImport (c .before .before .before .import .ensures .0)) (import-small _ refl _)
+tell-imported-requires c κs = small-same (ap countsOf (c .before .before .before .import .ensures .0)) (import-small _ refl _)
 
 same-length : tie.Need-same-length
 same-length c = search needs

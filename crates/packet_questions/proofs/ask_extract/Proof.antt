@@ -18,8 +18,8 @@ column-at-requires c κs = search needs
 extract-requires : tie.Need-extract-requires
 extract-requires c κs = search needs
 
-say-extracted-requires : tie.Need-say-extracted-requires
-say-extracted-requires c κs = search needs
+say-reading-requires : tie.Need-say-reading-requires
+say-reading-requires c κs = search needs
 
 enum-told : tie.Need-enum-told
 enum-told c = search needs
@@ -33,7 +33,7 @@ returns c = let column-at-is = c .before .before .column-at .ensures in
     let k = c .before .before .before .before .k .given .0 .0 in
     let k-is = c .before .before .before .before .k .given .1 in
     let occurrence-of-is = c .before .before .before .before .before .before .occurrence-of .ensures in
-    rw (c .say-extracted .ensures, c .before .extract .ensures, column-at-is)
+    rw (c .say-reading .ensures, c .before .extract .ensures, column-at-is)
     (by-natural _ _ k (sym occurrence-of-is ∙ k-is))
 
 returns-2 : tie.Need-returns-2
@@ -48,7 +48,7 @@ ask-extract-spec =
     enum-known-k
     column-at-requires
     extract-requires
-    say-extracted-requires
+    say-reading-requires
     enum-told
     unread-requires
     returns

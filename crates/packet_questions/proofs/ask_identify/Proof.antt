@@ -1,7 +1,7 @@
 -- No text follows the question.
 use mathlib.Core.Path.{ap, _∙_}
 use Rattle.packet_questions.proofs.PacketReplyLaws.{identify-asked, identify-unread}
-use Rattle.replies.specs.Replies.{identifiedAnswer}
+use Rattle.replies.specs.Replies.{replyOf, identityAnswer}
 use borrow.Author.Needs.{needs}
 use Rattle.packet_questions.proofs.ask_identify.Statement.{statement}
 use Rattle.packet_questions.proofs.ask_identify.Tie as tie
@@ -13,7 +13,7 @@ say-identified-requires : tie.Need-say-identified-requires
 say-identified-requires c κs = search needs
 
 returns : tie.Need-returns
-returns c = c .say-identified .ensures ∙ ap identifiedAnswer (c .before .identify .ensures) ∙ identify-asked _ _ _ (c .before .before .if1 .taken)
+returns c = c .say-identified .ensures ∙ ap (replyOf identityAnswer) (c .before .identify .ensures) ∙ identify-asked _ _ _ (c .before .before .if1 .taken)
 
 unread-requires : tie.Need-unread-requires
 unread-requires c κs = search needs

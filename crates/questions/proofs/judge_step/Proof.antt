@@ -20,9 +20,6 @@ slice-aggregate-compare c = search needs
 compare-requires : tie.Need-compare-requires
 compare-requires c κs = search needs
 
-state-after-requires : tie.Need-state-after-requires
-state-after-requires c κs = search needs
-
 returns : tie.Need-returns
 unfolding stepJudged
 returns c = judged-parts (cc) (cc)
@@ -36,5 +33,4 @@ judge-step-spec =
     table-at-requires
     slice-aggregate-compare
     compare-requires
-    state-after-requires
     returns)

@@ -1,10 +1,9 @@
 -- Case by case.
 use mathlib.Core.Path.{refl, ap}
 use borrow.Author.Needs.{needs}
-use Rattle.packets.specs.Identification as identify
-use Rattle.packets.specs.declared.identify.Identified.{Identified}
-use Rattle.exports.specs.Answers.{ofIdentification}
-use Rattle.exports.proofs.AnswerLaws.{kept, place-small, told-refusal, told-values}
+use Rattle.identification.specs.Identification.{saidIdentified}
+use Rattle.exports.specs.Answers.{ofIdentity}
+use Rattle.exports.proofs.AnswerLaws.{kept, place-small, told-refused, told-values}
 use Rattle.exports.proofs.tell.tell_identified.Statement.{statement}
 use Rattle.exports.proofs.tell.tell_identified.Tie as tie
 
@@ -50,19 +49,26 @@ write-requires c κs = search needs
 enum-known-identified-2 : tie.Need-enum-known-identified-2
 enum-known-identified-2 c = search needs
 
-refuse-question-requires : tie.Need-refuse-question-requires
-unfolding ofIdentification identify.said
-refuse-question-requires c κs = place-small _ _ (ap (λ (x : Identified). ofIdentification (identify.said x)) (c .before .identified2 .given .1)) (c .before .before .before .pre)
+refuse-requires : tie.Need-refuse-requires
+unfolding saidIdentified
+refuse-requires c κs = place-small _ (ap saidIdentified (c .before .identified2 .given .1)) (c .before .before .before .pre)
 
 returns : tie.Need-returns
-unfolding ofIdentification identify.said
+unfolding saidIdentified ofIdentity
 returns c =
-    told-values _ (ap (λ (x : Identified). ofIdentification (identify.said x)) (c .before .before .before .before .before .before .before .before .before .before .before .before .before .before .identified .given .1)) (c .write .ensures)
-    (kept (c .before .before .before .before .before .before .before .before .before .before .before .as-word .ensures) (search needs) (kept (c .before .before .before .before .before .before .before .before .before .as-word2 .ensures) (search needs) (kept (c .before .before .before .before .before .before .before .as-word3 .ensures) (search needs) (kept (c .before .before .before .before .before .as-word4 .ensures) (search needs) (kept (c .before .before .before .as-word5 .ensures) (search needs) (kept (c .before .before .as-word6 .ensures) (search needs) (kept (c .before .as-word7 .ensures) (search needs) refl)))))))
+    let m = c .before .before .before .before .before .before .before .before .before .before .before .before .before .before in
+    told-values ofIdentity _ (ap saidIdentified (m .identified .given .1)) (c .write .ensures)
+    (kept (c .before .before .before .before .before .before .before .before .before .before .before .as-word .ensures) (search needs)
+    (kept (c .before .before .before .before .before .before .before .before .before .as-word2 .ensures) (search needs)
+    (kept (c .before .before .before .before .before .before .before .as-word3 .ensures) (search needs)
+    (kept (c .before .before .before .before .before .as-word4 .ensures) (search needs)
+    (kept (c .before .before .before .as-word5 .ensures) (search needs)
+    (kept (c .before .before .as-word6 .ensures) (search needs)
+    (kept (c .before .as-word7 .ensures) (search needs) refl)))))))
 
 returns-2 : tie.Need-returns-2
-unfolding ofIdentification identify.said
-returns-2 c = told-refusal _ _ (ap (λ (x : Identified). ofIdentification (identify.said x)) (c .before .before .identified2 .given .1)) (c .refuse-question .ensures)
+unfolding saidIdentified
+returns-2 c = told-refused ofIdentity _ (ap saidIdentified (c .before .before .identified2 .given .1)) (c .refuse .ensures)
 
 pub tell-identified-spec : {M : Type 1} → statement M
 tell-identified-spec =
@@ -82,6 +88,6 @@ tell-identified-spec =
     as-word-requires-7
     write-requires
     enum-known-identified-2
-    refuse-question-requires
+    refuse-requires
     returns
     returns-2)

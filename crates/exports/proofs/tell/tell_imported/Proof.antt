@@ -1,10 +1,13 @@
 -- Case by case.
 use mathlib.Core.Path.{refl, ap}
+use native.Mathlib.Omega.{arith}
 use borrow.Author.Needs.{needs}
+use Rattle.outcomes.specs.Refusals.{numberOf, placeOf, refusedBy}
+use Rattle.outcomes.specs.declared.Refusal.the-variants.{TableTooLong, TooManyRows, TooFewCells}
 use Rattle.import.specs.Judged as import
 use Rattle.import.specs.declared.Imported.{Imported}
-use Rattle.exports.specs.Answers.{ofImport}
-use Rattle.exports.proofs.AnswerLaws.{kept, place-small, told-refusal, told-values}
+use Rattle.exports.specs.Answers.{countsOf, ofCounts}
+use Rattle.exports.proofs.AnswerLaws.{kept, place-small, told-refused, told-values}
 use Rattle.exports.proofs.tell.tell_imported.Statement.{statement}
 use Rattle.exports.proofs.tell.tell_imported.Tie as tie
 
@@ -24,39 +27,53 @@ enum-known-imported-2 : tie.Need-enum-known-imported-2
 enum-known-imported-2 c = search needs
 
 refuse-requires : tie.Need-refuse-requires
-unfolding ofImport import.said
-refuse-requires c κs = place-small _ _ (ap (λ (x : Imported). ofImport (import.said x)) (c .before .imported2 .given .1)) (c .before .before .before .pre)
+unfolding countsOf import.said refusedBy numberOf placeOf
+refuse-requires c κs =
+    place-small (TableTooLong (record { 0 = c .before .imported2 .given .0 .0 }))
+    (ap (λ (x : Imported). countsOf (import.said x)) (c .before .imported2 .given .1))
+    (c .before .before .before .pre)
 
 enum-known-imported-3 : tie.Need-enum-known-imported-3
 enum-known-imported-3 c = search needs
 
 refuse-requires-2 : tie.Need-refuse-requires-2
-unfolding ofImport import.said
-refuse-requires-2 c κs = place-small _ _ (ap (λ (x : Imported). ofImport (import.said x)) (c .before .imported3 .given .1)) (c .before .before .before .pre)
+unfolding countsOf import.said refusedBy numberOf placeOf
+refuse-requires-2 c κs =
+    place-small (TooManyRows (record { 0 = c .before .imported3 .given .0 .0 }))
+    (ap (λ (x : Imported). countsOf (import.said x)) (c .before .imported3 .given .1))
+    (c .before .before .before .pre)
 
 enum-told : tie.Need-enum-told
 enum-told c = search needs
 
 refuse-requires-3 : tie.Need-refuse-requires-3
-refuse-requires-3 c κs = search needs
+unfolding countsOf import.said refusedBy numberOf placeOf
+refuse-requires-3 c κs = omega arith
 
 returns : tie.Need-returns
-unfolding ofImport import.said
+unfolding countsOf ofCounts import.said
 returns c =
-    told-values _ (ap (λ (x : Imported). ofImport (import.said x)) (c .before .before .before .before .before .imported .given .1)) (c .write .ensures)
+    told-values ofCounts _ (ap (λ (x : Imported). countsOf (import.said x)) (c .before .before .before .before .before .imported .given .1))
+    (c .write .ensures)
     (kept (c .before .before .before .as-word .ensures) (search needs) (kept (c .before .before .as-word2 .ensures) (search needs) refl))
 
 returns-2 : tie.Need-returns-2
-unfolding ofImport import.said
-returns-2 c = told-refusal _ _ (ap (λ (x : Imported). ofImport (import.said x)) (c .before .before .imported2 .given .1)) (c .refuse .ensures)
+unfolding countsOf import.said refusedBy numberOf placeOf
+returns-2 c =
+    told-refused ofCounts (TableTooLong (record { 0 = c .before .before .imported2 .given .0 .0 }))
+    (ap (λ (x : Imported). countsOf (import.said x)) (c .before .before .imported2 .given .1))
+    (c .refuse .ensures)
 
 returns-3 : tie.Need-returns-3
-unfolding ofImport import.said
-returns-3 c = told-refusal _ _ (ap (λ (x : Imported). ofImport (import.said x)) (c .before .before .imported3 .given .1)) (c .refuse2 .ensures)
+unfolding countsOf import.said refusedBy numberOf placeOf
+returns-3 c =
+    told-refused ofCounts (TooManyRows (record { 0 = c .before .before .imported3 .given .0 .0 }))
+    (ap (λ (x : Imported). countsOf (import.said x)) (c .before .before .imported3 .given .1))
+    (c .refuse2 .ensures)
 
 returns-4 : tie.Need-returns-4
-unfolding ofImport import.said
-returns-4 c = told-refusal _ _ (ap (λ (x : Imported). ofImport (import.said x)) (c .before .enum-told .given .1)) (c .refuse3 .ensures)
+unfolding countsOf import.said refusedBy numberOf placeOf
+returns-4 c = told-refused ofCounts TooFewCells (ap (λ (x : Imported). countsOf (import.said x)) (c .before .enum-told .given .1)) (c .refuse3 .ensures)
 
 pub tell-imported-spec : {M : Type 1} → statement M
 tell-imported-spec =

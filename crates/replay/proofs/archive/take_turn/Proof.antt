@@ -1,7 +1,9 @@
 -- One packet, or none.
+use Prim.Native.Nat.{ℕ}
 use mathlib.Core.Path.{refl}
+use lib.ListN.{replicate, length-replicate}
 use borrow.Author.Needs.{needs}
-use Rattle.replay.proofs.TurnLaws.{played-none, played-one}
+use Rattle.replay.proofs.TurnLaws.{played-none, played-one, framed-whole}
 use Rattle.replay.proofs.archive.take_turn.Statement.{statement}
 use Rattle.replay.proofs.archive.take_turn.Tie as tie
 
@@ -48,22 +50,27 @@ enum-told-3 : tie.Need-enum-told-3
 enum-told-3 c = search needs
 
 returns : tie.Need-returns
-returns c = played-one _ _ _ _ (c .before .offer .ensures)
+returns c =
+    let t = c .before .before .before .before .before in
+    let n = t .before .before .before .before .next-packet in
+    let size = length-replicate {A = ℕ} 8192 0 in
+    let whole = framed-whole (replicate 8192 0) _ (t .length .given .1) (c .before .before .part .ensures) (n .kept .1 .0) size (n .ensures) in
+    played-one _ _ _ whole (c .before .offer .ensures)
 
 returns-2 : tie.Need-returns-2
-returns-2 c = played-none _ _ _ refl
+returns-2 c = played-none _ _ refl
 
 returns-3 : tie.Need-returns-3
-returns-3 c = played-none _ _ _ refl
+returns-3 c = played-none _ _ refl
 
 returns-4 : tie.Need-returns-4
-returns-4 c = played-none _ _ _ refl
+returns-4 c = played-none _ _ refl
 
 returns-5 : tie.Need-returns-5
-returns-5 c = played-none _ _ _ refl
+returns-5 c = played-none _ _ refl
 
 returns-6 : tie.Need-returns-6
-returns-6 c = played-none _ _ _ refl
+returns-6 c = played-none _ _ refl
 
 pub take-turn-spec : {M : Type 1} → statement M
 take-turn-spec =

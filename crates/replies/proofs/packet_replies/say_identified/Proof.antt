@@ -1,6 +1,7 @@
 -- Case by case.
-use Rattle.packets.specs.Identification as identify
-use Rattle.replies.specs.Replies.{identifiedAnswer}
+use Rattle.outcomes.specs.Refusals.{refusedBy}
+use Rattle.identification.specs.Identification.{saidIdentified}
+use Rattle.replies.specs.Replies.{replyOf, identityAnswer}
 use borrow.Author.Needs.{needs}
 use Rattle.replies.proofs.packet_replies.say_identified.Statement.{statement}
 use Rattle.replies.proofs.packet_replies.say_identified.Tie as tie
@@ -33,11 +34,11 @@ refused-question-requires : tie.Need-refused-question-requires
 refused-question-requires c κs = search needs
 
 returns : tie.Need-returns
-unfolding identifiedAnswer identify.said
+unfolding replyOf identityAnswer saidIdentified
 returns c = rw (c .before .before .before .before .before .before .before .identified .given .1) (c .says .ensures)
 
 returns-2 : tie.Need-returns-2
-unfolding identifiedAnswer identify.said
+unfolding replyOf saidIdentified refusedBy
 returns-2 c = rw (c .before .before .identified2 .given .1) (c .refused-question .ensures)
 
 pub say-identified-spec : {M : Type 1} → statement M

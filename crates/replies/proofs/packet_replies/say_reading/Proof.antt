@@ -1,65 +1,38 @@
--- By whether it is valid.
-use mir.Facts.{toZ-ofZ}
-use mir.Val.{SFits}
-use mir.Syntax.{w64}
-use Rattle.replies.specs.Replies.{readAnswer}
+-- Case by case.
+use Rattle.outcomes.specs.Refusals.{refusedBy}
+use Rattle.parameters.specs.Readings.{saidReading}
+use Rattle.replies.specs.Replies.{replyOf, readingAnswer}
 use borrow.Author.Needs.{needs}
 use Rattle.replies.proofs.packet_replies.say_reading.Statement.{statement}
 use Rattle.replies.proofs.packet_replies.say_reading.Tie as tie
 
-less-requires : tie.Need-less-requires
-less-requires c κs = search needs
+enum-known-reading : tie.Need-enum-known-reading
+enum-known-reading c = search needs
 
-size-requires : tie.Need-size-requires
-size-requires c κs = search needs
+say-raw-requires : tie.Need-say-raw-requires
+say-raw-requires c κs = search needs
 
-slice-aggregate-says : tie.Need-slice-aggregate-says
-slice-aggregate-says c = search needs
+enum-known-reading-2 : tie.Need-enum-known-reading-2
+enum-known-reading-2 c = search needs
 
-one-requires : tie.Need-one-requires
-one-requires c κs = search needs
-
-says-requires : tie.Need-says-requires
-says-requires c κs = search needs
+refused-question-requires : tie.Need-refused-question-requires
+refused-question-requires c κs = search needs
 
 returns : tie.Need-returns
-unfolding readAnswer
-returns c = let if1 = c .before .before .before .if1 .taken in
-    let size-is = c .before .before .before .before .size .ensures in
-    let less-is = c .before .before .before .before .before .less .ensures in
-    let v = c .before .before .before .before .before .before .args .v in
-    let f : SFits w64 v = search needs in
-    simp (if1, c .says .ensures, c .before .one .ensures, size-is, less-is, toZ-ofZ f)
-
-slice-aggregate-says-2 : tie.Need-slice-aggregate-says-2
-slice-aggregate-says-2 c = search needs
-
-one-requires-2 : tie.Need-one-requires-2
-one-requires-2 c κs = search needs
-
-says-requires-2 : tie.Need-says-requires-2
-says-requires-2 c κs = search needs
+unfolding replyOf readingAnswer saidReading
+returns c = rw (c .before .before .reading .given .1) (c .say-raw .ensures)
 
 returns-2 : tie.Need-returns-2
-unfolding readAnswer
-returns-2 c = let if1 = c .before .before .before .if1 .left in
-    let size-is = c .before .before .before .before .size .ensures in
-    let less-is = c .before .before .before .before .before .less .ensures in
-    let v = c .before .before .before .before .before .before .args .v in
-    let f : SFits w64 v = search needs in
-    simp (if1, c .says2 .ensures, c .before .one2 .ensures, size-is, less-is, toZ-ofZ f)
+unfolding replyOf saidReading refusedBy
+returns-2 c = rw (c .before .before .reading2 .given .1) (c .refused-question .ensures)
 
 pub say-reading-spec : {M : Type 1} → statement M
 say-reading-spec =
     tie.close
     (tie.spec
-    less-requires
-    size-requires
-    slice-aggregate-says
-    one-requires
-    says-requires
+    enum-known-reading
+    say-raw-requires
+    enum-known-reading-2
+    refused-question-requires
     returns
-    slice-aggregate-says-2
-    one-requires-2
-    says-requires-2
     returns-2)

@@ -1,5 +1,5 @@
 -- The text follows.
-use Rattle.replies.specs.Replies.{engineeringAnswer}
+use Rattle.replies.specs.Replies.{engineeredAnswer}
 use borrow.Author.Needs.{needs}
 use Rattle.replies.proofs.packet_replies.say_text.Statement.{statement}
 use Rattle.replies.proofs.packet_replies.say_text.Tie as tie
@@ -11,7 +11,7 @@ compose-requires : tie.Need-compose-requires
 compose-requires c κs = search needs
 
 returns : tie.Need-returns
-unfolding engineeringAnswer
+unfolding engineeredAnswer
 returns c = c .compose .ensures
 
 pub say-text-spec : {M : Type 1} → statement M

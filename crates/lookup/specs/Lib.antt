@@ -1,4 +1,0 @@
-pub mod GoodRows
-pub mod Holder
-pub mod Listed
-pub mod Walk

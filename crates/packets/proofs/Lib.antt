@@ -1,9 +1,0 @@
-pub mod AtVerdicts
-pub mod ExtractLaws
-pub mod FoundLaws
-pub mod IdentifierLaws
-pub mod IdentifyLaws
-pub mod ParameterLaws
-pub mod RowLaws
-pub mod TakenLaws
-pub mod UnlocatedLaws

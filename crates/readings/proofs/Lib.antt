@@ -1,3 +1,0 @@
-pub mod RawLaws
-pub mod ReadingLaws
-pub mod ValidityLaw

@@ -1,3 +1,0 @@
-pub mod RawValues
-pub mod Readings
-pub mod Starts

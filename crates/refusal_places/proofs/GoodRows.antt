@@ -1,0 +1,149 @@
+-- A row that holds a key is a good row, of the table that has such keys.
+use mathlib.Core.Path.{_≡_, refl, sym, ap, subst, _∙_}
+use mathlib.Core.Logic.{_⊎_, inl, inr}
+use mathlib.Core.Bool.{Bool, true, false, cond}
+use mathlib.Core.List.{List, [], _∷_, List·Memᴰ, List·Memᴰ·head, List·Memᴰ·tail, List·Memᴰ·not-nil, List·Memᴰ·eq-of-singleton, List·Memᴰ·append-cases}
+use mathlib.Core.Option.{some}
+use Prim.Native.Nat.{ℕ, suc, _+_, _-_, _≤_}
+use native.Mathlib.Omega.{arith}
+use lib.ListN.{length, getD}
+use borrow.Author.Tests.{eqb-true}
+use Rattle.laws.proofs.Cases.{and-left}
+use Rattle.laws.proofs.Tests.{any-witness, keep-mem}
+use Rattle.lines.specs.Lines.{Line, linesOf}
+use Rattle.schemas.specs.declared.Table.{Table}
+use Rattle.schemas.specs.declared.Table.the-variants.{Pid, Pic, Plf, Pcf, Caf, Cap, Txf, Txp, Ocf, Ocp}
+use Rattle.rows.specs.Records.{pidRow}
+use Rattle.rows.specs.declared.records.PidRow.{PidRow}
+use Rattle.rows.specs.declared.letters.Valid.{Valid}
+use Rattle.rows.specs.declared.letters.Valid.the-variants.{Yes, No}
+use Rattle.formed.specs.Formed.{formed}
+use Rattle.verdicts.specs.Key.{Key, packet, structure, identification, location, parameter, curve, point, texts as textsKey, range, limits, check, sameKey}
+use Rattle.verdicts.specs.Facts.{pidKeys, pidFacts, picFacts, plfFacts, pcfFacts, cafFacts, capFacts, txfFacts, txpFacts, ocfFacts, ocpFacts, factsOf}
+use Rattle.verdicts.specs.Entries.{own, carried, allRows}
+use Rattle.verdicts.specs.Verdicts.{sound}
+use Rattle.verdicts.specs.Places.{textAt, noLine, entryAt, verdictAt}
+use Rattle.verdicts.proofs.EntryLaws.{own-reading}
+use Rattle.verdicts.proofs.GoodLaw.{good-law}
+use Rattle.verdicts.proofs.KeyLaws.{same-key-is}
+use Rattle.database.specs.Rows.{Row}
+use Rattle.database.specs.GoodRows.{rowsOf, rowsFrom, rowsIn, isGood, goodRows, tableOf, holdsKey, find, among, ofTables}
+
+-- a row that was found is one of the rows, and passes
+found-passes : (passes : Row → Bool) (rows : List Row) (r : Row) → find passes rows ≡ some r → List·Memᴰ r rows × (passes r ≡ true)
+unfolding find
+found-passes passes [] r e = absurd (let z : _≡_ {A = ℕ} 0 1 = cc in omega arith)
+found-passes passes (x ∷ rows) r e = by (passes x) refl e (found-passes passes rows r)
+  where
+    by : (b : Bool) → passes x ≡ b → cond b (some x) (find passes rows) ≡ some r → (find passes rows ≡ some r → List·Memᴰ r rows × (passes r ≡ true))
+        → List·Memᴰ r (x ∷ rows) × (passes r ≡ true)
+    by true t e ih = let q : r ≡ x = cc in (List·Memᴰ·head q, cc)
+    by false t e ih = let h = ih e in (List·Memᴰ·tail (h .0), h .1)
+
+-- The table of a key
+
+-- the table whose rows hold keys of this key space
+unfoldable pub ownerOf : Key → Table
+ownerOf (packet ptype stype apid pi1 pi2) = Pid
+ownerOf (structure spid) = Pid
+ownerOf (identification ptype stype apid) = Pic
+ownerOf (location name spid) = Plf
+ownerOf (parameter name) = Pcf
+ownerOf (curve numbr) = Caf
+ownerOf (point numbr x) = Cap
+ownerOf (textsKey numbr) = Txf
+ownerOf (range numbr from) = Txp
+ownerOf (limits name) = Ocf
+ownerOf (check name position) = Ocp
+
+of-one : (t : Table) (k l : Key) → ownerOf l ≡ t → List·Memᴰ k (l ∷ []) → ownerOf k ≡ t
+of-one t k l e m = ap ownerOf (List·Memᴰ·eq-of-singleton m) ∙ e
+
+of-pid : (v : Valid) (r : PidRow) (k : Key) → List·Memᴰ k (pidKeys v r) → ownerOf k ≡ Pid
+unfolding pidKeys ownerOf
+of-pid Yes r k (List·Memᴰ·head q) = ap ownerOf q
+of-pid Yes r k (List·Memᴰ·tail m) = of-one Pid k (structure (r .spid .0)) refl m
+of-pid No r k m = absurd (List·Memᴰ·not-nil m)
+
+of-table : (t : Table) (line : List ℕ) (k : Key) → List·Memᴰ k (factsOf t line .keys) → ownerOf k ≡ t
+unfolding ownerOf factsOf pidFacts picFacts plfFacts pcfFacts cafFacts capFacts txfFacts txpFacts ocfFacts ocpFacts
+of-table Pid line k m = of-pid (pidRow line .valid) (pidRow line) k m
+of-table Pic line k m = of-one Pic k _ refl m
+of-table Plf line k m = of-one Plf k _ refl m
+of-table Pcf line k m = of-one Pcf k _ refl m
+of-table Caf line k m = of-one Caf k _ refl m
+of-table Cap line k m = of-one Cap k _ refl m
+of-table Txf line k m = of-one Txf k _ refl m
+of-table Txp line k m = of-one Txp k _ refl m
+of-table Ocf line k m = of-one Ocf k _ refl m
+of-table Ocp line k m = of-one Ocp k _ refl m
+
+holds-owner : (k : Key) (row : Row) → holdsKey k row ≡ true → ownerOf k ≡ tableOf row
+unfolding holdsKey
+holds-owner k row e =
+    let w = any-witness (sameKey k) (factsOf (tableOf row) (row .bytes) .keys) e in
+    ap ownerOf (same-key-is k (w .0) (w .2)) ∙ of-table (tableOf row) (row .bytes) (w .0) (w .1)
+
+-- The line of a row
+
+abbrev LineOf : ℕ → ℕ → List Line → Row → Type 0
+LineOf t r ls row = (row .table ≡ t) × (r ≤ row .number) × (row .bytes ≡ getD ls (row .number - r) noLine .bytes)
+
+of-lines : (t r start : ℕ) (ls : List Line) (row : Row) → List·Memᴰ row (rowsOf t r start ls) → LineOf t r ls row
+unfolding rowsOf
+of-lines t r start [] row m = absurd (List·Memᴰ·not-nil m)
+of-lines t r start (l ∷ ls) row (List·Memᴰ·head q) =
+    let z : r - r ≡ 0 = omega arith in
+    rw (q, z) (refl, omega arith, refl)
+of-lines t r start (l ∷ ls) row (List·Memᴰ·tail m) =
+    let w = of-lines t (suc r) (start + length (l .bytes) + 1) ls row m in
+    let n : row .number - r ≡ suc (row .number - suc r) = omega (arith, w .1) in
+    (w .0, omega (arith, w .1), rw n (w .2))
+
+abbrev LineIn : ℕ → List (List ℕ) → Row → Type 0
+LineIn t texts row = (t ≤ row .table) × (row .bytes ≡ getD (linesOf (textAt texts (row .table - t))) (row .number - 1) noLine .bytes)
+
+in-tables : (t : ℕ) (tables : List Table) (texts : List (List ℕ)) (row : Row) → List·Memᴰ row (rowsFrom t tables texts) → LineIn t texts row
+unfolding rowsFrom
+in-tables t [] texts row m = absurd (List·Memᴰ·not-nil m)
+in-tables t (table ∷ tables) [] row m = absurd (List·Memᴰ·not-nil m)
+in-tables t (table ∷ tables) (text ∷ texts) row m = go (in-tables (suc t) tables texts row) (List·Memᴰ·append-cases (rowsOf t 1 0 (linesOf text)) m)
+  where
+    go : (List·Memᴰ row (rowsFrom (suc t) tables texts) → LineIn (suc t) texts row)
+        → List·Memᴰ row (rowsOf t 1 0 (linesOf text)) ⊎ List·Memᴰ row (rowsFrom (suc t) tables texts) → LineIn t (text ∷ texts) row
+    go ih (inl m′) =
+        let w = of-lines t 1 0 (linesOf text) row m′ in
+        let z : row .table - t ≡ 0 = omega (arith, w .0) in
+        (omega (arith, w .0), rw z (w .2))
+    go ih (inr m′) =
+        let w = ih m′ in
+        let n : row .table - t ≡ suc (row .table - suc t) = omega (arith, w .0) in
+        (omega (arith, w .0), rw n (w .1))
+
+-- A good row
+
+-- 01: "Good is 0": it is without reasons 1 to 8
+formed-line : (texts : List (List ℕ)) (u r : ℕ) → verdictAt texts u r ≡ 0 → formed (getD carried u Ocp) (getD (linesOf (textAt texts u)) (r - 1) noLine) ≡ 0
+unfolding verdictAt entryAt sound
+formed-line texts u r v =
+    sym (own-reading (getD carried u Ocp) (getD (linesOf (textAt texts u)) (r - 1) noLine))
+    ∙ eqb-true (own (entryAt texts u r .reading)) 0 (and-left _ _ (good-law (allRows texts) (entryAt texts u r) .0 v .isSound))
+
+-- a row has a line that passes its table's columns
+pub record HasLine (table : Table) (row : Row) : Type 0 where
+  pub line : Line
+  pub passes : formed table line ≡ 0
+  pub bytes : row .bytes ≡ line .bytes
+
+pub holder-line : (tables : List (List ℕ)) (k : Key) (row : Row) → ofTables tables .holder k ≡ some row → HasLine (ownerOf k) row
+unfolding ofTables among goodRows rowsIn isGood
+holder-line tables k row e =
+    let f = found-passes (holdsKey k) (goodRows tables) row e in
+    let g = keep-mem (isGood tables) (rowsIn tables) (f .0) in
+    let w = in-tables 0 carried tables row (g .0) in
+    let z : row .table - 0 ≡ row .table = omega arith in
+    record {
+      line = getD (linesOf (textAt tables (row .table))) (row .number - 1) noLine;
+      passes = rw (holds-owner k row (f .1)) (formed-line tables (row .table) (row .number) (eqb-true _ 0 (g .1)));
+      bytes = rw z at (w .1);
+    }

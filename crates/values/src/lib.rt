@@ -1,5 +1,0 @@
-// Engineering values: curves and texts.
-pub mod curve;
-pub mod engineer;
-pub mod members;
-pub mod text;
