@@ -30,7 +30,7 @@ use Rattle.database.specs.Rows.{Row}
 use Rattle.database.specs.GoodRows.{rowsOf, rowsFrom, rowsIn, isGood, goodRows, tableOf, holdsKey, find, among, ofTables}
 
 -- a row that was found is one of the rows, and passes
-found-passes : (passes : Row → Bool) (rows : List Row) (r : Row) → find passes rows ≡ some r → List·Memᴰ r rows × (passes r ≡ true)
+pub found-passes : (passes : Row → Bool) (rows : List Row) (r : Row) → find passes rows ≡ some r → List·Memᴰ r rows × (passes r ≡ true)
 unfolding find
 found-passes passes [] r e = absurd (let z : _≡_ {A = ℕ} 0 1 = cc in omega arith)
 found-passes passes (x ∷ rows) r e = by (passes x) refl e (found-passes passes rows r)
@@ -78,7 +78,7 @@ of-table Txp line k m = of-one Txp k _ refl m
 of-table Ocf line k m = of-one Ocf k _ refl m
 of-table Ocp line k m = of-one Ocp k _ refl m
 
-holds-owner : (k : Key) (row : Row) → holdsKey k row ≡ true → ownerOf k ≡ tableOf row
+pub holds-owner : (k : Key) (row : Row) → holdsKey k row ≡ true → ownerOf k ≡ tableOf row
 unfolding holdsKey
 holds-owner k row e =
     let w = any-witness (sameKey k) (factsOf (tableOf row) (row .bytes) .keys) e in

@@ -1,0 +1,136 @@
+-- Refusal 30 of an engineering value means exactly what 01 says, "raw value off an F curve".
+use mathlib.Core.Path.{_≡_, refl, sym, ap, subst, _∙_}
+use mathlib.Core.Logic.{_↔_}
+use mathlib.Core.Bool.{Bool, true, false, cond}
+use mathlib.Core.List.{List, [], _∷_, List·Memᴰ, List·Memᴰ·head, Memᴰ·append-right}
+use mathlib.Core.Option.{Option, none, some}
+use Prim.Native.Nat.{ℕ}
+use native.Mathlib.Omega.{arith}
+use lib.IntN.{ℤ}
+use lib.Signed.{ltZ}
+use Rattle.laws.proofs.Cases.{cond-cases}
+use Rattle.lines.specs.declared.names.Name.{Name}
+use Rattle.schemas.specs.declared.Table.{Table}
+use Rattle.schemas.specs.declared.Table.the-variants.{Pcf}
+use Rattle.rows.specs.Records.{pcfRow}
+use Rattle.rows.specs.declared.letters.Category.{Category}
+use Rattle.rows.specs.declared.letters.Category.the-variants.{Numeric, Status, Text}
+use Rattle.rows.specs.declared.records.PcfRow.{PcfRow}
+use Rattle.curves.specs.Line.{isRaw}
+use Rattle.verdicts.specs.Key.{parameter, curve}
+use Rattle.verdicts.specs.Facts.{anyRow, whole, itself, Naming, factsOf, pcfFacts}
+use Rattle.outcomes.specs.Outcome.{Outcome, answer, refused, andThen}
+use Rattle.outcomes.specs.Values.{number}
+use Rattle.database.specs.Rows.{Row, Rows}
+use Rattle.database.specs.GoodRows.{ofTables}
+use Rattle.engineering.specs.Curves.{Curve, curveOf, along}
+use Rattle.engineering.specs.OffCurve.{isOffCurve}
+use Rattle.engineering.specs.Scale.{scaleOf, onScale}
+use Rattle.engineering.specs.Texts as ranges
+use Rattle.engineering.specs.Engineering.{Engineered, value, asValue, asText, byCategory, engineered}
+use Rattle.refusal_places.proofs.GoodRows.{ownerOf}
+use Rattle.at_verdicts.specs.OffCurve.{OffItsCurve}
+use Rattle.at_verdicts.proofs.NumberLaws.{numberIn, Numbered, never-one, one-then, then-refused}
+use Rattle.at_verdicts.proofs.NamedRows.{Named, found-good, found-holds, named-row}
+use Rattle.at_verdicts.proofs.ParameterRows.{held-by}
+use Rattle.at_verdicts.proofs.CurveRefusal.{goodCurve, curve-is, curve-30}
+
+-- By category
+
+module _ (rows : Rows) (r : PcfRow) (raw : ℤ) where
+  along-curve : r .categ ≡ Numeric → r .curtx .given ≡ true → engineered rows r raw ≡ andThen (along (curveOf rows (r .curtx .name)) raw) asValue
+  unfolding engineered byCategory scaleOf onScale
+  along-curve c g = rw (c, g)
+
+  as-read : r .categ ≡ Numeric → r .curtx .given ≡ false → engineered rows r raw ≡ answer (value (number raw))
+  unfolding engineered byCategory scaleOf onScale asValue andThen
+  as-read c g = rw (c, g)
+
+  by-text : r .categ ≡ Status → engineered rows r raw ≡ andThen (ranges.textFor rows (r .curtx .name) raw) asText
+  unfolding engineered byCategory
+  by-text c = rw c
+
+  as-string : r .categ ≡ Text → engineered rows r raw ≡ answer (value (number raw))
+  unfolding engineered byCategory asValue
+  as-string c = rw c
+
+text-numbers : (o : Option Row) (raw : ℤ) → Numbered (32 ∷ []) (ranges.textIn o raw)
+unfolding ranges.textIn
+text-numbers none raw = refl
+text-numbers (some row) raw = cond-cases (λ (o : Outcome ranges.Text). Numbered (32 ∷ []) o) (ltZ (ranges.toOf row) raw) (λ _. refl) (λ _. refl)
+
+-- a text is refused with 32 only
+for-numbers : (rows : Rows) (r : PcfRow) (raw : ℤ) → Numbered (32 ∷ []) (andThen (ranges.textFor rows (r .curtx .name) raw) asText)
+unfolding ranges.textFor asText
+for-numbers rows r raw = one-then (32 ∷ []) (ranges.textFor rows (r .curtx .name) raw) asText (text-numbers _ raw) (λ t _. refl)
+
+value-refused : (o : Outcome ℤ) (n place : ℕ) → andThen o asValue ≡ refused n place → o ≡ refused n place
+unfolding andThen asValue
+value-refused (refused m q) n place e = cc
+value-refused (answer z) n place e = absurd (let w : _≡_ {A = ℕ} 0 1 = cc in omega arith)
+
+-- 01: "N may name a caf row"
+
+abbrev curtxNaming : PcfRow → Naming
+curtxNaming r = record { column = 12; key = curve (r .curtx .name); kind = itself anyRow; chained = false }
+
+curtx-named : (r : PcfRow) → r .categ ≡ Numeric → r .curtx .given ≡ true → List·Memᴰ (curtxNaming r) (pcfFacts r .names)
+unfolding pcfFacts
+curtx-named r c g =
+    let valid : Naming = record { column = 8; key = parameter (r .valid .name); kind = itself whole; chained = true } in
+    rw (c, g) (Memᴰ·append-right (cond (r .valid .given) (valid ∷ []) []) {t = curtxNaming r ∷ []} (List·Memᴰ·head refl))
+
+module _ (texts : List (List ℕ)) (name : Name) (row : Row) (found : ofTables texts .holder (parameter name) ≡ some row) where
+  abbrev pcf : PcfRow
+  pcf = pcfRow (row .bytes)
+
+  curtx-curve : pcf .categ ≡ Numeric → pcf .curtx .given ≡ true → Named texts (curtxNaming pcf)
+  unfolding ownerOf factsOf
+  curtx-curve c g =
+      let t = held-by (parameter name) row Pcf refl (found-holds texts (parameter name) row found) in
+      named-row texts row (found-good texts (parameter name) row found) (curtxNaming pcf)
+      (subst (λ (x : Table). List·Memᴰ (curtxNaming pcf) (factsOf x (row .bytes) .names)) (sym (t .0)) (curtx-named pcf c g))
+
+  module _ (raw : ℤ) (is : isRaw raw ≡ true) where
+    abbrev told : Outcome Engineered
+    told = engineered (ofTables texts) pcf raw
+
+    off-curve : told ≡ refused 30 0 → OffItsCurve (ofTables texts) pcf raw
+    off-curve e = go (pcf .categ) (pcf .curtx .given) refl refl
+      where
+        never : (v : Engineered) → told ≡ answer v → ⊥
+        never v q = let z : _≡_ {A = ℕ} 0 30 = ap (λ (o : Outcome Engineered). numberIn o) (sym q ∙ e) in omega arith
+
+        go : (c : Category) (given : Bool) → pcf .categ ≡ c → pcf .curtx .given ≡ given → OffItsCurve (ofTables texts) pcf raw
+        go Numeric true c g =
+            let w = curtx-curve c g in
+            let o = value-refused (along (curveOf (ofTables texts) (pcf .curtx .name)) raw) 30 0 (sym (along-curve (ofTables texts) pcf raw c g) ∙ e) in
+            record {
+              numeric = c;
+              given = g;
+              curve = goodCurve texts (pcf .curtx .name) (w .row) (w .found);
+              is = curve-is texts (pcf .curtx .name) (w .row) (w .found);
+              off = curve-30 texts (pcf .curtx .name) (w .row) (w .found) raw is .only o;
+            }
+        go Numeric false c g = absurd (never (value (number raw)) (as-read (ofTables texts) pcf raw c g))
+        go Status given c g =
+            absurd
+            (never-one 30 (32 ∷ []) (andThen (ranges.textFor (ofTables texts) (pcf .curtx .name) raw) asText) refl (for-numbers (ofTables texts) pcf raw)
+            (ap (λ (o : Outcome Engineered). numberIn o) (sym (by-text (ofTables texts) pcf raw c) ∙ e)))
+        go Text given c g = absurd (never (value (number raw)) (as-string (ofTables texts) pcf raw c))
+
+    off-refused : OffItsCurve (ofTables texts) pcf raw → told ≡ refused 30 0
+    off-refused u =
+        let w = curtx-curve (u .numeric) (u .given) in
+        let good : Curve = goodCurve texts (pcf .curtx .name) (w .row) (w .found) in
+        let c = curve-is texts (pcf .curtx .name) (w .row) (w .found) in
+        let i = u .is in
+        let q : u .curve ≡ good = cc in
+        let off : isOffCurve good raw ≡ true = ap (λ (x : Curve). isOffCurve x raw) (sym q) ∙ u .off in
+        along-curve (ofTables texts) pcf raw (u .numeric) (u .given)
+        ∙ then-refused (along (curveOf (ofTables texts) (pcf .curtx .name)) raw) asValue 30 0
+        (curve-30 texts (pcf .curtx .name) (w .row) (w .found) raw is .there off)
+
+    -- 30 of an engineering value, by the good pcf row of its parameter
+    pub engineered-30 : (told ≡ refused 30 0) ↔ OffItsCurve (ofTables texts) pcf raw
+    engineered-30 = (off-curve, off-refused)

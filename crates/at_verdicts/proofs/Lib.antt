@@ -1,0 +1,15 @@
+pub mod NumberLaws
+pub mod GoodRows
+pub mod NamedRows
+pub mod PacketNumbers
+pub mod ParameterRows
+pub mod Extraction26
+pub mod StepNumbers
+pub mod StepRefusals
+pub mod DistinctRows
+pub mod CountLaws
+pub mod CurvePoints
+pub mod CurveRefusal
+pub mod Engineering30
+pub mod RawRange
+pub mod Engineer30

@@ -1,0 +1,3 @@
+pub mod Unlocated
+pub mod Steps
+pub mod OffCurve
