@@ -5,7 +5,7 @@ use lib.IntN.{ℤ, pos}
 use Rattle.outcomes.specs.declared.Value as code
 use Rattle.outcomes.specs.declared.Value.the-variants.{Number, Part}
 
--- 01: "an integer, or the string's place and length"
+-- an integer, or a string. 01: "A string is answered as the part of the packet it is"
 pub data Value : Type 0 where
   number : ℤ → Value
   part : (start bytes : ℕ) → Value
