@@ -19,9 +19,9 @@ use Rattle.outcomes.specs.Values.{Value, number, part}
 use Rattle.database.specs.Rows.{Row}
 use Rattle.database.specs.GoodRows.{ofTables}
 use Rattle.identification.specs.Identification.{identifyBy}
-use Rattle.parameters.specs.RawValues.{rawOf}
+use Rattle.raw_values.specs.RawValues.{rawOf}
 use Rattle.parameters.specs.Located.{Located, byLines, needed, located}
-use Rattle.parameters.specs.Readings.{Reading, withValidity, readingWith, validity, reading}
+use Rattle.readings.specs.Readings.{Reading, withValidity, readingWith, validity, reading}
 use Rattle.engineering.specs.Engineering.{Engineered, engineered}
 use Rattle.calls.specs.Tables.{afterSizes, asking}
 use Rattle.calls.specs.Extraction.{extractBy}

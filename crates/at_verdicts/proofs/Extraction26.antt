@@ -12,9 +12,9 @@ use Rattle.outcomes.specs.Outcome.{Outcome, answer, refused, andThen}
 use Rattle.database.specs.Rows.{Row, Rows}
 use Rattle.database.specs.GoodRows.{ofTables}
 use Rattle.identification.specs.Identification.{identifyBy}
-use Rattle.parameters.specs.RawValues.{rawOf}
+use Rattle.raw_values.specs.RawValues.{rawOf}
 use Rattle.parameters.specs.Located.{byLines, needed, located}
-use Rattle.parameters.specs.Readings.{Reading, withValidity, readingWith, validity, reading}
+use Rattle.readings.specs.Readings.{Reading, withValidity, readingWith, validity, reading}
 use Rattle.calls.specs.Tables.{afterSizes, asking}
 use Rattle.calls.specs.Extraction.{extractBy}
 use Rattle.calls.specs.Calls.{extractOf}

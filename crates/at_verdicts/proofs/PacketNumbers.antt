@@ -33,8 +33,8 @@ use Rattle.identification.specs.Identifiers.{readIdentifier, identifierAt, iden
 use Rattle.identification.specs.Numbers.{picRowOf, identifiersFrom, fiveNumbers}
 use Rattle.identification.specs.Identification.{chosen, chooseBy, identifyHeaded, identifyBy}
 use Rattle.identification.specs.declared.Head.{Head}
-use Rattle.parameters.specs.RawValues.{isString, Wide, startOf, valueAt, partAt, fieldRaw, rawIn, rawOf}
-use Rattle.parameters.proofs.RawLaws.{width-wide}
+use Rattle.raw_values.specs.RawValues.{isString, Wide, startOf, valueAt, partAt, fieldRaw, rawIn, rawOf}
+use Rattle.raw_values.proofs.RawLaws.{width-wide}
 use Rattle.at_verdicts.proofs.NumberLaws.{Numbered, one-then}
 
 -- Identification

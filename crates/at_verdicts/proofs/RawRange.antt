@@ -26,8 +26,8 @@ use Rattle.rows.specs.declared.records.PcfRow.{PcfRow}
 use Rattle.curves.specs.Line.{within, isRaw}
 use Rattle.outcomes.specs.Outcome.{Outcome, answer, refused}
 use Rattle.outcomes.specs.Values.{Value, number}
-use Rattle.parameters.specs.RawValues.{isString, Wide, startOf, valueAt, partAt, fieldRaw, rawIn, rawOf}
-use Rattle.parameters.proofs.RawLaws.{width-wide}
+use Rattle.raw_values.specs.RawValues.{isString, Wide, startOf, valueAt, partAt, fieldRaw, rawIn, rawOf}
+use Rattle.raw_values.proofs.RawLaws.{width-wide}
 
 abbrev Ranged : Outcome Value → Type 0
 Ranged o = (z : ℤ) → o ≡ answer (number z) → isRaw z ≡ true

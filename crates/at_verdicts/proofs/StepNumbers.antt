@@ -20,7 +20,7 @@ use Rattle.outcomes.specs.Outcome.{Outcome, andThen}
 use Rattle.outcomes.specs.Values.{Value}
 use Rattle.database.specs.Rows.{Rows}
 use Rattle.identification.specs.declared.Head.{Head}
-use Rattle.parameters.specs.RawValues.{isString, rawOf}
+use Rattle.raw_values.specs.RawValues.{isString, rawOf}
 use Rattle.parameters.specs.Located.{Located}
 use Rattle.engineering.specs.Scale.{Scale, onScale}
 use Rattle.limit_state.specs.State.{isState, isNewer}

@@ -13,7 +13,7 @@ use Rattle.verdicts.specs.Key.{parameter}
 use Rattle.outcomes.specs.Outcome.{answer}
 use Rattle.outcomes.specs.Values.{number}
 use Rattle.database.specs.Rows.{Row, Rows}
-use Rattle.parameters.specs.Readings.{Reading}
+use Rattle.readings.specs.Readings.{Reading}
 use Rattle.engineering.specs.Curves.{Curve, curveOf}
 use Rattle.engineering.specs.OffCurve.{isOffCurve}
 use Rattle.calls.specs.Extraction.{extractBy}

@@ -20,9 +20,9 @@ use Rattle.outcomes.specs.declared.Value.the-variants as value
 use Rattle.database.specs.Rows.{Row, Rows}
 use Rattle.identification.proofs.OutcomeLaws.{told, then-answer, then-refused}
 use Rattle.parameters.specs.Located.{needed}
-use Rattle.parameters.specs.Readings.{saidReading}
-use Rattle.parameters.specs.declared.reading.Reading as reading
-use Rattle.parameters.specs.declared.reading.Reading.the-variants as read
+use Rattle.readings.specs.Readings.{saidReading}
+use Rattle.readings.specs.declared.Reading as reading
+use Rattle.readings.specs.declared.Reading.the-variants as read
 use Rattle.engineering.specs.Engineering.{Engineered, engineered, saidEngineered}
 use Rattle.engineering.specs.declared.engineer.Engineered.the-variants as is
 use Rattle.calls.specs.Extraction.{extractBy}

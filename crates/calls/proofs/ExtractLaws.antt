@@ -14,8 +14,8 @@ use Rattle.identification.specs.Identification.{identifyBy, saidIdentified}
 use Rattle.identification.specs.declared.Identified.{Identified}
 use Rattle.identification.specs.declared.Identified.the-variants as identified
 use Rattle.identification.proofs.OutcomeLaws.{told, then-answer, then-refused}
-use Rattle.parameters.specs.Readings.{Reading, reading, saidReading}
-use Rattle.parameters.specs.declared.reading.Reading.the-variants as read
+use Rattle.readings.specs.Readings.{Reading, reading, saidReading}
+use Rattle.readings.specs.declared.Reading.the-variants as read
 use Rattle.calls.specs.Extraction.{extractBy}
 
 module _ (rows : Rows) (p name : List ℕ) (k : ℕ) {i : Identified} (e : saidIdentified i ≡ identifyBy rows p) where

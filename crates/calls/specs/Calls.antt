@@ -8,7 +8,7 @@ use Rattle.tables.specs.Sizes.{sizesOf}
 use Rattle.outcomes.specs.Outcome.{Outcome, refused, andThen}
 use Rattle.identification.specs.Headed.{headFrom, headOf}
 use Rattle.identification.specs.Identification.{Identity, identifyBy}
-use Rattle.parameters.specs.Readings.{Reading}
+use Rattle.readings.specs.Readings.{Reading}
 use Rattle.engineering.specs.Engineering.{Engineered}
 use Rattle.limit_state.specs.declared.state.LimitState.{LimitState}
 use Rattle.stepping.specs.Step.{stepIn}

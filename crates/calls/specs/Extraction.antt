@@ -10,7 +10,7 @@ use Rattle.database.specs.Rows.{Rows}
 use Rattle.database.specs.GoodRows.{among}
 use Rattle.identification.specs.Headed.{headFrom, headOf}
 use Rattle.identification.specs.Identification.{identifyBy}
-use Rattle.parameters.specs.Readings.{Reading, reading}
+use Rattle.readings.specs.Readings.{Reading, reading}
 
 -- 01: "no good plf row for name and SPID": once the packet is identified, the reading of occurrence k in a packet of its SPID
 unfoldable pub extractBy : Rows → (p name : List ℕ) → (k : ℕ) → Outcome Reading

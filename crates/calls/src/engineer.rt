@@ -13,7 +13,7 @@ use loading::Loading;
 use loading::load;
 use outcomes::Refusal;
 use outcomes::Value;
-use parameters::reading::Reading;
+use readings::Reading;
 use tables::TABLES;
 ghost use mathlib.Core.Path.{_≡_};
 ghost use mathlib.Core.List.{map};

@@ -8,13 +8,13 @@ use lines::names::name_of;
 use loading::Loading;
 use loading::load;
 use outcomes::Refusal;
-use parameters::reading::Reading;
-use parameters::reading::read;
+use readings::Reading;
+use readings::read;
 use tables::TABLES;
 ghost use mathlib.Core.Path.{_≡_};
 ghost use mathlib.Core.List.{map};
 ghost use Rattle.database.specs.Arrays.{database, answers};
-ghost use Rattle.parameters.specs.Readings.{saidReading};
+ghost use Rattle.readings.specs.Readings.{saidReading};
 ghost use Rattle.calls.specs.Extraction.{extractBy};
 ghost use Rattle.calls.specs.Calls.{extractOf};
 

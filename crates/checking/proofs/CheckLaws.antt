@@ -17,9 +17,9 @@ use Rattle.outcomes.specs.Values.{Value}
 use Rattle.verdicts.specs.Key.{limits}
 use Rattle.database.specs.Rows.{Row, Rows}
 use Rattle.database.specs.Arrays.{database, rowAt, answers}
-use Rattle.parameters.specs.RawValues.{rawOf}
+use Rattle.raw_values.specs.RawValues.{rawOf}
 use Rattle.parameters.specs.Located.{byLines, located, atPlaces}
-use Rattle.parameters.specs.declared.locate.Places.{Places}
+use Rattle.parameters.specs.declared.Places.{Places}
 use Rattle.parameters.proofs.LocatedLaws.{at-found, at-missing}
 use Rattle.engineering.proofs.GatherLaws.{Listed}
 use Rattle.limit_state.specs.Held.{levelOf}

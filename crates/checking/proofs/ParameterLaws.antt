@@ -11,9 +11,9 @@ use Rattle.rows.specs.declared.records.OptionalCurve.{OptionalCurve}
 use Rattle.rows.specs.declared.records.OcfRow.{OcfRow}
 use Rattle.outcomes.specs.Outcome.{Outcome, refused, answer, andThen}
 use Rattle.database.specs.Rows.{Rows}
-use Rattle.parameters.specs.RawValues.{rawOf}
+use Rattle.raw_values.specs.RawValues.{rawOf}
 use Rattle.parameters.specs.Located.{byLines}
-use Rattle.parameters.specs.Readings.{validity}
+use Rattle.readings.specs.Readings.{validity}
 use Rattle.engineering.specs.Scale.{Scale, scaleOf, scaleIn}
 use Rattle.engineering.specs.declared.scale.Scale.the-variants.{AsRead}
 use Rattle.limit_state.specs.Checks.{Check}

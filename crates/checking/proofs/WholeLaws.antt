@@ -21,8 +21,8 @@ use Rattle.rows.specs.declared.records.PlfRow.{PlfRow}
 use Rattle.rows.specs.declared.records.PcfRow.{PcfRow}
 use Rattle.outcomes.specs.Outcome.{Outcome, answer, refused}
 use Rattle.outcomes.specs.Values.{Value, number}
-use Rattle.parameters.specs.RawValues.{isString, startOf, valueAt, fieldRaw, rawIn, rawOf}
-use Rattle.parameters.proofs.RawLaws.{width-wide}
+use Rattle.raw_values.specs.RawValues.{isString, startOf, valueAt, fieldRaw, rawIn, rawOf}
+use Rattle.raw_values.proofs.RawLaws.{width-wide}
 
 -- an integer, or 28 at a byte
 pub data Whole (byte : ℕ) : Outcome Value → Type 0 where

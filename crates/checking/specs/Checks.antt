@@ -12,9 +12,9 @@ use Rattle.outcomes.specs.Outcome.{Outcome, refused, answer, andThen}
 use Rattle.outcomes.specs.Values.{Value, number}
 use Rattle.verdicts.specs.Key.{limits}
 use Rattle.database.specs.Rows.{Row, Rows}
-use Rattle.parameters.specs.RawValues.{rawOf}
+use Rattle.raw_values.specs.RawValues.{rawOf}
 use Rattle.parameters.specs.Located.{Located, located}
-use Rattle.parameters.specs.Readings.{sameInteger, equals}
+use Rattle.readings.specs.Readings.{sameInteger, equals}
 use Rattle.limit_state.specs.Checks.{Check, checkOf}
 
 -- 01: "The checks are the good ocp rows of the name"

@@ -13,9 +13,9 @@ use Rattle.rows.specs.declared.records.OcfRow.{OcfRow}
 use Rattle.outcomes.specs.Outcome.{Outcome, refused, answer, andThen}
 use Rattle.outcomes.specs.Values.{Value, number, part}
 use Rattle.database.specs.Rows.{Rows}
-use Rattle.parameters.specs.RawValues.{rawOf}
+use Rattle.raw_values.specs.RawValues.{rawOf}
 use Rattle.parameters.specs.Located.{Located}
-use Rattle.parameters.specs.Readings.{validity}
+use Rattle.readings.specs.Readings.{validity}
 use Rattle.engineering.specs.Scale.{Scale, asRead, scaleOf, onScale}
 
 -- n occurrences from k on

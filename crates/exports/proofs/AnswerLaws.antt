@@ -17,7 +17,7 @@ use Rattle.outcomes.specs.Values.{Value, valueOf}
 use Rattle.outcomes.specs.declared.Value as declared
 use Rattle.outcomes.specs.Refusals.{numberOf, placeOf, refusedBy}
 use Rattle.outcomes.specs.declared.Refusal.{Refusal}
-use Rattle.parameters.specs.Readings.{Reading}
+use Rattle.readings.specs.Readings.{Reading}
 use Rattle.engineering.specs.Engineering.{Engineered, value}
 use Rattle.refusal_places.specs.Small.{placeIn, Small}
 use Rattle.exports.specs.Answers.{code, word, countsOf, ofCounts, ofValue, ofEngineered, resultOf, written, placesAfter, Told, ImportTold}

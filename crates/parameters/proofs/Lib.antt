@@ -1,5 +1,1 @@
-pub mod RawLaws
 pub mod LocatedLaws
-pub mod ReadingLaws
-pub mod ValidityLaw
-pub mod ParameterRows

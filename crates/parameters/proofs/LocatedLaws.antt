@@ -10,7 +10,7 @@ use Rattle.verdicts.specs.Key.{location, parameter}
 use Rattle.database.specs.Rows.{Row, Rows}
 use Rattle.database.specs.Arrays.{rowAt}
 use Rattle.parameters.specs.Located.{byLines, needed, located, atPlaces}
-use Rattle.parameters.specs.declared.locate.Places.{Places}
+use Rattle.parameters.specs.declared.Places.{Places}
 
 module _ (rows : Rows) (spid : ℕ) (name : Name) where
   pub no-plf : rows .holder (location name spid) ≡ none → refused 26 0 ≡ located rows spid name

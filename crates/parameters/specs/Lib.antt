@@ -1,3 +1,1 @@
-pub mod RawValues
 pub mod Located
-pub mod Readings

@@ -15,7 +15,7 @@ use Rattle.verdicts.specs.Key.{location, parameter}
 use Rattle.database.specs.Rows.{Row, Rows}
 use Rattle.database.specs.GoodRows.{find, among}
 use Rattle.database.specs.Arrays.{rowAt}
-use Rattle.parameters.specs.declared.locate.Places.{Places}
+use Rattle.parameters.specs.declared.Places.{Places}
 
 pub record Located : Type 0 where
   pub plf : PlfRow

@@ -38,9 +38,9 @@ use Rattle.identification.specs.Identifiers.{readIdentifier, identifierAt, iden
 use Rattle.identification.specs.Numbers.{typeOf, subtypeOf, orOther, picRowOf, identifiersFrom, fiveNumbers}
 use Rattle.identification.specs.Identification.{chosen, chooseBy, identifyHeaded, identifyBy}
 use Rattle.identification.specs.declared.Head.{Head}
-use Rattle.parameters.specs.RawValues.{startOf, isString, valueAt, fieldRaw, rawIn, rawOf}
+use Rattle.raw_values.specs.RawValues.{startOf, isString, valueAt, fieldRaw, rawIn, rawOf}
 use Rattle.parameters.specs.Located.{Located, byLines, needed, located}
-use Rattle.parameters.specs.Readings.{withValidity, readingWith, reading}
+use Rattle.readings.specs.Readings.{withValidity, readingWith, reading}
 use Rattle.engineering.specs.Curves.{Curve, outcomeOf, along}
 use Rattle.engineering.specs.Scale.{Scale, asRead, onCurve, scaleOf, onScale}
 use Rattle.engineering.specs.Texts.{Text, toOf, altxtOf, textIn, textFor}

@@ -18,7 +18,7 @@ use Rattle.database.specs.Rows.{Row, Rows}
 use Rattle.identification.specs.Headed.{headOf}
 use Rattle.identification.specs.Identification.{identifyHeaded}
 use Rattle.identification.specs.declared.Head.{Head}
-use Rattle.parameters.specs.RawValues.{rawOf}
+use Rattle.raw_values.specs.RawValues.{rawOf}
 use Rattle.parameters.specs.Located.{Located, located}
 use Rattle.engineering.specs.Scale.{Scale, onScale}
 use Rattle.limit_state.specs.State.{isState, isNewer}

@@ -7,8 +7,8 @@ use lib.IntN.{ℤ}
 use Rattle.laws.proofs.Cases.{false≢true}
 use Rattle.outcomes.specs.Outcome.{Outcome, refused, answer, andThen}
 use Rattle.database.specs.Rows.{Rows}
-use Rattle.parameters.specs.RawValues.{rawOf}
-use Rattle.parameters.specs.Readings.{validity}
+use Rattle.raw_values.specs.RawValues.{rawOf}
+use Rattle.readings.specs.Readings.{validity}
 use Rattle.engineering.specs.Scale.{Scale}
 use Rattle.limit_state.specs.Severity.{afterReadings}
 use Rattle.limit_state.specs.declared.state.LimitState.{LimitState}

@@ -44,9 +44,9 @@ use Rattle.verdicts.specs.Key.{keyWords, sameKey}
 use Rattle.verdicts.specs.Facts.{factsOf, pidKeys, pidFacts, plfFacts, pcfFacts, cafFacts, capFacts, ocfFacts, ocpFacts}
 use Rattle.database.specs.Rows.{Row, Rows}
 use Rattle.database.specs.GoodRows.{holdsKey, inGroup, find, among}
-use Rattle.parameters.specs.RawValues.{isString, startOf, valueAt, fieldRaw, rawIn, rawOf}
+use Rattle.raw_values.specs.RawValues.{isString, startOf, valueAt, fieldRaw, rawIn, rawOf}
 use Rattle.parameters.specs.Located.{byLines, needed, located}
-use Rattle.parameters.specs.Readings.{sameInteger, equals, agrees, withValidity, readingWith, validWithin, validity}
+use Rattle.readings.specs.Readings.{sameInteger, equals, agrees, withValidity, readingWith, validWithin, validity}
 use Rattle.identification.specs.Headed.{headFrom, headOf}
 use Rattle.identification.specs.Numbers.{orOther, picRowOf, identifiersFrom, numbersOf, fiveNumbers}
 use Rattle.identification.specs.Identification.{chosen, chooseBy, identifyHeaded}

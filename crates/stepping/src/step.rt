@@ -17,7 +17,7 @@ use limit_state::state::is_state;
 use lines::names::Name;
 use lines::names::name_of;
 use outcomes::Refusal;
-use parameters::locate::locate;
+use parameters::locate;
 use rows::decoded::ocf_of;
 use tables::TABLES;
 use units::Spid;

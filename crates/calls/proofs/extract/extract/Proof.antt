@@ -1,5 +1,5 @@
 -- By what loading the tables answers.
-use Rattle.parameters.specs.Readings.{saidReading}
+use Rattle.readings.specs.Readings.{saidReading}
 use Rattle.calls.specs.Extraction.{extractBy}
 use Rattle.calls.specs.Calls.{extractOf}
 use Rattle.calls.proofs.LoadLaws.{room, never-short, asked, too-long, too-many}

@@ -4,7 +4,7 @@ use mir.Facts.{toZ-ofZ}
 use mir.Syntax.{w64}
 use mir.Val.{SFits, toZ, ofZ}
 use borrow.Author.Needs.{needs}
-use Rattle.parameters.proofs.ReadingLaws.{not-true, not-false}
+use Rattle.readings.proofs.ReadingLaws.{not-true, not-false}
 use Rattle.checking.specs.Checks.{hasValue}
 use Rattle.checking.proofs.CheckLaws.{applies-free, applies-nowhere, applies-located}
 use Rattle.checking.proofs.checks.applies.Statement.{statement}

@@ -2,8 +2,8 @@
 use mathlib.Core.Path.{ap, _∙_}
 use mir.Facts.{toZ-ofZ}
 use Rattle.outcomes.specs.Refusals.{refusedBy}
-use Rattle.parameters.specs.RawValues.{saidRaw}
-use Rattle.parameters.specs.Readings.{equals}
+use Rattle.raw_values.specs.RawValues.{saidRaw}
+use Rattle.readings.specs.Readings.{equals}
 use Rattle.checking.specs.Checks.{hasValue}
 use borrow.Author.Needs.{needs}
 use Rattle.checking.proofs.checks.has_value.Statement.{statement}

@@ -12,7 +12,7 @@ use Rattle.rows.specs.declared.records.PlfRow.{PlfRow}
 use Rattle.outcomes.specs.Outcome.{Outcome, answer, andThen}
 use Rattle.outcomes.specs.Values.{Value}
 use Rattle.outcomes.specs.Refusals.{refusedBy}
-use Rattle.parameters.specs.RawValues.{rawOf}
+use Rattle.raw_values.specs.RawValues.{rawOf}
 use Rattle.engineering.specs.Scale.{scaleIn}
 use Rattle.limit_state.specs.Checks.{checksIn, severityIn}
 use Rattle.checking.specs.Values.{integerIn}

@@ -1,7 +1,7 @@
 -- Each kind of raw value.
 use Rattle.outcomes.specs.Outcome.{andThen}
 use Rattle.outcomes.specs.Refusals.{refusedBy}
-use Rattle.parameters.specs.RawValues.{saidRaw}
+use Rattle.raw_values.specs.RawValues.{saidRaw}
 use Rattle.checking.specs.Pass.{saidNumber}
 use borrow.Author.Needs.{needs}
 use Rattle.checking.proofs.occurrences.number_in.Statement.{statement}

@@ -1,7 +1,7 @@
 -- Case by case.
 use mathlib.Core.Path.{ap, sym}
 use borrow.Author.Needs.{needs}
-use Rattle.parameters.specs.Readings.{saidReading}
+use Rattle.readings.specs.Readings.{saidReading}
 use Rattle.exports.specs.Answers.{ofReading}
 use Rattle.exports.proofs.AnswerLaws.{place-small, told-refused, told-same}
 use Rattle.exports.proofs.tell.tell_extracted.Statement.{statement}

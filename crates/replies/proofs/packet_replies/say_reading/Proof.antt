@@ -1,6 +1,6 @@
 -- Case by case.
 use Rattle.outcomes.specs.Refusals.{refusedBy}
-use Rattle.parameters.specs.Readings.{saidReading}
+use Rattle.readings.specs.Readings.{saidReading}
 use Rattle.replies.specs.Replies.{replyOf, readingAnswer}
 use borrow.Author.Needs.{needs}
 use Rattle.replies.proofs.packet_replies.say_reading.Statement.{statement}

@@ -1,7 +1,7 @@
 -- By the state, and then by the header.
 use mathlib.Core.Path.{sym, _∙_}
 use Rattle.outcomes.specs.Refusals.{refusedBy, numberOf, placeOf}
-use Rattle.parameters.proofs.ReadingLaws.{not-true, not-false}
+use Rattle.readings.proofs.ReadingLaws.{not-true, not-false}
 use Rattle.identification.specs.Headed.{saidHead}
 use Rattle.identification.proofs.OutcomeLaws.{told, then-refused}
 use Rattle.stepping.proofs.AnswerLaws.{answers-as, no-state, with-head, of-state}

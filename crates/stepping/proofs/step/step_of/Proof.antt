@@ -10,7 +10,7 @@ use Rattle.verdicts.specs.Key.{limits}
 use Rattle.database.specs.Arrays.{database, rowAt, answers}
 use Rattle.database.proofs.FindLaws.{holder-none, holder-some}
 use Rattle.parameters.proofs.LocatedLaws.{at-found, at-missing}
-use Rattle.parameters.proofs.ReadingLaws.{not-true, not-false}
+use Rattle.readings.proofs.ReadingLaws.{not-true, not-false}
 use Rattle.stepping.proofs.AnswerLaws.{answers-as, no-limits, no-place, with-place}
 use borrow.Author.Needs.{needs}
 use Rattle.stepping.proofs.step.step_of.Statement.{statement}

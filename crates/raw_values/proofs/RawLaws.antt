@@ -1,0 +1,234 @@
+-- Laws of raw values: the numbers of a line, the widths of fields, and a field past the packet's end.
+use mathlib.Core.Path.{_≡_, refl, sym, ap, _∙_}
+use mathlib.Core.Logic.{_⊎_, inl, inr}
+use mathlib.Core.Bool.{Bool, true, false, cond, _&&_, _||_}
+use mathlib.Core.List.{List}
+use mathlib.Core.Option.{Option, some, none}
+use Prim.Native.Nat.{ℕ, _+_, _-_, _*_, _/_, _^_, _<_, _≤_}
+use native.Mathlib.Nat.{mul-le-mul, lt-of-lt-of-le}
+use native.Mathlib.Omega.{arith}
+use lib.Dec.{eqb, ltb, leb}
+use lib.IntN.{ℤ, pos, negsuc}
+use lib.ListN.{length}
+use lib.Pow.{pow-mono}
+use lib.Signed.{mag}
+use mir.Syntax.{w64}
+use mir.Val.{SFits, toZ, ofZ}
+use mir.ValLaws.{toZ-pos}
+use borrow.Author.Tests.{lt-ltb, le-ltb, eq-eqb, ne-eqb, ltb-true, leb-true, eqb-true}
+use Rattle.laws.proofs.Cases.{cond-cases, bool-cases}
+use Rattle.laws.proofs.Words.{through-word}
+use Rattle.laws.specs.Said.{Said, value, refused as refusedWith}
+use Rattle.numbers.specs.Number.{numberOf}
+use Rattle.rows.specs.Values.{naturalFrom, naturalOr}
+use Rattle.fields.specs.Width.{bitsOf, within, integerWidth, widthOf}
+use Rattle.fields.specs.declared.width.Width.{Width}
+use Rattle.fields.specs.declared.width.Width.the-variants as width
+use Rattle.rows.specs.Records.{plfRow}
+use Rattle.rows.specs.declared.records.PlfRow.{PlfRow}
+use Rattle.rows.specs.declared.records.PcfRow.{PcfRow}
+use Rattle.fields.specs.Field.{saidUnsigned, unsignedAt}
+use Rattle.fields.specs.declared.field.Unsigned.{Unsigned}
+use Rattle.fields.specs.declared.field.Unsigned.the-variants as UV
+use Rattle.fields.specs.Sign.{complementOf, saidSigned, signedAt}
+use Rattle.fields.specs.declared.sign.Signed.{Signed}
+use Rattle.fields.specs.declared.sign.Signed.the-variants as SV
+use Rattle.fields.specs.Text.{stringAt}
+use Rattle.fields.proofs.FieldLaws.{field-outside, field-read, unsigned-read}
+use Rattle.fields.proofs.SignLaws.{signed-range}
+use Rattle.fields.proofs.TextLaws.{string-outside}
+use Rattle.outcomes.specs.Outcome.{Outcome, refused, answer}
+use Rattle.outcomes.specs.Values.{Value, number}
+use Rattle.raw_values.specs.RawValues.{isString, Wide, valueAt, partAt, fieldRaw, startOf, rawIn, rawOf}
+
+-- where an occurrence starts, a word holds its bits
+pub offset-bounded : (k l : ℕ) → k + 1 < 2 ^ 32 → l < 2 ^ 32 → k * l ≤ 4294967294 * 4294967295
+offset-bounded k l h g = mul-le-mul {n₁ = k} {m₁ = l} {n₂ = 4294967294} {m₂ = 4294967295} (omega arith) (omega arith)
+
+-- a number of a line is below 2 ^ 32
+natural-from : (default : ℕ) → default < 2 ^ 32 → (v : Option ℤ) → naturalFrom default v < 2 ^ 32
+unfolding naturalFrom
+natural-from default h none = h
+natural-from default h (some (pos n)) = cond-cases (λ (m : ℕ). m < 2 ^ 32) (ltb n (2 ^ 32)) (λ t. ltb-true _ _ t) (λ _. h)
+natural-from default h (some (negsuc n)) = h
+
+natural-bounded : (text : List ℕ) → naturalOr 0 text < 2 ^ 32
+unfolding naturalOr
+natural-bounded text = natural-from 0 (omega arith) (numberOf text)
+
+pub record Start-bounded (row : PlfRow) : Type 0 where
+  pub byte : row .offby .0 < 2 ^ 32
+  pub bit : row .offbi .0 < 2 ^ 32
+  pub length : row .lgocc .0 < 2 ^ 32
+  pub count : row .nbocc < 2 ^ 32
+
+pub start-bounded : (row : PlfRow) (line : List ℕ) → row ≡ plfRow line → Start-bounded row
+unfolding plfRow naturalOr
+start-bounded row line e =
+    rw e (record { byte = natural-bounded _; bit = natural-bounded _; length = natural-bounded _; count = natural-from 1 (omega arith) _ })
+
+-- so many bits are told only where the format code is in its range
+pub record In-range (m lowest highest bits n : ℕ) : Type 0 where
+  pub low : lowest ≤ m
+  pub high : m ≤ highest
+  pub is : n ≡ bits
+
+bits-within : (m lowest highest bits n : ℕ) → within m lowest highest bits ≡ some n → In-range m lowest highest bits n
+unfolding within
+bits-within m lowest highest bits n e = by (leb lowest m) (leb m highest) refl refl e
+  where
+    by : (a b : Bool) → leb lowest m ≡ a → leb m highest ≡ b → cond (a && b) (some bits) none ≡ some n → In-range m lowest highest bits n
+    by true true f g e = record { low = leb-true lowest m f; high = leb-true m highest g; is = cc }
+    by true false f g e = absurd (let z : _≡_ {A = ℕ} 0 1 = cc in omega arith)
+    by false b f g e = absurd (let z : _≡_ {A = ℕ} 0 1 = cc in omega arith)
+
+string-is : (ptc : ℕ) → isString ptc ≡ true → (ptc ≡ 7) ⊎ (ptc ≡ 8)
+unfolding isString
+string-is ptc e = by (eqb ptc 7) (eqb ptc 8) refl refl e
+  where
+    by : (a b : Bool) → eqb ptc 7 ≡ a → eqb ptc 8 ≡ b → (a || b) ≡ true → (ptc ≡ 7) ⊎ (ptc ≡ 8)
+    by true b f g e = inl (eqb-true ptc 7 f)
+    by false true f g e = inr (eqb-true ptc 8 g)
+    by false false f g e = absurd (let z : _≡_ {A = ℕ} 0 1 = cc in omega arith)
+
+-- a string has whole bytes
+bytes-of : (pfc n : ℕ) → within pfc 1 255 (8 * pfc) ≡ some n → 8 ≤ n
+bytes-of pfc n e = let r = bits-within pfc 1 255 (8 * pfc) n e in omega (arith, r .low, r .is)
+
+string-wide : (ptc pfc n : ℕ) → (ptc ≡ 7) ⊎ (ptc ≡ 8) → widthOf ptc pfc ≡ some n → 8 ≤ n
+unfolding widthOf
+string-wide ptc pfc n (inl s) e = bytes-of pfc n (rw s at e)
+string-wide ptc pfc n (inr s) e = bytes-of pfc n (rw s at e)
+
+-- any other field has 1 to 32 bits
+abbrev Narrow : ℕ → Type 0
+Narrow n = (1 ≤ n) × (n ≤ 32)
+
+few-bits : (pfc n : ℕ) → within pfc 1 32 pfc ≡ some n → Narrow n
+few-bits pfc n e = let r = bits-within pfc 1 32 pfc n e in (omega (arith, r .low, r .is), omega (arith, r .high, r .is))
+
+one-bit : (pfc n : ℕ) → within pfc 0 0 1 ≡ some n → Narrow n
+one-bit pfc n e = let r = bits-within pfc 0 0 1 n e in (omega (arith, r .is), omega (arith, r .is))
+
+integer-narrow : (pfc n : ℕ) → integerWidth pfc ≡ some n → Narrow n
+unfolding integerWidth
+integer-narrow pfc n e = by (eqb pfc 13) (eqb pfc 14) e
+  where
+    to-12 : within pfc 0 12 (pfc + 4) ≡ some n → Narrow n
+    to-12 e = let r = bits-within pfc 0 12 (pfc + 4) n e in (omega (arith, r .is), omega (arith, r .high, r .is))
+
+    by : (a b : Bool) → cond a (some 24) (cond b (some 32) (within pfc 0 12 (pfc + 4))) ≡ some n → Narrow n
+    by true b e = let m : n ≡ 24 = cc in (omega arith, omega arith)
+    by false true e = let m : n ≡ 32 = cc in (omega arith, omega arith)
+    by false false e = to-12 e
+
+other-narrow : (ptc pfc n : ℕ) → isString ptc ≡ false → widthOf ptc pfc ≡ some n → Narrow n
+unfolding widthOf isString
+other-narrow ptc pfc n s e = by (eqb ptc 1) (eqb ptc 2 || eqb ptc 6) (eqb ptc 3 || eqb ptc 4) (eqb ptc 7 || eqb ptc 8) s e
+  where
+    by : (a b c d : Bool) → d ≡ false
+        → cond a (within pfc 0 0 1) (cond b (within pfc 1 32 pfc) (cond c (integerWidth pfc) (cond d (within pfc 1 255 (8 * pfc)) none))) ≡ some n → Narrow n
+    by true b c d s e = one-bit pfc n e
+    by false true c d s e = few-bits pfc n e
+    by false false true d s e = integer-narrow pfc n e
+    by false false false true s e = absurd (let z : _≡_ {A = ℕ} 0 1 = cc in omega arith)
+    by false false false false s e = absurd (let z : _≡_ {A = ℕ} 0 1 = cc in omega arith)
+
+pub width-wide : (ptc pfc n : ℕ) → widthOf ptc pfc ≡ some n → Wide ptc n
+width-wide ptc pfc n e =
+    record {
+      some =
+          bool-cases (isString ptc)
+          (λ t. let h = string-wide ptc pfc n (string-is ptc t) e in omega arith)
+          (λ f. other-narrow ptc pfc n f e .0);
+      string = λ t. string-wide ptc pfc n (string-is ptc t) e;
+      other = λ f. other-narrow ptc pfc n f e .1;
+    }
+
+-- a field from a byte past the end is outside, whatever it is
+pub field-past : (p : List ℕ) (ptc n byte bit : ℕ) → length p < byte → bit < 8 → Wide ptc n → refused 28 byte ≡ fieldRaw p ptc n (8 * byte + bit)
+unfolding fieldRaw valueAt signedAt unsignedAt
+field-past p ptc n byte bit out low w =
+    let at : ℕ = 8 * byte + bit in
+    ap (refused 28) (whole byte bit low)
+    ∙ cond-cases (λ (r : Outcome Value). refused 28 (at / 8) ≡ r) (isString ptc)
+    (λ t. let h = w .string t in ap (valueAt at (partAt at (n / 8))) (string-outside p at (n / 8) (omega arith) (omega arith)))
+    (λ f. let h = w .other f in ap (valueAt at number) (cond-cases (λ s. refusedWith 28 ≡ s) (eqb ptc 4)
+    (λ _. field-outside (complementOf n) p at n (w .some) (omega arith) (omega (arith, w .some)))
+    (λ _. field-outside pos p at n (w .some) (omega arith) (omega (arith, w .some)))))
+  where
+    whole : (a b : ℕ) → b < 8 → a ≡ (8 * a + b) / 8
+    whole a b h = omega arith
+
+-- each kind of field
+module _ (p : List ℕ) (ptc n at : ℕ) where
+  pub field-string : isString ptc ≡ true → valueAt at (partAt at (n / 8)) (stringAt p at (n / 8)) ≡ fieldRaw p ptc n at
+  unfolding fieldRaw
+  field-string t = rw t
+
+  pub field-signed : isString ptc ≡ false → ptc ≡ 4 → valueAt at number (signedAt p at n) ≡ fieldRaw p ptc n at
+  unfolding fieldRaw
+  field-signed f e = rw (f, eq-eqb ptc 4 e)
+
+  pub field-unsigned : isString ptc ≡ false → (ptc ≡ 4 → ⊥) → valueAt at number (unsignedAt p at n) ≡ fieldRaw p ptc n at
+  unfolding fieldRaw
+  field-unsigned f e = rw (f, ne-eqb ptc 4 e)
+
+-- what is made of the answer of a reader
+pub told : {A : Type 0} (says : A → Said) (at : ℕ) (make : ℤ → Value) (s : Said) (r : A) → says r ≡ s → {a : A} → r ≡ a
+    → valueAt at make (says a) ≡ valueAt at make s
+told says at make s r e q = ap (valueAt at make) (ap says (sym q) ∙ e)
+
+-- half of a field's numbers is at most half of a word's
+low-half : (n : ℕ) → n ≤ 64 → 2 ^ (n - 1) ≤ 2 ^ 63
+low-half n h = pow-mono {j = 63} (omega arith)
+
+module _ (p : List ℕ) (at n : ℕ) (r : Signed) (s : saidSigned r ≡ signedAt p at n) where
+  signed-fits : (z : ℤ) → value z ≡ signedAt p at n → mag z < 2 ^ 63
+  unfolding signedAt
+  signed-fits z e = omega (arith, signed-range p at n z e, low-half n (field-read (complementOf n) p at n z e .narrow))
+
+  pub signed-number : (z : ℤ) → r ≡ SV.Is z → answer (number (toZ w64 (ofZ w64 z))) ≡ valueAt at number (signedAt p at n)
+  unfolding saidSigned valueAt
+  signed-number z e =
+      ap (λ (x : ℤ). answer (number x)) (through-word z (signed-fits z (ap saidSigned (sym e) ∙ s)))
+      ∙ told saidSigned at number (signedAt p at n) r s e
+
+module _ (p : List ℕ) (at n : ℕ) (r : Unsigned) (s : saidUnsigned r ≡ unsignedAt p at n) where
+  unsigned-below : (v : ℕ) → n ≤ 32 → r ≡ UV.Is v → v < 2 ^ 32
+  unfolding saidUnsigned
+  unsigned-below v h e = lt-of-lt-of-le (unsigned-read p at n v (ap saidUnsigned (sym e) ∙ s) .below) (pow-mono h)
+
+  pub unsigned-fits : (v : ℕ) → n ≤ 32 → r ≡ UV.Is v → SFits w64 (pos v)
+  unsigned-fits v h e = record { sfits = omega (arith, unsigned-below v h e) }
+
+  pub unsigned-number : (v : ℕ) → n ≤ 32 → r ≡ UV.Is v → answer (number (toZ w64 v)) ≡ valueAt at number (unsignedAt p at n)
+  unfolding saidUnsigned valueAt
+  unsigned-number v h e =
+      ap (λ (x : ℤ). answer (number x)) (toZ-pos w64 v (omega (arith, unsigned-below v h e)))
+      ∙ told saidUnsigned at number (unsignedAt p at n) r s e
+
+-- an occurrence, by the row that a line decodes to
+module _ (p : List ℕ) (row plf : PlfRow) (ptc k n : ℕ) (d : row ≡ plf) where
+  pub no-occurrence : row .nbocc ≤ k → refused 27 0 ≡ rawIn p plf ptc k (some n)
+  unfolding rawIn
+  no-occurrence h = rw (← d, le-ltb _ _ h)
+
+  pub occurrence-is : (at : ℕ) → k < row .nbocc → at ≡ 8 * row .offby .0 + row .offbi .0 + k * row .lgocc .0 → fieldRaw p ptc n at ≡ rawIn p plf ptc k (some n)
+  unfolding rawIn startOf
+  occurrence-is at h e = rw (← d, lt-ltb _ _ h) (ap (fieldRaw p ptc n) e)
+
+-- a raw value, by the width of its type
+module _ (p : List ℕ) (plf : PlfRow) (pcf : PcfRow) (k : ℕ) where
+  pub packet-too-long : 8192 < length p → refused 20 0 ≡ rawOf p plf pcf k
+  unfolding rawOf
+  packet-too-long h = rw (lt-ltb _ _ h)
+
+  module _ (row : PcfRow) (w : Width) (short : length p ≤ 8192) (d : row ≡ pcf) (e : bitsOf w ≡ widthOf (row .ptc) (row .pfc)) where
+    pub raw-in-bits : (n : ℕ) → w ≡ width.Bits n → rawIn p plf (row .ptc) k (some n) ≡ rawOf p plf pcf k
+    unfolding rawOf bitsOf
+    raw-in-bits n b = rw (← d, le-ltb _ _ short) (ap (rawIn p plf (row .ptc) k) (sym (ap bitsOf b) ∙ e))
+
+    pub raw-refused : w ≡ width.Refused → refused 26 0 ≡ rawOf p plf pcf k
+    unfolding rawOf rawIn bitsOf
+    raw-refused b = rw (← d, le-ltb _ _ short) (ap (rawIn p plf (row .ptc) k) (sym (ap bitsOf b) ∙ e))

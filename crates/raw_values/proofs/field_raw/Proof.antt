@@ -1,0 +1,63 @@
+-- A byte past the packet's end is outside whatever the field; else by its kind.
+use mathlib.Core.Path.{sym, _∙_}
+use Rattle.outcomes.specs.Refusals.{refusedBy, numberOf, placeOf}
+use Rattle.raw_values.specs.RawValues.{saidRaw}
+use Rattle.raw_values.proofs.RawLaws.{field-past, field-string, field-signed, field-unsigned}
+use borrow.Author.Needs.{needs}
+use Rattle.raw_values.proofs.field_raw.Statement.{statement}
+use Rattle.raw_values.proofs.field_raw.Tie as tie
+
+returns : tie.Need-returns
+unfolding saidRaw refusedBy numberOf placeOf
+returns c = let s = c .before .before in field-past _ _ _ _ _ (c .if1 .taken) (s .pre .1) (s .pre .2)
+
+mul-at : tie.Need-mul-at
+mul-at c = search needs
+
+add-at : tie.Need-add-at
+add-at c = search needs
+
+is-string-requires : tie.Need-is-string-requires
+is-string-requires c κs = search needs
+
+cast-string-raw : tie.Need-cast-string-raw
+cast-string-raw c = search needs
+
+string-raw-requires : tie.Need-string-raw-requires
+string-raw-requires c κs = search needs
+
+returns-2 : tie.Need-returns-2
+returns-2 c = c .string-raw .ensures ∙ field-string _ _ _ _ (sym (c .before .before .is-string .ensures) ∙ c .before .if2 .taken)
+
+signed-raw-requires : tie.Need-signed-raw-requires
+signed-raw-requires c κs = search needs
+
+returns-3 : tie.Need-returns-3
+returns-3 c =
+    c .signed-raw .ensures
+    ∙ field-signed _ _ _ _ (sym (c .before .before .before .is-string .ensures) ∙ c .before .before .if2 .left) (c .before .if3 .taken)
+
+unsigned-raw-requires : tie.Need-unsigned-raw-requires
+unsigned-raw-requires c κs =
+    c .before .before .before .before .before .before .pre .2 .other (sym (c .before .before .is-string .ensures) ∙ c .before .if2 .left)
+
+returns-4 : tie.Need-returns-4
+returns-4 c =
+    c .unsigned-raw .ensures
+    ∙ field-unsigned _ _ _ _ (sym (c .before .before .before .is-string .ensures) ∙ c .before .before .if2 .left) (c .before .if3 .left)
+
+pub field-raw-spec : {M : Type 1} → statement M
+field-raw-spec =
+    tie.close
+    (tie.spec
+    returns
+    mul-at
+    add-at
+    is-string-requires
+    cast-string-raw
+    string-raw-requires
+    returns-2
+    signed-raw-requires
+    returns-3
+    unsigned-raw-requires
+    returns-4)

@@ -1,0 +1,127 @@
+// Raw values: occurrence k of a parameter in a packet, by the lines of its plf and pcf rows.
+mod place;
+
+use crate::place::FieldStart;
+use crate::place::start_of;
+use fields::field::Unsigned;
+use fields::field::read_unsigned;
+use fields::sign::Signed;
+use fields::sign::read_signed;
+use fields::text::StringAt;
+use fields::text::string_at;
+use fields::width::Width;
+use fields::width::width_of;
+use outcomes::Refusal;
+use outcomes::Value;
+use rows::decoded::pcf_of;
+use rows::decoded::plf_of;
+use units::BitOffset;
+use units::ByteOffset;
+ghost use mathlib.Core.Path.{_≡_};
+ghost use Prim.Native.Nat.{_+_, _*_, _<_, _≤_};
+ghost use lib.ListN.{length};
+ghost use mathlib.Core.Option.{some};
+ghost use Rattle.rows.specs.Records.{plfRow, pcfRow};
+ghost use Rattle.fields.specs.Field.{unsignedAt};
+ghost use Rattle.fields.specs.Sign.{signedAt};
+ghost use Rattle.fields.specs.Text.{stringAt};
+ghost use Rattle.outcomes.specs.Values.{number};
+ghost use Rattle.raw_values.specs.RawValues.{saidRaw, valueAt, partAt, isString, Wide, fieldRaw, rawIn, rawOf};
+
+// A packet has at most so many bytes.
+const PACKET_BYTES: usize = 8192;
+
+// A raw value, or why there is none.
+pub enum RawValue {
+    Is(Value),
+    Refused(Refusal),
+}
+
+fn is_string(ptc: u32) -> bool
+    ensures { λ r. ⌜ r ≡ isString ptc ⌝ }
+{
+    if ptc == 7 {
+        return true;
+    }
+    ptc == 8
+}
+
+fn string_raw(p: &[u8], at: BitOffset, bytes: usize) -> RawValue
+    ensures { λ r. ⌜ saidRaw r ≡ valueAt (at .0) (partAt (at .0) bytes) (stringAt (now (p .entry)) (at .0) bytes) ⌝ }
+{
+    let byte = ByteOffset(at.0 / 8);
+    match string_at(p, at, bytes) {
+        StringAt::Inside(from) => RawValue::Is(Value::Part(byte, bytes)),
+        StringAt::Outside => RawValue::Refused(Refusal::FieldLeaves(byte)),
+        StringAt::OffByte => RawValue::Refused(Refusal::StringOffByte(byte)),
+        StringAt::NoBytes => RawValue::Refused(Refusal::NoPlfRow),
+    }
+}
+
+fn signed_raw(p: &[u8], at: BitOffset, width: u32) -> RawValue
+    ensures { λ r. ⌜ saidRaw r ≡ valueAt (at .0) number (signedAt (now (p .entry)) (at .0) width) ⌝ }
+{
+    match read_signed(p, at, width) {
+        Signed::Is(v) => RawValue::Is(Value::Number(v)),
+        Signed::Outside => RawValue::Refused(Refusal::FieldLeaves(ByteOffset(at.0 / 8))),
+        Signed::NoWidth => RawValue::Refused(Refusal::NoPlfRow),
+    }
+}
+
+// Of at most 32 bits, which an i64 holds.
+fn unsigned_raw(p: &[u8], at: BitOffset, width: u32) -> RawValue
+    requires { ⌜ width ≤ 32 ⌝ }
+    ensures { λ r. ⌜ saidRaw r ≡ valueAt (at .0) number (unsignedAt (now (p .entry)) (at .0) width) ⌝ }
+{
+    match read_unsigned(p, at, width) {
+        Unsigned::Is(v) => RawValue::Is(Value::Number(v as i64)),
+        Unsigned::Outside => RawValue::Refused(Refusal::FieldLeaves(ByteOffset(at.0 / 8))),
+        Unsigned::NoWidth => RawValue::Refused(Refusal::NoPlfRow),
+    }
+}
+
+// A field of `width` bits at a byte that the packet may not have.
+fn field_raw(p: &[u8], ptc: u32, width: u32, start: FieldStart) -> RawValue
+    requires { ⌜ (length (now p) ≤ 8192) × (start .bit < 8) × Wide ptc width ⌝ }
+    ensures { λ r. ⌜ saidRaw r ≡ fieldRaw (now (p .entry)) ptc width (8 * start .byte .0 + start .bit) ⌝ }
+{
+    let byte = start.byte.0;
+    if p.len() < byte {
+        return RawValue::Refused(Refusal::FieldLeaves(ByteOffset(byte)));
+    }
+    let at = 8 * byte + start.bit;
+    if is_string(ptc) {
+        return string_raw(p, BitOffset(at), (width / 8) as usize);
+    }
+    if ptc == 4 {
+        return signed_raw(p, BitOffset(at), width);
+    }
+    unsigned_raw(p, BitOffset(at), width)
+}
+
+// Occurrence k of a field of `width` bits, by the line of its plf row.
+fn occurrence_raw(p: &[u8], plf: &[u8], ptc: u32, width: u32, k: usize) -> RawValue
+    requires { ⌜ (length (now p) ≤ 8192) × Wide ptc width ⌝ }
+    ensures { λ r. ⌜ saidRaw r ≡ rawIn (now (p .entry)) (plfRow (now (plf .entry))) ptc k (some width) ⌝ }
+{
+    let row = plf_of(plf);
+    if row.nbocc as usize <= k {
+        return RawValue::Refused(Refusal::NoOccurrence);
+    }
+    let start = start_of(row.offby, row.offbi, row.lgocc, k);
+    field_raw(p, ptc, width, start)
+}
+
+// The raw value of occurrence k by the lines of its rows.
+pub fn raw_of(p: &[u8], plf: &[u8], pcf: &[u8], k: usize) -> RawValue
+    ensures { λ r. ⌜ saidRaw r ≡ rawOf (now (p .entry)) (plfRow (now (plf .entry))) (pcfRow (now (pcf .entry))) k ⌝ }
+{
+    if PACKET_BYTES < p.len() {
+        return RawValue::Refused(Refusal::PacketLength);
+    }
+    let what = pcf_of(pcf);
+    match width_of(what.ptc, what.pfc) {
+        Width::Bits(width) => occurrence_raw(p, plf, what.ptc, width, k),
+        Width::Refused => RawValue::Refused(Refusal::NoPlfRow),
+    }
+}

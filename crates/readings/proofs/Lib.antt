@@ -1,0 +1,4 @@
+pub mod ReadingLaws
+pub mod ChainLaws
+pub mod ValidityLaw
+pub mod ParameterRows

@@ -1,0 +1,183 @@
+-- The rows that hold parameters are of pcf, which has at most 1,024 where the tables aren't refused.
+use mathlib.Core.Path.{_≡_, refl, ap, sym, _∙_, subst}
+use mathlib.Core.Bool.{Bool, true, false, cond}
+use mathlib.Core.List.{List, [], _∷_, _++_, map, List·Memᴰ, List·Memᴰ·head, List·Memᴰ·tail, List·Memᴰ·not-nil, List·Memᴰ·eq-of-singleton}
+use mathlib.Core.Option.{some}
+use Prim.Native.Nat.{ℕ, suc, _+_, _≤_, _<_}
+use native.Mathlib.Omega.{arith}
+use lib.Dec.{eqb, ltb}
+use lib.ListN.{length, getD, length-append, List·getD-eq-default}
+use borrow.Author.Tests.{eq-eqb, ne-eqb, eqb-true, ltb-true, ltb-false}
+use Rattle.laws.specs.Lists.{keep}
+use Rattle.laws.specs.Values.{tabulate}
+use Rattle.laws.proofs.Cases.{bool-cases, cond-cases}
+use Rattle.laws.proofs.Lists.{map-at}
+use Rattle.laws.proofs.Tests.{any-witness, keep-mem, keep-length}
+use Rattle.laws.proofs.Values.{tabulate-at}
+use Rattle.lines.specs.Lines.{Line, linesOf}
+use Rattle.lines.specs.declared.names.Name.{Name}
+use Rattle.schemas.specs.declared.Table.{Table}
+use Rattle.schemas.specs.declared.Table.the-variants.{Pid, Pic, Plf, Pcf, Caf, Cap, Txf, Txp, Ocf, Ocp}
+use Rattle.rows.specs.Records.{pidRow}
+use Rattle.rows.specs.declared.records.PidRow.{PidRow}
+use Rattle.rows.specs.declared.records.PcfRow.{PcfRow}
+use Rattle.rows.specs.declared.letters.Valid.{Valid}
+use Rattle.rows.specs.declared.letters.Valid.the-variants.{Yes, No}
+use Rattle.verdicts.specs.Key.{Key, structure, parameter, keyWords, sameKey}
+use Rattle.verdicts.specs.Facts.{pidKeys, pidFacts, picFacts, plfFacts, pcfFacts, cafFacts, capFacts, txfFacts, txpFacts, ocfFacts, ocpFacts, factsOf}
+use Rattle.verdicts.specs.Entries.{carried}
+use Rattle.verdicts.specs.Answer.{tooManyRows}
+use Rattle.verdicts.proofs.KeyLaws.{same-key-is}
+use Rattle.tables.proofs.SizeLaws.{few}
+use Rattle.database.specs.Rows.{Row}
+use Rattle.database.specs.GoodRows.{rowsOf, rowsFrom, rowsIn, isGood, goodRows, tableOf, holdsKey, find, among, ofTables}
+use Rattle.readings.specs.Readings.{agrees, mostRows, validity, reading}
+use Rattle.readings.proofs.ValidityLaw.{FewParameters, validity-law}
+
+-- Lists
+
+module _ {A : Type 0} where
+  keep-append : (f : A → Bool) (a b : List A) → keep f (a ++ b) ≡ keep f a ++ keep f b
+  keep-append f [] b = refl
+  keep-append f (x ∷ a) b = by (f x) (keep-append f a b)
+    where
+      by : (t : Bool) → keep f (a ++ b) ≡ keep f a ++ keep f b → cond t (x ∷ keep f (a ++ b)) (keep f (a ++ b)) ≡ cond t (x ∷ keep f a) (keep f a) ++ keep f b
+      by true e = ap (λ (l : List A). x ∷ l) e
+      by false e = e
+
+  mem-keep : (f : A → Bool) {a : A} (l : List A) → List·Memᴰ a l → f a ≡ true → List·Memᴰ a (keep f l)
+  mem-keep f (x ∷ l) (List·Memᴰ·head q) t =
+      let e : f x ≡ true = cc in
+      rw e (List·Memᴰ·head q)
+  mem-keep f {a} (x ∷ l) (List·Memᴰ·tail m) t =
+      cond-cases (λ (r : List A). List·Memᴰ a r) (f x) (λ _. List·Memᴰ·tail (mem-keep f l m t)) (λ _. mem-keep f l m t)
+
+-- a row that was found is one of the rows, and passes
+found-passes : (passes : Row → Bool) (rows : List Row) (r : Row) → find passes rows ≡ some r → List·Memᴰ r rows × (passes r ≡ true)
+unfolding find
+found-passes passes [] r e = absurd (let z : _≡_ {A = ℕ} 0 1 = cc in omega arith)
+found-passes passes (x ∷ rows) r e = by (passes x) refl e (found-passes passes rows r)
+  where
+    by : (b : Bool) → passes x ≡ b → cond b (some x) (find passes rows) ≡ some r → (find passes rows ≡ some r → List·Memᴰ r rows × (passes r ≡ true))
+        → List·Memᴰ r (x ∷ rows) × (passes r ≡ true)
+    by true t e ih = let q : r ≡ x = cc in (List·Memᴰ·head q, cc)
+    by false t e ih = let h = ih e in (List·Memᴰ·tail (h .0), h .1)
+
+-- Rows that hold parameters
+
+-- a key of another key space
+other-key : (name : Name) (k : Key) → (getD (keyWords k) 0 0 ≡ 4 → ⊥) → List·Memᴰ (parameter name) (k ∷ []) → ⊥
+unfolding keyWords
+other-key name k h m = h (ap (λ (x : Key). getD (keyWords x) 0 0) (sym (List·Memᴰ·eq-of-singleton m)))
+
+pid-none : (v : Valid) (r : PidRow) (name : Name) → List·Memᴰ (parameter name) (pidKeys v r) → ⊥
+unfolding pidKeys keyWords
+pid-none Yes r name (List·Memᴰ·head q) = let z : _≡_ {A = ℕ} 0 1 = cc in omega arith
+pid-none Yes r name (List·Memᴰ·tail m) = other-key name (structure (r .spid .0)) (λ e. omega arith) m
+pid-none No r name m = List·Memᴰ·not-nil m
+
+of-pcf : (t : Table) (line : List ℕ) (name : Name) → List·Memᴰ (parameter name) (factsOf t line .keys) → t ≡ Pcf
+unfolding keyWords factsOf pidFacts picFacts plfFacts pcfFacts cafFacts capFacts txfFacts txpFacts ocfFacts ocpFacts
+of-pcf Pid line name m = absurd (pid-none (pidRow line .valid) (pidRow line) name m)
+of-pcf Pic line name m = absurd (other-key name _ (λ e. omega arith) m)
+of-pcf Plf line name m = absurd (other-key name _ (λ e. omega arith) m)
+of-pcf Pcf line name m = refl
+of-pcf Caf line name m = absurd (other-key name _ (λ e. omega arith) m)
+of-pcf Cap line name m = absurd (other-key name _ (λ e. omega arith) m)
+of-pcf Txf line name m = absurd (other-key name _ (λ e. omega arith) m)
+of-pcf Txp line name m = absurd (other-key name _ (λ e. omega arith) m)
+of-pcf Ocf line name m = absurd (other-key name _ (λ e. omega arith) m)
+of-pcf Ocp line name m = absurd (other-key name _ (λ e. omega arith) m)
+
+-- the number of a table, from 0
+numberOf : Table → ℕ
+numberOf Pid = 0
+numberOf Pic = 1
+numberOf Plf = 2
+numberOf Pcf = 3
+numberOf Caf = 4
+numberOf Cap = 5
+numberOf Txf = 6
+numberOf Txp = 7
+numberOf Ocf = 8
+numberOf Ocp = 9
+
+number-is : (u : ℕ) → u < 10 → numberOf (getD carried u Ocp) ≡ u
+unfolding numberOf tabulate
+number-is u h =
+    let e : map numberOf carried ≡ tabulate (λ (i : ℕ). i) 0 10 = refl in
+    sym (map-at numberOf carried u Ocp 0 h) ∙ ap (λ (l : List ℕ). getD l u 0) e ∙ tabulate-at (λ (i : ℕ). i) 0 10 u h ∙ omega arith
+
+pcf-number : (u : ℕ) → getD carried u Ocp ≡ Pcf → u ≡ 3
+unfolding numberOf
+pcf-number u e =
+    bool-cases (ltb u 10)
+    (λ t. sym (number-is u (ltb-true u 10 t)) ∙ ap numberOf e)
+    (λ f. let q = List·getD-eq-default carried Ocp {n = u} (ltb-false u 10 f) in absurd (let z : _≡_ {A = ℕ} 0 1 = cc in omega arith))
+
+holds-number : (name : Name) (row : Row) → holdsKey (parameter name) row ≡ true → row .table ≡ 3
+unfolding holdsKey
+holds-number name row e =
+    let w = any-witness (sameKey (parameter name)) (factsOf (tableOf row) (row .bytes) .keys) e in
+    let m = subst (λ (k : Key). List·Memᴰ k (factsOf (tableOf row) (row .bytes) .keys)) (sym (same-key-is (parameter name) (w .0) (w .2))) (w .1) in
+    pcf-number (row .table) (of-pcf (tableOf row) (row .bytes) name m)
+
+-- The rows of one table
+
+abbrev ofTable : ℕ → Row → Bool
+ofTable u row = eqb (row .table) u
+
+no-others : (u t r start : ℕ) (ls : List Line) → eqb t u ≡ false → keep (ofTable u) (rowsOf t r start ls) ≡ []
+unfolding rowsOf
+no-others u t r start [] e = refl
+no-others u t r start (l ∷ ls) e = rw e (no-others u t (suc r) (start + length (l .bytes) + 1) ls e)
+
+length-rows : (t r start : ℕ) (ls : List Line) → length (rowsOf t r start ls) ≡ length ls
+unfolding rowsOf
+length-rows t r start [] = refl
+length-rows t r start (l ∷ ls) = ap suc (length-rows t (suc r) (start + length (l .bytes) + 1) ls)
+
+none-after : (u t : ℕ) (tables : List Table) (texts : List (List ℕ)) → u < t → keep (ofTable u) (rowsFrom t tables texts) ≡ []
+unfolding rowsFrom
+none-after u t [] texts h = refl
+none-after u t (x ∷ tables) [] h = refl
+none-after u t (x ∷ tables) (text ∷ texts) h =
+    keep-append (ofTable u) (rowsOf t 1 0 (linesOf text)) (rowsFrom (suc t) tables texts)
+    ∙ rw (no-others u t 1 0 (linesOf text) (ne-eqb t u (omega arith))) (none-after u (suc t) tables texts (omega arith))
+
+-- as many as its lines
+abbrev FewLines : List (List ℕ) → Type 0
+FewLines texts = (i : ℕ) → i < length texts → length (linesOf (getD texts i [])) ≤ mostRows
+
+few-rows : (u t : ℕ) (tables : List Table) (texts : List (List ℕ)) → FewLines texts → length (keep (ofTable u) (rowsFrom t tables texts)) ≤ mostRows
+unfolding rowsFrom
+few-rows u t [] texts h = omega arith
+few-rows u t (x ∷ tables) [] h = omega arith
+few-rows u t (x ∷ tables) (text ∷ texts) h =
+    rw (keep-append (ofTable u) (rowsOf t 1 0 (linesOf text)) (rowsFrom (suc t) tables texts))
+    (bool-cases (eqb t u)
+    (λ e. rw (none-after u (suc t) tables texts (omega (arith, eqb-true t u e)))
+    (omega (
+      arith,
+      length-append (keep (ofTable u) (rowsOf t 1 0 (linesOf text))) [],
+      keep-length (ofTable u) (rowsOf t 1 0 (linesOf text)),
+      length-rows t 1 0 (linesOf text),
+      h 0 (omega arith),
+    )))
+    (λ e. rw (no-others u t 1 0 (linesOf text) e) (few-rows u (suc t) tables texts (λ i l. h (suc i) (omega arith)))))
+
+pub few-parameters : (texts : List (List ℕ)) → tooManyRows texts ≡ 0 → FewParameters (ofTables texts)
+unfolding ofTables among goodRows rowsIn
+few-parameters texts e =
+    record {
+      pcf = keep (ofTable 3) (rowsIn texts);
+      few = few-rows 3 0 carried texts (λ i h. few texts i h e);
+      from = λ name row f.
+          let h = found-passes (holdsKey (parameter name)) (goodRows texts) row f in
+          mem-keep (ofTable 3) (rowsIn texts) (keep-mem (isGood texts) (rowsIn texts) (h .0) .0) (eq-eqb (row .table) 3 (holds-number name row (h .1)));
+    }
+
+-- 01's sentence of validity, of any tables that aren't refused
+pub validity-of-tables : (texts : List (List ℕ)) → tooManyRows texts ≡ 0 → (p : List ℕ) (spid : ℕ) (row : PcfRow) → validity (ofTables texts) p spid row
+    ≡ cond (row .valid .given) (agrees (reading (ofTables texts) p spid (row .valid .name) 0) (row .valpar)) true
+validity-of-tables texts e p spid row = validity-law (ofTables texts) (few-parameters texts e) p spid row

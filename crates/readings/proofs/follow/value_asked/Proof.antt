@@ -1,0 +1,30 @@
+-- A number is kept; a string is never equal.
+use mir.Facts.{toZ-ofZ}
+use mir.Syntax.{w64}
+use mir.Val.{SFits}
+use Rattle.outcomes.specs.Values.{valueOf}
+use Rattle.readings.specs.Readings.{equals, agrees, withValidity}
+use Rattle.readings.specs.Chain.{askedAgrees}
+use Rattle.readings.proofs.ChainLaws.{string-disagrees}
+use borrow.Author.Needs.{needs}
+use Rattle.readings.proofs.follow.value_asked.Statement.{statement}
+use Rattle.readings.proofs.follow.value_asked.Tie as tie
+
+enum-known-value : tie.Need-enum-known-value
+enum-known-value c = search needs
+
+enum-known-value-2 : tie.Need-enum-known-value-2
+enum-known-value-2 c = search needs
+
+returns : tie.Need-returns
+unfolding askedAgrees agrees equals withValidity valueOf
+returns c texts columns valid valpar =
+    let f : SFits w64 (c .before .value .given .0 .0) = search needs in
+    rw (c .before .value .given .1, toZ-ofZ f)
+
+returns-2 : tie.Need-returns-2
+unfolding askedAgrees valueOf
+returns-2 c texts columns valid valpar = rw (c .before .value2 .given .1) (string-disagrees _ _ _ _)
+
+pub value-asked-spec : {M : Type 1} → statement M
+value-asked-spec = tie.close (tie.spec enum-known-value enum-known-value-2 returns returns-2)

@@ -1,0 +1,53 @@
+-- By the rows of the parameter.
+use mathlib.Core.Path.{_∙_}
+use Rattle.outcomes.specs.Refusals.{refusedBy, numberOf, placeOf}
+use Rattle.readings.specs.Readings.{saidReading, reading}
+use Rattle.readings.proofs.ReadingLaws.{not-true, not-false, read-unlocated, read-located}
+use borrow.Author.Needs.{needs}
+use Rattle.readings.proofs.read.Statement.{statement}
+use Rattle.readings.proofs.read.Tie as tie
+
+locate-requires : tie.Need-locate-requires
+locate-requires c κs = search needs
+
+returns : tie.Need-returns
+unfolding reading saidReading refusedBy numberOf placeOf
+returns c = read-unlocated _ _ _ _ _ _ _ _ _ (c .before .before .locate .ensures _) (not-true _ (c .if1 .taken))
+
+line-of-requires : tie.Need-line-of-requires
+line-of-requires c κs = search needs
+
+line-of-requires-2 : tie.Need-line-of-requires-2
+line-of-requires-2 c κs = search needs
+
+validity-requires : tie.Need-validity-requires
+validity-requires c κs = search needs
+
+raw-of-requires : tie.Need-raw-of-requires
+raw-of-requires c κs = search needs
+
+with-validity-requires : tie.Need-with-validity-requires
+with-validity-requires c κs = search needs
+
+returns-2 : tie.Need-returns-2
+unfolding reading
+returns-2 c =
+    let v = c .before .before in
+    let l = v .before in
+    let e = l .before .before in
+    c .with-validity .ensures
+    ∙ read-located _ _ _ _ _ _ _ _ _ (e .before .before .locate .ensures _) (not-false _ (e .if1 .left)) _ _ _ _
+    (l .before .line-of .ensures) (l .line-of2 .ensures) (c .before .raw-of .ensures) (v .validity .ensures)
+
+pub read-spec : {M : Type 1} → statement M
+read-spec =
+    tie.close
+    (tie.spec
+    locate-requires
+    returns
+    line-of-requires
+    line-of-requires-2
+    validity-requires
+    raw-of-requires
+    with-validity-requires
+    returns-2)
