@@ -45,7 +45,8 @@ module _ (values valpars : List ℤ) (last : Bool) (at left : ℕ) where
 
 -- the last row of a chain stands for the rows after it
 along-last : (values valpars : List ℤ) (last : Bool) (at n : ℕ)
-    → validAlong values valpars last at (suc n) ≡ validAlong values valpars (last && sameInteger (getD values (at + n) (pos 0)) (getD valpars (at + n) (pos 0))) at n
+    → validAlong values valpars last at (suc n)
+    ≡ validAlong values valpars (last && sameInteger (getD values (at + n) (pos 0)) (getD valpars (at + n) (pos 0))) at n
 unfolding validAlong
 along-last values valpars last at zero = let e : at + 0 ≡ at = omega arith in rw e
 along-last values valpars last at (suc n) =
@@ -100,7 +101,8 @@ module _ (rows : Rows) (p : List ℕ) (spid : ℕ) (texts : List (List ℕ)) (co
       follow-cut t e = ended false (valid-stop rows p spid (1024 - n) row (row-at at) d t (omega arith))
 
       module _ (t : row .valid .given ≡ true) (m : n ≡ 1024 → ⊥) (a : Asked)
-          (is : (valid : PcfRow → Bool) (valpar : ℤ) → askedAgrees texts columns valid a valpar ≡ agrees (readingWith rows p spid valid (row .valid .name) 0) valpar) where
+          (is : (valid : PcfRow → Bool) (valpar : ℤ)
+          → askedAgrees texts columns valid a valpar ≡ agrees (readingWith rows p spid valid (row .valid .name) 0) valpar) where
         next : askedAgrees texts columns (validWithin rows p spid (1024 - (n + 1))) a (row .valpar) ≡ validWithin rows p spid (1024 - n) (row-at at)
         next =
             let e : 1024 - n - 1 ≡ 1024 - (n + 1) = omega arith in

@@ -32,10 +32,7 @@ pub(crate) enum Asked {
 }
 
 // How a chain ends: after so many rows with a VALID that can be read, and whether by a row without VALID.
-pub(crate) struct ChainEnd {
-    pub rows: usize,
-    pub free: bool,
-}
+pub(crate) struct ChainEnd(pub usize, pub bool);
 
 // A value as that of the validity parameter with this pcf row.
 fn value_asked(value: Value, pcf: usize) -> Asked
@@ -94,10 +91,10 @@ pub(crate) fn follow(
     valpars: &mut [i64; MOST_ROWS],
 ) -> ChainEnd
     requires { ⌜ (length (now values) ≡ 1024) × (length (now valpars) ≡ 1024) ⌝ }
-    ensures { λ r. ⌜ validAlong (now (values .exit)) (now (valpars .exit)) (r .free) 0 (r .rows)
+    ensures { λ r. ⌜ validAlong (now (values .exit)) (now (valpars .exit)) (r .1) 0 (r .0)
         ≡ spec.validity (answers (database (map now (tables .entry)) (now (words .entry)) (now (links .entry)) (now (columns .entry))))
         (now (p .entry)) (spid .0) (pcfRow (rowAt (map now (tables .entry)) (now (columns .entry)) pcf .bytes)) ⌝ }
-    ensures { λ r. ⌜ r .rows ≤ 1024 ⌝ }
+    ensures { λ r. ⌜ r .0 ≤ 1024 ⌝ }
 {
     let mut at = pcf;
     let mut n: usize = 0;
@@ -105,16 +102,10 @@ pub(crate) fn follow(
         let row = pcf_of(line_of(tables, columns, at));
         let valid = row.valid;
         if !valid.given {
-            return ChainEnd {
-                rows: n,
-                free: true,
-            };
+            return ChainEnd(n, true);
         }
         if n == MOST_ROWS {
-            return ChainEnd {
-                rows: n,
-                free: false,
-            };
+            return ChainEnd(n, false);
         }
         match ask(tables, words, links, columns, p, spid, valid.name) {
             Asked::Is(value, next) => {
@@ -124,10 +115,7 @@ pub(crate) fn follow(
                 at = next;
                 n += 1;
             }
-            Asked::Unreadable => return ChainEnd {
-                rows: n,
-                free: false,
-            },
+            Asked::Unreadable => return ChainEnd(n, false),
         }
     }
 }

@@ -75,7 +75,7 @@ pub fn validity(
         &mut values,
         &mut valpars,
     );
-    valid_along(&values, &valpars, end.free, 0, end.rows)
+    valid_along(&values, &valpars, end.1, 0, end.0)
 }
 
 // The reading of occurrence k of a parameter in a packet of this SPID.
