@@ -16,7 +16,7 @@ use Rattle.schemas.specs.declared.Table.{Table}
 use Rattle.verdicts.specs.Entries.{carried}
 use Rattle.database.specs.Rows.{Row}
 use Rattle.database.specs.GoodRows.{rowsOf, rowsFrom, rowsIn, isGood, goodRows}
-use Rattle.at_verdicts.proofs.GoodRows.{in-table, in-tables}
+use Rattle.database.proofs.RowLaws.{in-table, in-tables}
 
 abbrev Same : Row → Row → Type 0
 Same a b = (a .table ≡ b .table) × (a .number ≡ b .number)

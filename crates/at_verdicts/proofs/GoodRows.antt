@@ -1,17 +1,15 @@
 -- The good rows of tables are the rows with verdict 0, and say what their lines do.
 use mathlib.Core.Path.{_≡_, refl, sym, ap, _∙_}
-use mathlib.Core.Logic.{_⊎_, inl, inr}
-use mathlib.Core.Bool.{Bool, true}
-use mathlib.Core.List.{List, [], _∷_, List·Memᴰ, List·Memᴰ·head, List·Memᴰ·tail, List·Memᴰ·not-nil, List·Memᴰ·append-cases}
+use mathlib.Core.Bool.{true}
+use mathlib.Core.List.{List, [], _∷_, List·Memᴰ, List·Memᴰ·head, List·Memᴰ·tail}
 use mathlib.Core.List.{Memᴰ·append-left, Memᴰ·append-right}
 use Prim.Native.Nat.{ℕ, zero, suc, _+_, _-_, _≤_, _<_}
 use native.Mathlib.Omega.{arith}
 use native.Mathlib.Nat.{le-of-suc-le-suc, not-suc-le-zero}
 use lib.ListN.{length, getD}
 use borrow.Author.Tests.{eqb-true, eq-eqb}
-use Rattle.laws.specs.Lists.{keep}
-use Rattle.laws.proofs.Cases.{cond-cases, and-left}
-use Rattle.laws.proofs.Tests.{keep-mem}
+use Rattle.laws.proofs.Cases.{and-left}
+use Rattle.laws.proofs.Tests.{keep-mem, mem-keep}
 use Rattle.lines.specs.Lines.{Line, linesOf}
 use Rattle.schemas.specs.declared.Table.{Table}
 use Rattle.formed.specs.Formed.{formed}
@@ -24,55 +22,11 @@ use Rattle.verdicts.proofs.EntryLaws.{own-reading, row-in, row-of}
 use Rattle.verdicts.proofs.GoodLaw.{good-law}
 use Rattle.database.specs.Rows.{Row}
 use Rattle.database.specs.GoodRows.{rowsOf, rowsFrom, rowsIn, isGood, goodRows, tableOf}
+use Rattle.database.proofs.RowLaws.{in-tables}
 use Rattle.refusal_places.proofs.GoodRows.{HasLine}
 
-pub mem-keep : {A : Type 0} (f : A → Bool) {a : A} (l : List A) → List·Memᴰ a l → f a ≡ true → List·Memᴰ a (keep f l)
-mem-keep f (x ∷ l) (List·Memᴰ·head q) t =
-    let e : f x ≡ true = cc in
-    rw e (List·Memᴰ·head q)
-mem-keep {A} f {a} (x ∷ l) (List·Memᴰ·tail m) t =
-    cond-cases (λ (r : List A). List·Memᴰ a r) (f x) (λ _. List·Memᴰ·tail (mem-keep f l m t)) (λ _. mem-keep f l m t)
+-- Every place has its row
 
--- Where a row stands
-
-abbrev pub InTable : (t r : ℕ) → List Line → Row → Type 0
-InTable t r ls row =
-    (row .table ≡ t) × (r ≤ row .number) × (row .number < r + length ls) × (row .bytes ≡ getD ls (row .number - r) noLine .bytes)
-
-pub in-table : (t r start : ℕ) (ls : List Line) (row : Row) → List·Memᴰ row (rowsOf t r start ls) → InTable t r ls row
-unfolding rowsOf
-in-table t r start [] row m = absurd (List·Memᴰ·not-nil m)
-in-table t r start (l ∷ ls) row (List·Memᴰ·head q) =
-    let z : r - r ≡ 0 = omega arith in
-    rw (q, z) (refl, omega arith, omega arith, refl)
-in-table t r start (l ∷ ls) row (List·Memᴰ·tail m) =
-    let w = in-table t (suc r) (start + length (l .bytes) + 1) ls row m in
-    let n : row .number - r ≡ suc (row .number - suc r) = omega (arith, w .1) in
-    (w .0, omega (arith, w .1), omega (arith, w .2), rw n (w .3))
-
-abbrev pub InTables : ℕ → List Table → List (List ℕ) → Row → Type 0
-InTables t tables texts row =
-    (t ≤ row .table) × (row .table < t + length tables) × (0 < row .number) × (row .number ≤ length (linesOf (textAt texts (row .table - t))))
-    × (row .bytes ≡ getD (linesOf (textAt texts (row .table - t))) (row .number - 1) noLine .bytes)
-
-pub in-tables : (t : ℕ) (tables : List Table) (texts : List (List ℕ)) (row : Row) → List·Memᴰ row (rowsFrom t tables texts) → InTables t tables texts row
-unfolding rowsFrom
-in-tables t [] texts row m = absurd (List·Memᴰ·not-nil m)
-in-tables t (table ∷ tables) [] row m = absurd (List·Memᴰ·not-nil m)
-in-tables t (table ∷ tables) (text ∷ texts) row m = go (in-tables (suc t) tables texts row) (List·Memᴰ·append-cases (rowsOf t 1 0 (linesOf text)) m)
-  where
-    go : (List·Memᴰ row (rowsFrom (suc t) tables texts) → InTables (suc t) tables texts row)
-        → List·Memᴰ row (rowsOf t 1 0 (linesOf text)) ⊎ List·Memᴰ row (rowsFrom (suc t) tables texts) → InTables t (table ∷ tables) (text ∷ texts) row
-    go ih (inl m′) =
-        let w = in-table t 1 0 (linesOf text) row m′ in
-        let z : row .table - t ≡ 0 = omega (arith, w .0) in
-        (omega (arith, w .0), omega (arith, w .0), omega (arith, w .1), rw z (omega (arith, w .2)), rw z (w .3))
-    go ih (inr m′) =
-        let w = ih m′ in
-        let n : row .table - t ≡ suc (row .table - suc t) = omega (arith, w .0) in
-        (omega (arith, w .0), omega (arith, w .1), w .2, rw n (w .3), rw n (w .4))
-
--- and every place has its row
 line-row : (t r start : ℕ) (ls : List Line) (j : ℕ) → j < length ls
     → (row : Row) × List·Memᴰ row (rowsOf t r start ls) × (row .table ≡ t) × (row .number ≡ r + j)
 unfolding rowsOf

@@ -17,7 +17,7 @@ use Rattle.verdicts.specs.Good.{Meets}
 use Rattle.verdicts.proofs.SoundLaws.{one-holder}
 use Rattle.database.specs.Rows.{Row}
 use Rattle.database.specs.GoodRows.{goodRows, tableOf, holdsKey, find, among, ofTables}
-use Rattle.refusal_places.proofs.GoodRows.{found-passes}
+use Rattle.database.proofs.RowLaws.{found-passes}
 use Rattle.at_verdicts.proofs.GoodRows.{entryOf, GoodRow, good-row, row-good}
 
 -- Searching

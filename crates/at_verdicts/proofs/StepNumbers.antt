@@ -3,13 +3,11 @@ use mathlib.Core.Path.{_≡_, refl, sym, _∙_}
 use mathlib.Core.Bool.{Bool, true, false}
 use mathlib.Core.List.{List, [], _∷_, map}
 use mathlib.Core.Option.{some}
-use Prim.Native.Nat.{ℕ, _≤_}
-use native.Mathlib.Omega.{arith}
-use lib.Dec.{eqb, leb}
+use Prim.Native.Nat.{ℕ}
+use lib.Dec.{eqb}
 use lib.IntN.{ℤ}
-use borrow.Author.Tests.{leb-true, ne-eqb}
 use Rattle.laws.specs.Lists.{any}
-use Rattle.laws.proofs.Cases.{cond-cases, false≢true, and-right, or-none}
+use Rattle.laws.proofs.Cases.{cond-cases, false≢true}
 use Rattle.lines.specs.declared.names.Name.{Name}
 use Rattle.fields.specs.Width.{widthOf}
 use Rattle.formed.specs.Contradictions.{isWhole}
@@ -20,12 +18,13 @@ use Rattle.outcomes.specs.Outcome.{Outcome, andThen}
 use Rattle.outcomes.specs.Values.{Value}
 use Rattle.database.specs.Rows.{Rows}
 use Rattle.identification.specs.declared.Head.{Head}
-use Rattle.raw_values.specs.RawValues.{isString, rawOf}
+use Rattle.raw_values.specs.RawValues.{rawOf}
 use Rattle.parameters.specs.Located.{Located}
 use Rattle.engineering.specs.Scale.{Scale, onScale}
 use Rattle.limit_state.specs.State.{isState, isNewer}
 use Rattle.limit_state.specs.declared.state.LimitState.{LimitState}
 use Rattle.checking.specs.Values.{occurrencesFrom, integerIn, rawsOf, isRefusal, unlessRefused, valuesOn, valuesOf}
+use Rattle.checking.proofs.WholeLaws.{no-string}
 use Rattle.stepping.specs.Time.{stateIn, inTime}
 use Rattle.stepping.specs.Step.{stepAt}
 use Rattle.at_verdicts.proofs.NumberLaws.{Numbered, one-more, one-then}
@@ -49,12 +48,6 @@ time-numbers s head =
     (λ _. refl))
 
 -- The values of a parameter of PTC 1-4
-
-no-string : (ptc : ℕ) → isWhole ptc ≡ true → isString ptc ≡ false
-unfolding isString
-no-string ptc w =
-    let high : ptc ≤ 4 = leb-true ptc 4 (and-right (leb 1 ptc) (leb ptc 4) w) in
-    or-none (ne-eqb ptc 7 (λ e. omega arith)) (ne-eqb ptc 8 (λ e. omega arith))
 
 integer-numbers : (p : List ℕ) (plf : PlfRow) (pcf : PcfRow) (n : ℕ) → widthOf (pcf .ptc) (pcf .pfc) ≡ some n → isWhole (pcf .ptc) ≡ true
     → (k : ℕ) → Numbered checking (andThen (rawOf p plf pcf k) integerIn)

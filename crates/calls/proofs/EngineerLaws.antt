@@ -18,7 +18,7 @@ use Rattle.outcomes.specs.declared.Refusal.the-variants.{NoPlfRow}
 use Rattle.outcomes.specs.declared.Value as code
 use Rattle.outcomes.specs.declared.Value.the-variants as value
 use Rattle.database.specs.Rows.{Row, Rows}
-use Rattle.identification.proofs.OutcomeLaws.{told, then-answer, then-refused}
+use Rattle.outcomes.proofs.OutcomeLaws.{told, then-answer, then-refused}
 use Rattle.parameters.specs.Located.{needed}
 use Rattle.readings.specs.Readings.{saidReading}
 use Rattle.readings.specs.declared.Reading as reading

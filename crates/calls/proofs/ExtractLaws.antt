@@ -13,7 +13,7 @@ use Rattle.database.specs.Rows.{Rows}
 use Rattle.identification.specs.Identification.{identifyBy, saidIdentified}
 use Rattle.identification.specs.declared.Identified.{Identified}
 use Rattle.identification.specs.declared.Identified.the-variants as identified
-use Rattle.identification.proofs.OutcomeLaws.{told, then-answer, then-refused}
+use Rattle.outcomes.proofs.OutcomeLaws.{told, then-answer, then-refused}
 use Rattle.readings.specs.Readings.{Reading, reading, saidReading}
 use Rattle.readings.specs.declared.Reading.the-variants as read
 use Rattle.calls.specs.Extraction.{extractBy}

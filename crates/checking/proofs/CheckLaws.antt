@@ -21,7 +21,7 @@ use Rattle.raw_values.specs.RawValues.{rawOf}
 use Rattle.parameters.specs.Located.{byLines, located, atPlaces}
 use Rattle.parameters.specs.declared.Places.{Places}
 use Rattle.parameters.proofs.LocatedLaws.{at-found, at-missing}
-use Rattle.engineering.proofs.GatherLaws.{Listed}
+use Rattle.database.proofs.GatherLaws.{Listed}
 use Rattle.limit_state.specs.Held.{levelOf}
 use Rattle.limit_state.specs.Checks.{Check, checkOf, checksIn}
 use Rattle.limit_state.proofs.SeverityInLaws.{stored-more}

@@ -40,7 +40,7 @@ module _ (p : List ℕ) (at n : ℕ) (low : 1 ≤ n) (high : n ≤ 64) where
       rw s
       (cond-cases (λ (x : Said). Whole (at / 8) (valueAt at number x)) (eqb ptc 4) (λ e. said-whole (complementOf n)) (λ e. said-whole pos))
 
-no-string : (ptc : ℕ) → isWhole ptc ≡ true → isString ptc ≡ false
+pub no-string : (ptc : ℕ) → isWhole ptc ≡ true → isString ptc ≡ false
 unfolding isString
 no-string ptc w =
     let high : ptc ≤ 4 = leb-true ptc 4 (and-right (leb 1 ptc) (leb ptc 4) w) in

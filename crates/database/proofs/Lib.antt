@@ -1,3 +1,5 @@
 pub mod ColumnLaws
 pub mod MemberLaws
 pub mod FindLaws
+pub mod GatherLaws
+pub mod RowLaws

@@ -25,7 +25,7 @@ use Rattle.engineering.specs.Points.{curveIn, pointsOf}
 use Rattle.engineering.specs.declared.curve.Ends.{Ends}
 use Rattle.engineering.specs.declared.curve.Ends.the-variants.{Are, NoCurve}
 use Rattle.engineering.specs.declared.curve.Points.{Points}
-use Rattle.engineering.proofs.GatherLaws.{front-filled}
+use Rattle.database.proofs.GatherLaws.{front-filled}
 
 -- the value along a curve, by its points in arrays
 module _ (points : Points) (xs ys : List ℤ) (raw : ℤ) where

@@ -1,5 +1,3 @@
-pub mod FillLaws
-pub mod GatherLaws
 pub mod CurveLaws
 pub mod ScaleLaws
 pub mod OrderLaws

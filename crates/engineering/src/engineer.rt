@@ -1,7 +1,6 @@
 // Engineering values.
 use crate::curve::CurveResult;
 use crate::scale::scale_value;
-use crate::text::TableOffset;
 use crate::text::text_value;
 use outcomes::Refusal;
 use outcomes::Value;
@@ -10,6 +9,7 @@ use rows::letters::Category;
 use rows::records::OptionalCurve;
 use tables::TABLES;
 use units::RowNumber;
+use units::TableOffset;
 ghost use mathlib.Core.Path.{_≡_};
 ghost use mathlib.Core.List.{map};
 ghost use Rattle.rows.specs.Records.{pcfRow};

@@ -15,6 +15,7 @@ use outcomes::Refusal;
 use rows::decoded::txp_of;
 use tables::TABLES;
 use units::ByteOffset;
+use units::TableOffset;
 ghost use mathlib.Core.Path.{_≡_};
 ghost use mathlib.Core.List.{map};
 ghost use mathlib.Core.Option.{some};
@@ -26,9 +27,6 @@ ghost use Rattle.outcomes.specs.Outcome.{andThen};
 ghost use Rattle.database.specs.Arrays.{database, rowAt, answers};
 ghost use Rattle.engineering.specs.Texts.{fromOf, textIn, textFor};
 ghost use Rattle.engineering.specs.Engineering.{asText, saidEngineered};
-
-// A distance in bytes from the first byte of a table.
-pub struct TableOffset(pub usize);
 
 // ALTXT of the row at a place, where TO isn't below the raw value.
 fn text_of(tables: [&[u8]; TABLES], columns: &[u16], place: usize, raw: i64) -> Engineered

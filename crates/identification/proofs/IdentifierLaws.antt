@@ -7,7 +7,7 @@ use Rattle.fields.specs.Field.{unsignedAt, saidUnsigned}
 use Rattle.fields.specs.declared.field.Unsigned.{Unsigned}
 use Rattle.identification.specs.Identifiers.{readIdentifier}
 use Rattle.identification.proofs.FieldLaws.{unsigned-drop}
-use Rattle.identification.proofs.OutcomeLaws.{told}
+use Rattle.outcomes.proofs.OutcomeLaws.{told}
 
 module _ (p : List ℕ) (byte width : ℕ) where
   pub read-from : {q : List ℕ} {x u : Unsigned} → q ≡ drop byte p → saidUnsigned x ≡ unsignedAt q 0 width → x ≡ u

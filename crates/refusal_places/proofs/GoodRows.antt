@@ -1,12 +1,11 @@
 -- A row that holds a key is a good row, of the table that has such keys.
-use mathlib.Core.Path.{_≡_, refl, sym, ap, subst, _∙_}
-use mathlib.Core.Logic.{_⊎_, inl, inr}
-use mathlib.Core.Bool.{Bool, true, false, cond}
-use mathlib.Core.List.{List, [], _∷_, List·Memᴰ, List·Memᴰ·head, List·Memᴰ·tail, List·Memᴰ·not-nil, List·Memᴰ·eq-of-singleton, List·Memᴰ·append-cases}
+use mathlib.Core.Path.{_≡_, refl, sym, ap, _∙_}
+use mathlib.Core.Bool.{true}
+use mathlib.Core.List.{List, [], _∷_, List·Memᴰ, List·Memᴰ·head, List·Memᴰ·tail, List·Memᴰ·not-nil, List·Memᴰ·eq-of-singleton}
 use mathlib.Core.Option.{some}
-use Prim.Native.Nat.{ℕ, suc, _+_, _-_, _≤_}
+use Prim.Native.Nat.{ℕ, _-_}
 use native.Mathlib.Omega.{arith}
-use lib.ListN.{length, getD}
+use lib.ListN.{getD}
 use borrow.Author.Tests.{eqb-true}
 use Rattle.laws.proofs.Cases.{and-left}
 use Rattle.laws.proofs.Tests.{any-witness, keep-mem}
@@ -27,18 +26,8 @@ use Rattle.verdicts.proofs.EntryLaws.{own-reading}
 use Rattle.verdicts.proofs.GoodLaw.{good-law}
 use Rattle.verdicts.proofs.KeyLaws.{same-key-is}
 use Rattle.database.specs.Rows.{Row}
-use Rattle.database.specs.GoodRows.{rowsOf, rowsFrom, rowsIn, isGood, goodRows, tableOf, holdsKey, find, among, ofTables}
-
--- a row that was found is one of the rows, and passes
-pub found-passes : (passes : Row → Bool) (rows : List Row) (r : Row) → find passes rows ≡ some r → List·Memᴰ r rows × (passes r ≡ true)
-unfolding find
-found-passes passes [] r e = absurd (let z : _≡_ {A = ℕ} 0 1 = cc in omega arith)
-found-passes passes (x ∷ rows) r e = by (passes x) refl e (found-passes passes rows r)
-  where
-    by : (b : Bool) → passes x ≡ b → cond b (some x) (find passes rows) ≡ some r → (find passes rows ≡ some r → List·Memᴰ r rows × (passes r ≡ true))
-        → List·Memᴰ r (x ∷ rows) × (passes r ≡ true)
-    by true t e ih = let q : r ≡ x = cc in (List·Memᴰ·head q, cc)
-    by false t e ih = let h = ih e in (List·Memᴰ·tail (h .0), h .1)
+use Rattle.database.specs.GoodRows.{rowsIn, isGood, goodRows, tableOf, holdsKey, among, ofTables}
+use Rattle.database.proofs.RowLaws.{found-passes, in-tables}
 
 -- The table of a key
 
@@ -84,42 +73,6 @@ holds-owner k row e =
     let w = any-witness (sameKey k) (factsOf (tableOf row) (row .bytes) .keys) e in
     ap ownerOf (same-key-is k (w .0) (w .2)) ∙ of-table (tableOf row) (row .bytes) (w .0) (w .1)
 
--- The line of a row
-
-abbrev LineOf : ℕ → ℕ → List Line → Row → Type 0
-LineOf t r ls row = (row .table ≡ t) × (r ≤ row .number) × (row .bytes ≡ getD ls (row .number - r) noLine .bytes)
-
-of-lines : (t r start : ℕ) (ls : List Line) (row : Row) → List·Memᴰ row (rowsOf t r start ls) → LineOf t r ls row
-unfolding rowsOf
-of-lines t r start [] row m = absurd (List·Memᴰ·not-nil m)
-of-lines t r start (l ∷ ls) row (List·Memᴰ·head q) =
-    let z : r - r ≡ 0 = omega arith in
-    rw (q, z) (refl, omega arith, refl)
-of-lines t r start (l ∷ ls) row (List·Memᴰ·tail m) =
-    let w = of-lines t (suc r) (start + length (l .bytes) + 1) ls row m in
-    let n : row .number - r ≡ suc (row .number - suc r) = omega (arith, w .1) in
-    (w .0, omega (arith, w .1), rw n (w .2))
-
-abbrev LineIn : ℕ → List (List ℕ) → Row → Type 0
-LineIn t texts row = (t ≤ row .table) × (row .bytes ≡ getD (linesOf (textAt texts (row .table - t))) (row .number - 1) noLine .bytes)
-
-in-tables : (t : ℕ) (tables : List Table) (texts : List (List ℕ)) (row : Row) → List·Memᴰ row (rowsFrom t tables texts) → LineIn t texts row
-unfolding rowsFrom
-in-tables t [] texts row m = absurd (List·Memᴰ·not-nil m)
-in-tables t (table ∷ tables) [] row m = absurd (List·Memᴰ·not-nil m)
-in-tables t (table ∷ tables) (text ∷ texts) row m = go (in-tables (suc t) tables texts row) (List·Memᴰ·append-cases (rowsOf t 1 0 (linesOf text)) m)
-  where
-    go : (List·Memᴰ row (rowsFrom (suc t) tables texts) → LineIn (suc t) texts row)
-        → List·Memᴰ row (rowsOf t 1 0 (linesOf text)) ⊎ List·Memᴰ row (rowsFrom (suc t) tables texts) → LineIn t (text ∷ texts) row
-    go ih (inl m′) =
-        let w = of-lines t 1 0 (linesOf text) row m′ in
-        let z : row .table - t ≡ 0 = omega (arith, w .0) in
-        (omega (arith, w .0), rw z (w .2))
-    go ih (inr m′) =
-        let w = ih m′ in
-        let n : row .table - t ≡ suc (row .table - suc t) = omega (arith, w .0) in
-        (omega (arith, w .0), rw n (w .1))
-
 -- A good row
 
 -- 01: "Good is 0": it is without reasons 1 to 8
@@ -145,5 +98,5 @@ holder-line tables k row e =
     record {
       line = getD (linesOf (textAt tables (row .table))) (row .number - 1) noLine;
       passes = rw (holds-owner k row (f .1)) (formed-line tables (row .table) (row .number) (eqb-true _ 0 (g .1)));
-      bytes = rw z at (w .1);
+      bytes = rw z at (w .4);
     }

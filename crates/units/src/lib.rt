@@ -14,3 +14,6 @@ pub struct ByteOffset(pub usize);
 
 // A distance in bits from the first bit of a packet.
 pub struct BitOffset(pub usize);
+
+// A distance in bytes from the first byte of a table.
+pub struct TableOffset(pub usize);

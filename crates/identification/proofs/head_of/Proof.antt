@@ -4,7 +4,7 @@ use mathlib.Core.Path.{ap}
 use Rattle.outcomes.specs.Refusals.{refusedBy, numberOf, placeOf}
 use Rattle.headers.specs.Header as header
 use Rattle.identification.specs.Headed.{headFrom, headOf, saidHead}
-use Rattle.identification.proofs.OutcomeLaws.{told}
+use Rattle.outcomes.proofs.OutcomeLaws.{told}
 use Rattle.identification.proofs.head_of.Statement.{statement}
 use Rattle.identification.proofs.head_of.Tie as tie
 

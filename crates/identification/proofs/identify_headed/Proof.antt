@@ -4,7 +4,7 @@ use mathlib.Core.Path.{refl, ap, _∙_}
 use Rattle.identification.specs.Identifiers.{saidFields}
 use Rattle.identification.specs.Numbers.{fiveNumbers}
 use Rattle.identification.specs.Identification.{chooseBy, identifyHeaded, saidIdentified}
-use Rattle.identification.proofs.OutcomeLaws.{told, then-answer, then-refused}
+use Rattle.outcomes.proofs.OutcomeLaws.{told, then-answer, then-refused}
 use Rattle.identification.proofs.identify_headed.Statement.{statement}
 use Rattle.identification.proofs.identify_headed.Tie as tie
 

@@ -2,7 +2,7 @@
 use borrow.Author.Needs.{needs}
 use Rattle.identification.specs.Headed.{saidHead}
 use Rattle.identification.specs.Identification.{identifyBy, saidIdentified}
-use Rattle.identification.proofs.OutcomeLaws.{told, then-answer, then-refused}
+use Rattle.outcomes.proofs.OutcomeLaws.{told, then-answer, then-refused}
 use Rattle.identification.proofs.identify_in.Statement.{statement}
 use Rattle.identification.proofs.identify_in.Tie as tie
 

@@ -4,7 +4,7 @@ use mathlib.Core.List.{map}
 use native.Mathlib.Omega.{arith}
 use denote.Ref.{now}
 use Rattle.verdicts.specs.Key.{limits}
-use Rattle.engineering.proofs.GatherLaws.{Listed, listed, listed-room, listed-part}
+use Rattle.database.proofs.GatherLaws.{Listed, listed, listed-room, listed-part}
 use Rattle.checking.specs.Checks.{applying}
 use Rattle.checking.proofs.CheckLaws.{listed-checks}
 use borrow.Author.Needs.{needs}

@@ -4,7 +4,7 @@ use Prim.Native.Nat.{ℕ}
 use native.Mathlib.Omega.{arith}
 use lib.IntN.{pos}
 use lib.ListN.{length-replicate}
-use Rattle.engineering.proofs.GatherLaws.{part-long}
+use Rattle.database.proofs.GatherLaws.{part-long}
 use Rattle.checking.proofs.ParameterLaws.{parameter-checked}
 use borrow.Author.Needs.{needs}
 use Rattle.checking.proofs.parameter.check_parameter.Statement.{statement}

@@ -6,7 +6,7 @@ use lib.ListN.{length}
 use lib.Seq.{length-sets}
 use denote.Ref.{now}
 use Rattle.verdicts.specs.Key.{curve}
-use Rattle.engineering.proofs.GatherLaws.{members-few}
+use Rattle.database.proofs.GatherLaws.{members-few}
 use Rattle.engineering.proofs.ScaleLaws.{gathered-scale}
 use Rattle.checking.proofs.ParameterLaws.{under-raw, under-engineering}
 use borrow.Author.Needs.{needs}

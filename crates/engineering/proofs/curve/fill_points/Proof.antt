@@ -11,7 +11,7 @@ use lib.ListN.{length}
 use denote.Ref.{now}
 use Rattle.database.specs.Arrays.{rowAt}
 use Rattle.engineering.specs.Curves.{xvalsOf, yvalsOf}
-use Rattle.engineering.proofs.FillLaws.{Filling, fill-start, fill-more, fill-done}
+use Rattle.laws.proofs.Fill.{Filling, fill-start, fill-more, fill-done}
 use Rattle.engineering.proofs.CurveLaws.{xvals-are, yvals-are}
 use Rattle.engineering.proofs.curve.fill_points.Statement.{statement}
 use Rattle.engineering.proofs.curve.fill_points.Tie as tie

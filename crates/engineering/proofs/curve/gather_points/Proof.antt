@@ -4,7 +4,7 @@ use native.Mathlib.Omega.{arith}
 use denote.Ref.{now}
 use Rattle.verdicts.specs.Key.{curve}
 use Rattle.engineering.specs.Curves.{xvalsOf, yvalsOf}
-use Rattle.engineering.proofs.GatherLaws.{Listed, listed, listed-room, listed-part, listed-count, filled}
+use Rattle.database.proofs.GatherLaws.{Listed, listed, listed-room, listed-part, listed-count, filled}
 use Rattle.engineering.proofs.CurveLaws.{points-are}
 use borrow.Author.Needs.{needs}
 use Rattle.engineering.proofs.curve.gather_points.Statement.{statement}

@@ -10,7 +10,7 @@ use mir.Facts.{toZ-ofZ}
 use Rattle.verdicts.specs.Key.{curve}
 use Rattle.database.specs.Arrays.{database, answers}
 use Rattle.engineering.specs.Scale.{scaleOf, onScale, scaleIn}
-use Rattle.engineering.proofs.GatherLaws.{members-few}
+use Rattle.database.proofs.GatherLaws.{members-few}
 use Rattle.engineering.proofs.ScaleLaws.{gathered-scale}
 use borrow.Author.Needs.{needs}
 use Rattle.engineering.proofs.scale.scale_value.Statement.{statement}

@@ -11,7 +11,7 @@ use lib.ListN.{length}
 use denote.Ref.{now}
 use Rattle.database.specs.Arrays.{rowAt}
 use Rattle.engineering.specs.Texts.{fromOf}
-use Rattle.engineering.proofs.FillLaws.{Filling, fill-start, fill-more, fill-done}
+use Rattle.laws.proofs.Fill.{Filling, fill-start, fill-more, fill-done}
 use Rattle.engineering.proofs.TextLaws.{from-is}
 use Rattle.engineering.proofs.text.fill_froms.Statement.{statement}
 use Rattle.engineering.proofs.text.fill_froms.Tie as tie

@@ -14,7 +14,7 @@ use Rattle.outcomes.specs.Refusals.{numberOf, placeOf, refusedBy}
 use Rattle.database.specs.Arrays.{database, answers}
 use Rattle.engineering.specs.Texts.{fromOf}
 use Rattle.engineering.specs.Engineering.{saidEngineered}
-use Rattle.engineering.proofs.GatherLaws.{Listed, listed, listed-room, listed-part, part-long, member-at, filled-front}
+use Rattle.database.proofs.GatherLaws.{Listed, listed, listed-room, listed-part, part-long, member-at, filled-front}
 use Rattle.engineering.proofs.TextLaws.{text-none, text-some, found-below}
 use borrow.Author.Needs.{needs}
 use Rattle.engineering.proofs.text.text_value.Statement.{statement}

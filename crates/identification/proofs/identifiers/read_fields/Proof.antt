@@ -2,7 +2,7 @@
 use borrow.Author.Needs.{needs}
 use mathlib.Core.Path.{refl}
 use Rattle.identification.specs.Identifiers.{saidField, saidFields, identifiersBy}
-use Rattle.identification.proofs.OutcomeLaws.{told, then-answer, then-refused}
+use Rattle.outcomes.proofs.OutcomeLaws.{told, then-answer, then-refused}
 use Rattle.identification.proofs.identifiers.read_fields.Statement.{statement}
 use Rattle.identification.proofs.identifiers.read_fields.Tie as tie
 

@@ -1,6 +1,6 @@
 -- By the time, and then by the values.
 use Rattle.outcomes.specs.Outcome.{andThen}
-use Rattle.identification.proofs.OutcomeLaws.{told, then-refused}
+use Rattle.outcomes.proofs.OutcomeLaws.{told, then-refused}
 use Rattle.limit_state.specs.declared.state.LimitState.{LimitState}
 use Rattle.stepping.specs.Step.{progressOf, stepAt}
 use Rattle.stepping.specs.Answer.{saidStep}

@@ -1,6 +1,6 @@
 -- By the packet that it is.
 use Rattle.identification.specs.Identification.{saidIdentified}
-use Rattle.identification.proofs.OutcomeLaws.{told, then-answer, then-refused}
+use Rattle.outcomes.proofs.OutcomeLaws.{told, then-answer, then-refused}
 use mathlib.Core.Path.{refl}
 use Rattle.stepping.specs.Step.{stepHeaded}
 use Rattle.stepping.proofs.AnswerLaws.{answers-as}

@@ -3,7 +3,7 @@ use mathlib.Core.Path.{sym, _∙_}
 use Rattle.outcomes.specs.Refusals.{refusedBy, numberOf, placeOf}
 use Rattle.readings.proofs.ReadingLaws.{not-true, not-false}
 use Rattle.identification.specs.Headed.{saidHead}
-use Rattle.identification.proofs.OutcomeLaws.{told, then-refused}
+use Rattle.outcomes.proofs.OutcomeLaws.{told, then-refused}
 use Rattle.stepping.proofs.AnswerLaws.{answers-as, no-state, with-head, of-state}
 use borrow.Author.Needs.{needs}
 use Rattle.stepping.proofs.step.step_in.Statement.{statement}

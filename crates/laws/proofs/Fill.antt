@@ -1,4 +1,4 @@
--- Arrays filled with what rows say, row by row, and their front then.
+-- An array filled with values, one place of a list after the other, and its front then.
 use mathlib.Core.Path.{_≡_, refl, sym, ap, _∙_}
 use mathlib.Core.List.{List, _++_, map}
 use Prim.Native.Nat.{ℕ, _+_, _≤_, _<_}
@@ -6,10 +6,10 @@ use native.Mathlib.Omega.{arith}
 use native.Mathlib.Numerals.{add-one}
 use lib.ListN.{length, getD, take, drop, set, drop-of-length-le, List·getD-append}
 use lib.Seq.{sets, sets-eq, length-sets, take-at}
 use Rattle.laws.proofs.Lists.{split}
 
 module _ {A : Type 0} (f : ℕ → A) (places : List ℕ) where
-  -- xs is xs₀ with what the first i rows say: with those left it is xs₀ with all
+  -- xs is xs₀ with the values of the first i places: with those left it is xs₀ with all
   pub record Filling (xs₀ xs : List A) (i : ℕ) : Type 0 where
     pub left : sets xs i (map f (drop i places)) ≡ sets xs₀ 0 (map f places)
 

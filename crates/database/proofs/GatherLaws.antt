@@ -15,10 +15,10 @@ use Rattle.symbols.specs.declared.Symbol.{Symbol}
 use Rattle.verdicts.specs.Key.{Key}
 use Rattle.key_symbols.specs.Keyed.{symbolOf}
 use Rattle.key_symbols.specs.Bounded.{fits}
 use Rattle.database.specs.Rows.{Row}
 use Rattle.database.specs.Arrays.{database, firstColumn, nextColumn, rowAt, keyed, keyedBy, placesFrom, answers}
 use Rattle.database.proofs.FindLaws.{members-are}
-use Rattle.engineering.proofs.FillLaws.{front-is, front-long}
+use Rattle.laws.proofs.Fill.{front-is, front-long}
 
 -- the first n places are those of the rows of a group
 pub record Listed (texts : List (List ℕ)) (words links columns : List ℕ) (k : Key) (places : List ℕ) (n : ℕ) : Type 0 where
