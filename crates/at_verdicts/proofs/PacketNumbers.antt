@@ -23,16 +23,15 @@ use Rattle.rows.specs.declared.records.IdentificationField.the-variants as fiel
 use Rattle.rows.specs.declared.records.PicRow.{PicRow}
 use Rattle.rows.specs.declared.records.PlfRow.{PlfRow}
 use Rattle.rows.specs.declared.records.PcfRow.{PcfRow}
-use Rattle.headers.specs.Header.{version, typeBit, lengthField, flagged, Heading, headerOf}
+use Rattle.headers.specs.Header.{version, typeBit, lengthField, flagged, headOf}
 use Rattle.key_symbols.specs.declared.FiveNumbers.{FiveNumbers}
 use Rattle.outcomes.specs.Outcome.{Outcome, andThen}
 use Rattle.outcomes.specs.Values.{Value, number, part}
 use Rattle.database.specs.Rows.{Row, Rows}
-use Rattle.identification.specs.Headed.{headFrom, headOf}
-use Rattle.identification.specs.Identifiers.{readIdentifier, identifierAt, identifiersBy}
-use Rattle.identification.specs.Numbers.{picRowOf, identifiersFrom, fiveNumbers}
+use Rattle.identifiers.specs.Identifiers.{readIdentifier, identifierAt, identifiersBy}
+use Rattle.five_numbers.specs.Numbers.{picRowOf, identifiersFrom, fiveNumbers}
 use Rattle.identification.specs.Identification.{chosen, chooseBy, identifyHeaded, identifyBy}
-use Rattle.identification.specs.declared.Head.{Head}
+use Rattle.headers.specs.declared.Head.{Head}
 use Rattle.raw_values.specs.RawValues.{isString, Wide, startOf, valueAt, partAt, fieldRaw, rawIn, rawOf}
 use Rattle.raw_values.proofs.RawLaws.{width-wide}
 use Rattle.at_verdicts.proofs.NumberLaws.{Numbered, one-then}
@@ -44,12 +43,12 @@ abbrev pub identifying : List ℕ
 identifying = 20 ∷ 21 ∷ 22 ∷ 23 ∷ 24 ∷ 25 ∷ []
 
 pub head-numbers : (p : List ℕ) → Numbered identifying (headOf p)
-unfolding headOf headFrom headerOf
+unfolding headOf
 head-numbers p =
-    cond-cases (λ (h : Heading). Numbered identifying (headFrom h)) (ltb (length p) 7 || ltb 8192 (length p)) (λ _. refl)
-    (λ _. cond-cases (λ (h : Heading). Numbered identifying (headFrom h)) (not (eqb (version p) 0) || not (eqb (typeBit p) 0)) (λ _. refl)
-    (λ _. cond-cases (λ (h : Heading). Numbered identifying (headFrom h)) (not (eqb (lengthField p + 7) (length p))) (λ _. refl)
-    (λ _. cond-cases (λ (h : Heading). Numbered identifying (headFrom h)) (flagged p && ltb (length p) 9) (λ _. refl) (λ _. refl))))
+    cond-cases (λ (o : Outcome Head). Numbered identifying o) (ltb (length p) 7 || ltb 8192 (length p)) (λ _. refl)
+    (λ _. cond-cases (λ (o : Outcome Head). Numbered identifying o) (not (eqb (version p) 0) || not (eqb (typeBit p) 0)) (λ _. refl)
+    (λ _. cond-cases (λ (o : Outcome Head). Numbered identifying o) (not (eqb (lengthField p + 7) (length p))) (λ _. refl)
+    (λ _. cond-cases (λ (o : Outcome Head). Numbered identifying o) (flagged p && ltb (length p) 9) (λ _. refl) (λ _. refl))))
 
 identifier-numbers : (byte : ℕ) (s : Said) → Numbered identifying (readIdentifier byte s)
 unfolding readIdentifier

@@ -17,7 +17,7 @@ use Rattle.rows.specs.declared.records.PcfRow.{PcfRow}
 use Rattle.outcomes.specs.Outcome.{Outcome, andThen}
 use Rattle.outcomes.specs.Values.{Value}
 use Rattle.database.specs.Rows.{Rows}
-use Rattle.identification.specs.declared.Head.{Head}
+use Rattle.headers.specs.declared.Head.{Head}
 use Rattle.raw_values.specs.RawValues.{rawOf}
 use Rattle.parameters.specs.Located.{Located}
 use Rattle.engineering.specs.Scale.{Scale, onScale}

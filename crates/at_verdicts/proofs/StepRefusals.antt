@@ -17,9 +17,9 @@ use Rattle.verdicts.specs.Key.{location, limits}
 use Rattle.outcomes.specs.Outcome.{Outcome, answer, refused, andThen}
 use Rattle.database.specs.Rows.{Row, Rows}
 use Rattle.database.specs.GoodRows.{ofTables}
-use Rattle.identification.specs.Headed.{headOf}
+use Rattle.headers.specs.Header.{headOf}
 use Rattle.identification.specs.Identification.{Identity, identifyHeaded, identifyBy}
-use Rattle.identification.specs.declared.Head.{Head}
+use Rattle.headers.specs.declared.Head.{Head}
 use Rattle.parameters.specs.Located.{byLines, located}
 use Rattle.limit_state.specs.State.{isState}
 use Rattle.limit_state.specs.declared.state.LimitState.{LimitState}

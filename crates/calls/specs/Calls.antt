@@ -2,11 +2,10 @@
 use Prim.Native.Nat.{ℕ}
 use mathlib.Core.Path.{_≡_, refl}
 use mathlib.Core.List.{List, []}
-use Rattle.headers.specs.Header.{headerOf}
+use Rattle.headers.specs.Header.{headOf}
 use Rattle.verdicts.specs.Answer.{firstTable, tooLong, tooManyRows}
 use Rattle.tables.specs.Sizes.{sizesOf}
 use Rattle.outcomes.specs.Outcome.{Outcome, refused, andThen}
-use Rattle.identification.specs.Headed.{headFrom, headOf}
 use Rattle.identification.specs.Identification.{Identity, identifyBy}
 use Rattle.readings.specs.Readings.{Reading}
 use Rattle.engineering.specs.Engineering.{Engineered}
@@ -34,5 +33,5 @@ limitStepOf texts p name s = asking texts (λ rows. stepIn rows p name s)
 
 -- there is no table that is too large, and a packet of no bytes is under 7
 pub example : identifyOf [] [] ≡ refused 20 0
-unfolding identifyOf asking afterSizes sizesOf tooLong tooManyRows firstTable identifyBy andThen headOf headFrom headerOf
+unfolding identifyOf asking afterSizes sizesOf tooLong tooManyRows firstTable identifyBy andThen headOf
 example = refl

@@ -4,11 +4,10 @@ use mathlib.Core.Path.{_≡_, refl}
 use mathlib.Core.List.{List, []}
 use Rattle.laws.specs.Text.{ascii}
 use Rattle.lines.specs.Names.{nameOf}
-use Rattle.headers.specs.Header.{headerOf}
+use Rattle.headers.specs.Header.{headOf}
 use Rattle.outcomes.specs.Outcome.{Outcome, refused, andThen}
 use Rattle.database.specs.Rows.{Rows}
 use Rattle.database.specs.GoodRows.{among}
-use Rattle.identification.specs.Headed.{headFrom, headOf}
 use Rattle.identification.specs.Identification.{identifyBy}
 use Rattle.readings.specs.Readings.{Reading, reading}
 
@@ -18,5 +17,5 @@ extractBy rows p name k = andThen (identifyBy rows p) (λ id. reading rows p (id
 
 -- what refuses the packet refuses the reading
 pub example : extractBy (among []) [] (ascii "T1") 0 ≡ refused 20 0
-unfolding extractBy andThen identifyBy headOf headFrom headerOf
+unfolding extractBy andThen identifyBy headOf
 example = refl

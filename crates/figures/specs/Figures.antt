@@ -16,10 +16,9 @@ use Rattle.fields.specs.Figures.{packet}
 use Rattle.outcomes.specs.Outcome as outcome
 use Rattle.outcomes.specs.Outcome.{Outcome, answer}
 use Rattle.headers.specs.Header as header
-use Rattle.headers.specs.Header.{headerOf}
-use Rattle.identification.specs.Headed.{headFrom, headOf}
-use Rattle.identification.specs.Numbers.{typeOf, subtypeOf}
-use Rattle.identification.specs.declared.Head.{Head}
+use Rattle.headers.specs.Header.{headOf}
+use Rattle.five_numbers.specs.Numbers.{typeOf, subtypeOf}
+use Rattle.headers.specs.declared.Head.{Head}
 use Rattle.rows.specs.declared.letters.OffEnds.{OffEnds}
 use Rattle.rows.specs.declared.letters.OffEnds.the-variants.{Extrapolate, Refuse}
 use Rattle.curves.specs.Floor.{floorDiv}
@@ -97,7 +96,7 @@ figures =
 -- every figure is what the definitions answer
 pub figures-hold : map (λ (f : Asked × Said). told (f .0)) figures ≡ map (λ (f : Asked × Said). f .1) figures
 unfolding
-    figures told packet byHead headOf headFrom headerOf header.version header.typeBit header.flagged header.apid header.sequenceCount header.lengthField
+    figures told packet byHead headOf header.version header.typeBit header.flagged header.apid header.sequenceCount header.lengthField
     unsignedAt signedAt complementOf fieldAt isWidth inside bitInside numberAt bitAt
     curveXs curveYs curveAt placed fromLast beforeFirst offEnd through pointAt notAbove below above nearestOf better closer nearer passes
     lineAt isSegment isPoint isCoordinate isRaw within resultOf heightAt floorDiv

@@ -16,7 +16,9 @@ use Rattle.fields.specs.Field.{unsignedAt, saidUnsigned}
 use Rattle.fields.specs.declared.field.Unsigned.{Unsigned}
 use Rattle.fields.specs.declared.field.Unsigned.the-variants.{Is, Outside, NoWidth}
 use Rattle.fields.proofs.FieldLaws.{field-value, unsigned-read}
-use Rattle.headers.specs.Header.{refused, heading, version, typeBit, flagged, apid, sequenceCount, lengthField, headerOf}
+use Rattle.outcomes.specs.Outcome.{Outcome, refused, answer}
+use Rattle.headers.specs.Header.{version, typeBit, flagged, apid, sequenceCount, lengthField, headOf}
+use Rattle.headers.specs.declared.Head.{Head}
 
 -- a field that a packet has is read
 module _ (p : List ℕ) (at n : ℕ) (r : Unsigned) (s : saidUnsigned r ≡ unsignedAt p at n) where
@@ -37,23 +39,27 @@ module _ (p : List ℕ) (at n : ℕ) (r : Unsigned) (s : saidUnsigned r ≡ unsi
     unfolding saidUnsigned
     bits-wide e = false≢true (cc (there, e))
 
+-- a header with these numbers
+abbrev told : Bool → (apid count : ℕ) → Outcome Head
+told b a n = answer (record { flagged = b; apid = a; count = n })
+
 module _ (p : List ℕ) where
   -- the first four bits are the version and the type bit
   pub first-bits : numberAt p 0 4 ≡ version p * 2 + typeBit p
   unfolding version typeBit numberAt
   first-bits = omega arith
 
-  pub refused-short : length p < 7 → refused 20 ≡ headerOf p
-  unfolding headerOf
+  pub refused-short : length p < 7 → refused 20 0 ≡ headOf p
+  unfolding headOf
   refused-short h = rw (lt-ltb _ _ h)
 
-  pub refused-long : 7 ≤ length p → 8192 < length p → refused 20 ≡ headerOf p
-  unfolding headerOf
+  pub refused-long : 7 ≤ length p → 8192 < length p → refused 20 0 ≡ headOf p
+  unfolding headOf
   refused-long g h = rw (le-ltb _ _ g, lt-ltb _ _ h)
 
   module _ (g : 7 ≤ length p) (h : length p ≤ 8192) where
-    pub refused-version : (numberAt p 0 4 ≡ 0 → ⊥) → refused 21 ≡ headerOf p
-    unfolding headerOf
+    pub refused-version : (numberAt p 0 4 ≡ 0 → ⊥) → refused 21 0 ≡ headOf p
+    unfolding headOf
     refused-version n = rw (le-ltb _ _ g, le-ltb _ _ h, set) refl
       where
         go : (b : Bool) → eqb (version p) 0 ≡ b → (not b || not (eqb (typeBit p) 0)) ≡ true
@@ -67,50 +73,43 @@ module _ (p : List ℕ) where
       clear : (eqb (version p) 0 ≡ true) × (eqb (typeBit p) 0 ≡ true)
       clear = (eq-eqb (version p) 0 (omega (arith, first-bits)), eq-eqb (typeBit p) 0 (omega (arith, first-bits)))
 
-      pub refused-field : (lengthField p + 7 ≡ length p → ⊥) → refused 22 ≡ headerOf p
-      unfolding headerOf
+      pub refused-field : (lengthField p + 7 ≡ length p → ⊥) → refused 22 0 ≡ headOf p
+      unfolding headOf
       refused-field n = rw (le-ltb _ _ g, le-ltb _ _ h, clear .0, clear .1, ne-eqb _ _ n)
 
       module _ (l : lengthField p + 7 ≡ length p) where
-        pub refused-data : flagged p ≡ true → length p < 9 → refused 23 ≡ headerOf p
-        unfolding headerOf
+        pub refused-data : flagged p ≡ true → length p < 9 → refused 23 0 ≡ headOf p
+        unfolding headOf
         refused-data f n = rw (le-ltb _ _ g, le-ltb _ _ h, clear .0, clear .1, eq-eqb _ _ l, f, lt-ltb _ _ n)
 
-        pub heading-is : (b : Bool) (a n : ℕ) → b ≡ flagged p → a ≡ apid p → n ≡ sequenceCount p → (b ≡ false) ⊎ ((b ≡ true) × (9 ≤ length p)) → heading b a n ≡ headerOf p
-        unfolding headerOf
+        pub heading-is : (b : Bool) (a n : ℕ) → b ≡ flagged p → a ≡ apid p → n ≡ sequenceCount p → (b ≡ false) ⊎ ((b ≡ true) × (9 ≤ length p)) → told b a n ≡ headOf p
+        unfolding headOf
         heading-is b a n f i c w =
             rw (le-ltb _ _ g, le-ltb _ _ h, clear .0, clear .1, eq-eqb _ _ l, ← f, ← i, ← c)
             (go w)
           where
-            go : (b ≡ false) ⊎ ((b ≡ true) × (9 ≤ length p)) → heading b a n ≡ cond (b && ltb (length p) 9) (refused 23) (heading b a n)
+            go : (b ≡ false) ⊎ ((b ≡ true) × (9 ≤ length p)) → told b a n ≡ cond (b && ltb (length p) 9) (refused 23 0) (told b a n)
             go (inl e) = rw e
             go (inr e) = rw (e .0, le-ltb _ _ (e .1))
 
--- what a header that passes tells
-pub record Headed (p : List ℕ) (f : Bool) (a : ℕ) : Type 0 where
-  pub flag : f ≡ flagged p
-  pub id : a ≡ apid p
-  pub long : 7 ≤ length p
-  pub short : length p ≤ 8192
-  pub room : f ≡ true → 9 ≤ length p
+-- the header that passes tells the APID and the count of the packet
+pub record Tells (p : List ℕ) (head : Head) : Type 0 where
+  pub id : head .apid ≡ apid p
+  pub last : head .count ≡ sequenceCount p
 
-module _ (p : List ℕ) {f : Bool} {a c : ℕ} where
-  last-test : (b r : Bool) → flagged p ≡ b → ltb (length p) 9 ≡ r → 7 ≤ length p → length p ≤ 8192
-      → heading f a c ≡ cond (b && r) (refused 23) (heading b (apid p) (sequenceCount p)) → Headed p f a
-  last-test true true g q l s e = absurd (false≢true cc)
-  last-test true false g q l s e = record { flag = cc; id = cc; long = l; short = s; room = λ t. ltb-false _ _ q }
-  last-test false r g q l s e = record { flag = cc; id = cc; long = l; short = s; room = λ t. absurd (false≢true cc) }
-
-  tests : (s l v w : Bool) → ltb (length p) 7 ≡ s → ltb 8192 (length p) ≡ l
-      → heading f a c ≡ cond (s || l) (refused 20) (cond v (refused 21) (cond w (refused 22) (cond (flagged p && ltb (length p) 9) (refused 23) (heading (flagged p) (apid p) (sequenceCount p)))))
-      → Headed p f a
-  tests true l v w x y e = absurd (false≢true cc)
-  tests false true v w x y e = absurd (false≢true cc)
-  tests false false true w x y e = absurd (false≢true cc)
-  tests false false false true x y e = absurd (false≢true cc)
-  tests false false false false x y e = last-test (flagged p) (ltb (length p) 9) refl refl (ltb-false _ _ x) (ltb-false _ _ y) e
-
-  pub header-told : heading f a c ≡ headerOf p → Headed p f a
-  unfolding headerOf
-  header-told e =
-      tests (ltb (length p) 7) (ltb 8192 (length p)) (not (eqb (version p) 0) || not (eqb (typeBit p) 0)) (not (eqb (lengthField p + 7) (length p))) refl refl e
+pub head-tells : (p : List ℕ) {head : Head} → headOf p ≡ answer head → Tells p head
+unfolding headOf
+head-tells p {head} e =
+    go (ltb (length p) 7 || ltb 8192 (length p)) (not (eqb (version p) 0) || not (eqb (typeBit p) 0))
+    (not (eqb (lengthField p + 7) (length p))) (flagged p && ltb (length p) 9) e
+  where
+    go : (v w x y : Bool)
+        → cond v (refused 20 0) (cond w (refused 21 0) (cond x (refused 22 0)
+        (cond y (refused 23 0) (answer (record { flagged = flagged p; apid = apid p; count = sequenceCount p })))))
+        ≡ answer head
+        → Tells p head
+    go true w x y e = absurd (false≢true cc)
+    go false true x y e = absurd (false≢true cc)
+    go false false true y e = absurd (false≢true cc)
+    go false false false true e = absurd (false≢true cc)
+    go false false false false e = record { id = cc; last = cc }

@@ -1,20 +1,24 @@
 // The header of a packet by CCSDS 133.0, and refusals 20 to 23.
 use fields::field::Unsigned;
 use fields::field::read_unsigned;
+use outcomes::Refusal;
 use units::BitOffset;
 ghost use mathlib.Core.Path.{_≡_};
 ghost use Prim.Native.Nat.{_+_, _*_, _^_, _≤_, _<_};
 ghost use lib.ListN.{length};
 ghost use Rattle.fields.specs.Bits.{numberAt};
-ghost use Rattle.headers.specs.Header.{said, headerOf};
+ghost use Rattle.headers.specs.Header.{saidHead, headOf};
 
-// Whether a data field header is flagged, the APID and the sequence count; or why the packet is refused.
-pub enum Header {
-    Is(bool, u16, u16),
-    Length,
-    Version,
-    LengthField,
-    DataField,
+// What the header of a packet tells: whether a data field header is flagged, the APID and the sequence count.
+pub struct Head {
+    pub flagged: bool,
+    pub apid: u16,
+    pub count: u16,
+}
+
+pub enum Headed {
+    Is(Head),
+    Refused(Refusal),
 }
 
 // The `width` bits from the bit `at` of a packet that has them.
@@ -29,28 +33,34 @@ fn bits(p: &[u8], at: BitOffset, width: u32) -> u64
     }
 }
 
-pub fn read_header(p: &[u8]) -> Header
-    ensures { λ r. ⌜ said r ≡ headerOf (now (p .entry)) ⌝ }
+// The header, or the first of the refusals 20 to 23.
+pub fn read_header(p: &[u8]) -> Headed
+    ensures { λ r. ⌜ saidHead r ≡ headOf (now (p .entry)) ⌝ }
 {
     if p.len() < 7 {
-        return Header::Length;
+        return Headed::Refused(Refusal::PacketLength);
     }
     if 8192 < p.len() {
-        return Header::Length;
+        return Headed::Refused(Refusal::PacketLength);
     }
     if bits(p, BitOffset(0), 4) != 0 {
-        return Header::Version;
+        return Headed::Refused(Refusal::Version);
     }
     if bits(p, BitOffset(32), 16) + 7 != p.len() as u64 {
-        return Header::LengthField;
+        return Headed::Refused(Refusal::LengthField);
     }
     let flagged = bits(p, BitOffset(4), 1) == 1;
     if flagged {
         if p.len() < 9 {
-            return Header::DataField;
+            return Headed::Refused(Refusal::DataField);
         }
     }
     let apid = bits(p, BitOffset(5), 11) as u16;
     let count = bits(p, BitOffset(18), 14) as u16;
-    Header::Is(flagged, apid, count)
+    let head = Head {
+        flagged,
+        apid,
+        count,
+    };
+    Headed::Is(head)
 }

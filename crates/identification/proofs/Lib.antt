@@ -1,4 +1,1 @@
-pub mod FieldLaws
-pub mod IdentifierLaws
-pub mod PicLaws
 pub mod PidLaws

@@ -10,7 +10,7 @@ use Rattle.fields.specs.Bits.{bitAt, numberAt}
 use Rattle.fields.specs.Place.{bitInside, inside}
 use Rattle.fields.specs.Field.{isWidth, fieldAt, unsignedAt}
 use Rattle.fields.specs.Figures.{packet}
-use Rattle.headers.specs.Header.{version, typeBit, lengthField, flagged, apid, sequenceCount, headerOf}
+use Rattle.headers.specs.Header.{version, typeBit, lengthField, flagged, apid, sequenceCount, headOf}
 use Rattle.rows.specs.Values.{naturalFrom, naturalOr, integerFrom, integerOr, letterOf, validOf, isGiven, optionalApid, identificationField}
 use Rattle.rows.specs.Records.{column, pidRow, picRow}
 use Rattle.verdicts.specs.Key.{keyWords, sameKey}
@@ -21,10 +21,9 @@ use Rattle.outcomes.specs.Outcome.{Outcome, refused, answer, andThen}
 use Rattle.outcomes.specs.Refusals.{refusedBy}
 use Rattle.database.specs.Rows.{Row, Rows}
 use Rattle.database.specs.GoodRows.{among, find, holdsKey}
-use Rattle.identification.specs.Headed.{headFrom, headOf}
-use Rattle.identification.specs.Identifiers.{readIdentifier, identifierAt, identifiersBy}
-use Rattle.identification.specs.Numbers.{orOther, picRowOf, identifiersFrom, numbersOf, fiveNumbers, rowOf, own, general}
-use Rattle.identification.specs.declared.Head.{Head}
+use Rattle.identifiers.specs.Identifiers.{readIdentifier, identifierAt, identifiersBy}
+use Rattle.five_numbers.specs.Numbers.{orOther, picRowOf, identifiersFrom, numbersOf, fiveNumbers, rowOf, own, general}
+use Rattle.headers.specs.declared.Head.{Head}
 use Rattle.identification.specs.declared.Identified.{Identified}
 use Rattle.identification.specs.declared.Identified.the-variants.{Is, Refused}
 
@@ -71,7 +70,7 @@ pub record Examples : Type 0 where
 pub examples : Examples
 unfolding
     identifyBy identifyHeaded chooseBy chosen andThen fiveNumbers numbersOf identifiersFrom picRowOf orOther identifiersBy identifierAt readIdentifier
-    headOf headFrom headerOf version typeBit lengthField flagged apid sequenceCount
+    headOf version typeBit lengthField flagged apid sequenceCount
     among find holdsKey factsOf pidFacts pidKeys picFacts sameKey keyWords sameBytes
     pidRow picRow column columnsOf columnsFrom naturalOr naturalFrom integerOr integerFrom numberOf meaning spelt after digitOn digitOf
     letterOf validOf isGiven optionalApid identificationField unsignedAt fieldAt isWidth inside bitInside numberAt bitAt packet

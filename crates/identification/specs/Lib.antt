@@ -1,4 +1,1 @@
-pub mod Headed
-pub mod Identifiers
-pub mod Numbers
 pub mod Identification

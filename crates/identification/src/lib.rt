@@ -1,13 +1,11 @@
 // Which packet it is.
-mod five_numbers;
-mod identifiers;
-
 use database::holder_of;
 use database::line_of;
 use database::number_of;
 use five_numbers::identifiers_of;
 use five_numbers::numbers_of;
-use headers::Header;
+use headers::Head;
+use headers::Headed;
 use headers::read_header;
 use identifiers::Fields;
 use key_symbols::FiveNumbers;
@@ -20,37 +18,7 @@ use units::Spid;
 ghost use mathlib.Core.Path.{_≡_};
 ghost use mathlib.Core.List.{map};
 ghost use Rattle.database.specs.Arrays.{database, answers};
-ghost use Rattle.identification.specs.Headed.{headOf, saidHead};
 ghost use Rattle.identification.specs.Identification.{chooseBy, identifyHeaded, identifyBy, saidIdentified};
-
-// What the header of a packet tells: whether a data field header is flagged, the APID and the sequence count.
-pub struct Head {
-    pub flagged: bool,
-    pub apid: u16,
-    pub count: u16,
-}
-
-pub enum Headed {
-    Is(Head),
-    Refused(Refusal),
-}
-
-// The header, or the first of the refusals 20 to 23.
-pub fn head_of(p: &[u8]) -> Headed
-    ensures { λ r. ⌜ saidHead r ≡ headOf (now (p .entry)) ⌝ }
-{
-    match read_header(p) {
-        Header::Is(flagged, apid, count) => Headed::Is(Head {
-            flagged,
-            apid,
-            count,
-        }),
-        Header::Length => Headed::Refused(Refusal::PacketLength),
-        Header::Version => Headed::Refused(Refusal::Version),
-        Header::LengthField => Headed::Refused(Refusal::LengthField),
-        Header::DataField => Headed::Refused(Refusal::DataField),
-    }
-}
 
 // The pid row's number, its SPID and the five numbers; or why there is none.
 pub enum Identified {
@@ -113,7 +81,7 @@ pub fn identify_in(
     ensures { λ r. ⌜ saidIdentified r
         ≡ identifyBy (answers (database (map now (tables .entry)) (now (words .entry)) (now (links .entry)) (now (columns .entry)))) (now (p .entry)) ⌝ }
 {
-    match head_of(p) {
+    match read_header(p) {
         Headed::Is(head) => identify_headed(tables, words, links, columns, p, head),
         Headed::Refused(refusal) => Identified::Refused(refusal),
     }

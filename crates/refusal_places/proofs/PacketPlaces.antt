@@ -27,17 +27,17 @@ use Rattle.rows.specs.declared.records.PlfRow.{PlfRow}
 use Rattle.rows.specs.declared.records.PcfRow.{PcfRow}
 use Rattle.rows.specs.declared.letters.Category.{Category}
 use Rattle.rows.specs.declared.letters.Category.the-variants as category
-use Rattle.headers.specs.Header.{Heading, heading, refused as refusedHeader, headerOf}
+use Rattle.headers.specs.Header.{version, typeBit, lengthField, flagged}
 use Rattle.verdicts.specs.Key.{location, parameter, identification}
 use Rattle.key_symbols.specs.declared.FiveNumbers.{FiveNumbers}
 use Rattle.outcomes.specs.Outcome.{Outcome, answer, andThen}
 use Rattle.outcomes.specs.Values.{Value}
 use Rattle.database.specs.Rows.{Row, Rows}
-use Rattle.identification.specs.Headed.{headFrom, headOf}
-use Rattle.identification.specs.Identifiers.{readIdentifier, identifierAt, identifiersBy}
-use Rattle.identification.specs.Numbers.{typeOf, subtypeOf, orOther, picRowOf, identifiersFrom, fiveNumbers}
+use Rattle.headers.specs.Header.{headOf}
+use Rattle.identifiers.specs.Identifiers.{readIdentifier, identifierAt, identifiersBy}
+use Rattle.five_numbers.specs.Numbers.{typeOf, subtypeOf, orOther, picRowOf, identifiersFrom, fiveNumbers}
 use Rattle.identification.specs.Identification.{chosen, chooseBy, identifyHeaded, identifyBy}
-use Rattle.identification.specs.declared.Head.{Head}
+use Rattle.headers.specs.declared.Head.{Head}
 use Rattle.raw_values.specs.RawValues.{startOf, isString, valueAt, fieldRaw, rawIn, rawOf}
 use Rattle.parameters.specs.Located.{Located, byLines, needed, located}
 use Rattle.readings.specs.Readings.{withValidity, readingWith, reading}
@@ -86,14 +86,13 @@ unfolding chosen
 chosen-small n none = no-place 25
 chosen-small n (some row) = small-answer _
 
-header-small : (h : Heading) → Small (headFrom h)
-unfolding headFrom
-header-small (refusedHeader n) = no-place n
-header-small (heading flag id n) = small-answer _
-
 pub head-small : (p : List ℕ) → Small (headOf p)
 unfolding headOf
-head-small p = header-small (headerOf p)
+head-small p =
+    cond-cases (λ (o : Outcome Head). Small o) (ltb (length p) 7 || ltb 8192 (length p)) (λ _. no-place 20)
+    (λ _. cond-cases (λ (o : Outcome Head). Small o) (not (eqb (version p) 0) || not (eqb (typeBit p) 0)) (λ _. no-place 21)
+    (λ _. cond-cases (λ (o : Outcome Head). Small o) (not (eqb (lengthField p + 7) (length p))) (λ _. no-place 22)
+    (λ _. cond-cases (λ (o : Outcome Head). Small o) (flagged p && ltb (length p) 9) (λ _. no-place 23) (λ _. small-answer _))))
 
 -- Readings
 

@@ -15,9 +15,9 @@ use Rattle.verdicts.specs.Key.{limits}
 use Rattle.outcomes.specs.Outcome.{Outcome}
 use Rattle.outcomes.specs.Values.{Value, number, part}
 use Rattle.database.specs.Rows.{Row, Rows}
-use Rattle.identification.specs.Headed.{headOf}
+use Rattle.headers.specs.Header.{headOf}
 use Rattle.identification.specs.Identification.{identifyHeaded}
-use Rattle.identification.specs.declared.Head.{Head}
+use Rattle.headers.specs.declared.Head.{Head}
 use Rattle.raw_values.specs.RawValues.{rawOf}
 use Rattle.parameters.specs.Located.{Located, located}
 use Rattle.engineering.specs.Scale.{Scale, onScale}

@@ -12,13 +12,13 @@ use Rattle.laws.proofs.Cases.{false≢true}
 use Rattle.lines.specs.Names.{nameOf}
 use Rattle.rows.specs.declared.records.OcfRow.{OcfRow}
 use Rattle.fields.proofs.BitLaws.{number-lt}
-use Rattle.headers.specs.Header.{version, typeBit, flagged, apid, sequenceCount, lengthField, Heading, heading, headerOf, refused as refusedHeader}
+use Rattle.headers.specs.Header.{apid, sequenceCount, headOf}
+use Rattle.headers.specs.declared.Head.{Head}
+use Rattle.headers.proofs.HeaderLaws.{Tells, head-tells}
 use Rattle.outcomes.specs.Outcome.{Outcome, refused, answer, andThen}
 use Rattle.database.specs.Rows.{Rows}
 use Rattle.parameters.specs.Located.{Located, located}
-use Rattle.identification.specs.Headed.{headFrom, headOf}
 use Rattle.identification.specs.Identification.{Identity, identifyHeaded}
-use Rattle.identification.specs.declared.Head.{Head}
 use Rattle.limit_state.specs.State.{isState, isNewer}
 use Rattle.limit_state.specs.Checks.{severityIn}
 use Rattle.limit_state.specs.Severity.{afterReadings}
@@ -47,28 +47,6 @@ apid-small p = omega (arith, number-lt p 5 11)
 count-small : (p : List ℕ) → sequenceCount p ≤ 16383
 unfolding sequenceCount
 count-small p = omega (arith, number-lt p 18 14)
-
--- the header that passes tells the APID and the count of the packet
-pub record Tells (p : List ℕ) (head : Head) : Type 0 where
-  pub id : head .apid ≡ apid p
-  pub last : head .count ≡ sequenceCount p
-
-pub head-tells : (p : List ℕ) {head : Head} → headOf p ≡ answer head → Tells p head
-unfolding headOf headFrom headerOf
-head-tells p {head} e =
-    go (ltb (length p) 7 || ltb 8192 (length p)) (not (eqb (version p) 0) || not (eqb (typeBit p) 0))
-    (not (eqb (lengthField p + 7) (length p))) (flagged p && ltb (length p) 9) e
-  where
-    go : (v w x y : Bool)
-        → headFrom (cond v (refusedHeader 20) (cond w (refusedHeader 21) (cond x (refusedHeader 22)
-        (cond y (refusedHeader 23) (heading (flagged p) (apid p) (sequenceCount p))))))
-        ≡ answer head
-        → Tells p head
-    go true w x y e = absurd (false≢true cc)
-    go false true x y e = absurd (false≢true cc)
-    go false false true y e = absurd (false≢true cc)
-    go false false false true e = absurd (false≢true cc)
-    go false false false false e = record { id = cc; last = cc }
 
 -- a state that takes a packet is answered as it is
 state-told : {s t : LimitState} → stateIn s ≡ answer t → (isState s ≡ true) × (t ≡ s)

@@ -13,8 +13,8 @@ use Rattle.outcomes.specs.Outcome.{Outcome, refused, answer, andThen}
 use Rattle.verdicts.specs.Key.{limits}
 use Rattle.database.specs.Rows.{Row, Rows}
 use Rattle.parameters.specs.Located.{Located, located}
-use Rattle.identification.specs.Headed.{headOf}
-use Rattle.identification.specs.declared.Head.{Head}
+use Rattle.headers.specs.Header.{headOf}
+use Rattle.headers.specs.declared.Head.{Head}
 use Rattle.limit_state.specs.State.{isState, isNewer}
 use Rattle.limit_state.specs.declared.state.LimitState.{LimitState}
 use Rattle.limit_state.specs.declared.severity.Progress.{Progress}

@@ -7,6 +7,7 @@ use Rattle.laws.specs.Lists.{any}
 use Rattle.laws.proofs.Cases.{false≢true, false-of, or-left, or-right}
 use Rattle.laws.proofs.Tests.{any-witness}
 use Rattle.headers.specs.Header.{apid, sequenceCount}
+use Rattle.headers.proofs.HeaderLaws.{head-tells}
 use Rattle.outcomes.specs.Outcome.{Outcome, refused, answer}
 use Rattle.database.specs.Rows.{Rows}
 use Rattle.limit_state.specs.State.{isState, isNewer}
@@ -14,7 +15,7 @@ use Rattle.limit_state.specs.declared.state.LimitState.{LimitState}
 use Rattle.limit_state.proofs.StateLaws.{never-newer, one-way, behind-old}
 use Rattle.stepping.specs.Step.{stepIn, stateAfter, afterPackets}
 use Rattle.stepping.proofs.AnswerLaws.{time-old}
-use Rattle.stepping.proofs.AcceptedLaws.{Accepted, accepted-by, offered-again, head-tells, left-fresh, left-apid, left-count, left-state}
+use Rattle.stepping.proofs.AcceptedLaws.{Accepted, accepted-by, offered-again, left-fresh, left-apid, left-count, left-state}
 
 -- a packet that was accepted is refused by any state of its APID to which it isn't newer
 refused-old : {rows : Rows} {p name : List ℕ} {s t : LimitState} → Accepted rows p name s t → (u : LimitState) → isState u ≡ true

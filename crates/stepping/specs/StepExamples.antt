@@ -38,7 +38,7 @@ use Rattle.curves.specs.Floor.{floorDiv}
 use Rattle.curves.specs.Line.{within as lies, isCoordinate, isPoint, isSegment, isRaw, heightAt, resultOf, lineAt}
 use Rattle.calibration.specs.Nearest.{passes, nearer, closer, better, nearestOf, notAbove, below, above}
 use Rattle.calibration.specs.Curve.{pointAt, through, offEnd, fromLast, beforeFirst, placed, curveAt}
-use Rattle.headers.specs.Header.{version, typeBit, flagged, apid, sequenceCount, lengthField, headerOf}
+use Rattle.headers.specs.Header.{version, typeBit, flagged, apid, sequenceCount, lengthField, headOf}
 use Rattle.outcomes.specs.Outcome.{Outcome, refused, answer, andThen}
 use Rattle.verdicts.specs.Key.{keyWords, sameKey}
 use Rattle.verdicts.specs.Facts.{factsOf, pidKeys, pidFacts, plfFacts, pcfFacts, cafFacts, capFacts, ocfFacts, ocpFacts}
@@ -47,8 +47,7 @@ use Rattle.database.specs.GoodRows.{holdsKey, inGroup, find, among}
 use Rattle.raw_values.specs.RawValues.{isString, startOf, valueAt, fieldRaw, rawIn, rawOf}
 use Rattle.parameters.specs.Located.{byLines, needed, located}
 use Rattle.readings.specs.Readings.{sameInteger, equals, agrees, withValidity, readingWith, validWithin, validity}
-use Rattle.identification.specs.Headed.{headFrom, headOf}
-use Rattle.identification.specs.Numbers.{orOther, picRowOf, identifiersFrom, numbersOf, fiveNumbers}
+use Rattle.five_numbers.specs.Numbers.{orOther, picRowOf, identifiersFrom, numbersOf, fiveNumbers}
 use Rattle.identification.specs.Identification.{chosen, chooseBy, identifyHeaded}
 use Rattle.engineering.specs.Curves.{curveEnds, xvalsOf, yvalsOf, curveBy, curveOf, outcomeOf, along}
 use Rattle.engineering.specs.Scale.{scaleOf, onScale}
@@ -135,7 +134,7 @@ unfolding
     applying applies firstRaw hasValue checksOf checkOf levelOf severityIn violates isViolated
     valuesOf scaleUnder valuesOn unlessRefused answered isRefusal rawsOf integerIn occurrencesFrom
     identifyHeaded chooseBy chosen fiveNumbers numbersOf identifiersFrom picRowOf orOther
-    headOf headFrom headerOf version typeBit lengthField flagged apid sequenceCount
+    headOf version typeBit lengthField flagged apid sequenceCount
     validity validWithin readingWith located needed byLines withValidity agrees equals sameInteger
     scaleOf onScale curveOf curveBy curveEnds xvalsOf yvalsOf along outcomeOf
     among find holdsKey inGroup factsOf pidKeys pidFacts plfFacts pcfFacts cafFacts capFacts ocfFacts ocpFacts

@@ -3,7 +3,7 @@ use mathlib.Core.Path.{_≡_, refl}
 use mathlib.Core.Bool.{true, false, cond}
 use lib.Dec.{eqb, ltb, leb}
 use Rattle.outcomes.specs.Outcome.{Outcome, refused, answer}
-use Rattle.identification.specs.declared.Head.{Head}
+use Rattle.headers.specs.declared.Head.{Head}
 use Rattle.limit_state.specs.State.{isOver, hasNumber, isState, ahead, isNewer}
 use Rattle.limit_state.specs.declared.state.LimitState.{LimitState}
 

@@ -4,10 +4,10 @@ use checking::parameter::Subject;
 use checking::parameter::check_parameter;
 use database::holder_of;
 use database::line_of;
-use identification::Head;
-use identification::Headed;
+use headers::Head;
+use headers::Headed;
+use headers::read_header;
 use identification::Identified;
-use identification::head_of;
 use identification::identify_headed;
 use key_symbols::limits_key;
 use limit_state::severity::Progress;
@@ -189,7 +189,7 @@ pub fn step_in(
     if !is_state(state) {
         return refuse(state, Refusal::NoState);
     }
-    match head_of(p) {
+    match read_header(p) {
         Headed::Is(head) => step_headed(
             tables,
             words,

@@ -1,5 +1,6 @@
 -- A key that fits is sought, and the row found is read.
 use borrow.Author.Needs.{needs}
+use borrow.Author.Tests.{not-true, not-false}
 use mathlib.Core.Path.{_≡_, sym, _∙_}
 use mathlib.Core.Bool.{true}
 use Rattle.key_symbols.specs.Keyed.{symbolOf}
@@ -7,7 +8,6 @@ use Rattle.key_symbols.specs.Bounded.{fits, packetOf}
 use Rattle.outcomes.specs.Refusals.{refusedBy, numberOf, placeOf}
 use Rattle.database.proofs.FindLaws.{holder-none, holder-some}
 use Rattle.identification.specs.Identification.{saidIdentified}
-use Rattle.identification.proofs.PicLaws.{flag-off, flag-on}
 use Rattle.identification.proofs.PidLaws.{holder-unfit, number-alone, choice-none, choice-some}
 use Rattle.identification.proofs.choose.Statement.{statement}
 use Rattle.identification.proofs.choose.Tie as tie
@@ -15,7 +15,7 @@ use Rattle.identification.proofs.choose.Tie as tie
 -- the key fits, and its symbol is asked for
 fit : (c : tie.Else1) → (let k = c .before .before .packet-key .result in let n = c .before .before .before .before .before .before .args .numbers in
     (k .key ≡ symbolOf (packetOf n)) × (fits (packetOf n) ≡ true))
-fit c = let e = c .before .before .packet-key .ensures in let t = flag-on _ (c .if1 .left) in (e .1 t, sym (e .0) ∙ t)
+fit c = let e = c .before .before .packet-key .ensures in let t = not-false _ (c .if1 .left) in (e .1 t, sym (e .0) ∙ t)
 
 packet-key-requires : tie.Need-packet-key-requires
 packet-key-requires c κs = search needs
@@ -24,7 +24,7 @@ returns : tie.Need-returns
 unfolding saidIdentified refusedBy numberOf placeOf
 returns c =
     let k = c .before .before in
-    choice-none _ _ (holder-unfit _ _ (sym (k .packet-key .ensures .0) ∙ flag-off _ (c .if1 .taken)))
+    choice-none _ _ (holder-unfit _ _ (sym (k .packet-key .ensures .0) ∙ not-true _ (c .if1 .taken)))
 
 holder-of-requires : tie.Need-holder-of-requires
 holder-of-requires c κs = search needs

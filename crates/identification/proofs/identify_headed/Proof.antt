@@ -1,8 +1,8 @@
 -- PI1 and PI2, and then the pid row.
 use borrow.Author.Needs.{needs}
 use mathlib.Core.Path.{refl, ap, _∙_}
-use Rattle.identification.specs.Identifiers.{saidFields}
-use Rattle.identification.specs.Numbers.{fiveNumbers}
+use Rattle.identifiers.specs.Identifiers.{saidFields}
+use Rattle.five_numbers.specs.Numbers.{fiveNumbers}
 use Rattle.identification.specs.Identification.{chooseBy, identifyHeaded, saidIdentified}
 use Rattle.outcomes.proofs.OutcomeLaws.{told, then-answer, then-refused}
 use Rattle.identification.proofs.identify_headed.Statement.{statement}

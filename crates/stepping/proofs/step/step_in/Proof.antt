@@ -2,7 +2,7 @@
 use mathlib.Core.Path.{sym, _∙_}
 use Rattle.outcomes.specs.Refusals.{refusedBy, numberOf, placeOf}
 use Rattle.readings.proofs.ReadingLaws.{not-true, not-false}
-use Rattle.identification.specs.Headed.{saidHead}
+use Rattle.headers.specs.Header.{saidHead}
 use Rattle.outcomes.proofs.OutcomeLaws.{told, then-refused}
 use Rattle.stepping.proofs.AnswerLaws.{answers-as, no-state, with-head, of-state}
 use borrow.Author.Needs.{needs}
@@ -19,8 +19,8 @@ returns : tie.Need-returns
 unfolding refusedBy numberOf placeOf
 returns c = answers-as (c .refuse .ensures) (no-state _ _ _ _ (sym (c .before .before .is-state .ensures) ∙ not-true _ (c .before .if1 .taken)))
 
-head-of-requires : tie.Need-head-of-requires
-head-of-requires c κs = search needs
+read-header-requires : tie.Need-read-header-requires
+read-header-requires c κs = search needs
 
 enum-known-head : tie.Need-enum-known-head
 enum-known-head c = search needs
@@ -44,7 +44,7 @@ returns-2 c =
     let i = h .before in
     answers-as (c .step-headed .ensures)
     (of-state _ _ _ _ (sym (i .before .is-state .ensures) ∙ not-false _ (i .if1 .left))
-    (with-head _ _ _ _ (told saidHead (h .head-of .ensures) (c .before .before .before .head .given .1)) (c .before .name-of .ensures)))
+    (with-head _ _ _ _ (told saidHead (h .read-header .ensures) (c .before .before .before .head .given .1)) (c .before .name-of .ensures)))
 
 returns-3 : tie.Need-returns-3
 unfolding saidHead
@@ -53,7 +53,7 @@ returns-3 c =
     let i = h .before in
     answers-as (c .refuse2 .ensures)
     (of-state _ _ _ _ (sym (i .before .is-state .ensures) ∙ not-false _ (i .if1 .left))
-    (then-refused _ _ (told saidHead (h .head-of .ensures) (c .before .before .refusal .given .1))))
+    (then-refused _ _ (told saidHead (h .read-header .ensures) (c .before .before .refusal .given .1))))
 
 pub step-in-spec : {M : Type 1} → statement M
 step-in-spec =
@@ -62,7 +62,7 @@ step-in-spec =
     is-state-requires
     refuse-requires
     returns
-    head-of-requires
+    read-header-requires
     enum-known-head
     name-of-requires
     step-headed-requires
