@@ -34,9 +34,10 @@ use Rattle.verdicts.proofs.KeyLaws.{same-key-self}
 use Rattle.verdicts.proofs.SoundLaws.{one-holder}
 use Rattle.database.specs.Rows.{Row}
 use Rattle.database.specs.GoodRows.{goodRows, tableOf, holdsKey, inGroup, among, ofTables}
-use Rattle.engineering.specs.Curves.{Curve, curveEnds, xvalsOf, yvalsOf, curveBy, curveOf, along}
-use Rattle.engineering.specs.OffCurve.{isOffCurve}
-use Rattle.engineering.proofs.OffCurveLaws.{Sound, Exactly, off-f-curve}
+use Rattle.curve_points.specs.Curves.{Curve, curveEnds, xvalsOf, yvalsOf, curveBy, curveOf}
+use Rattle.curve_values.specs.Along.{along}
+use Rattle.curve_values.specs.OffCurve.{isOffCurve}
+use Rattle.curve_values.proofs.OffCurveLaws.{Sound, Exactly, off-f-curve}
 use Rattle.at_verdicts.proofs.GoodRows.{entryOf, GoodRow, good-row, good-line}
 use Rattle.at_verdicts.proofs.NamedRows.{entry-holds}
 use Rattle.at_verdicts.proofs.DistinctRows.{keep-distinct, good-distinct, one-index}

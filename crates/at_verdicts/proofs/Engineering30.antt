@@ -23,10 +23,11 @@ use Rattle.outcomes.specs.Outcome.{Outcome, answer, refused, andThen}
 use Rattle.outcomes.specs.Values.{number}
 use Rattle.database.specs.Rows.{Row, Rows}
 use Rattle.database.specs.GoodRows.{ofTables}
-use Rattle.engineering.specs.Curves.{Curve, curveOf, along}
-use Rattle.engineering.specs.OffCurve.{isOffCurve}
-use Rattle.engineering.specs.Scale.{scaleOf, onScale}
-use Rattle.engineering.specs.Texts as ranges
+use Rattle.curve_points.specs.Curves.{Curve, curveOf}
+use Rattle.curve_values.specs.Along.{along}
+use Rattle.curve_values.specs.OffCurve.{isOffCurve}
+use Rattle.curve_values.specs.Scale.{scaleOf, onScale}
+use Rattle.texts.specs.Texts as ranges
 use Rattle.engineering.specs.Engineering.{Engineered, value, asValue, asText, byCategory, engineered}
 use Rattle.refusal_places.proofs.GoodRows.{ownerOf}
 use Rattle.at_verdicts.specs.OffCurve.{OffItsCurve}

@@ -14,8 +14,8 @@ use Rattle.outcomes.specs.Outcome.{answer}
 use Rattle.outcomes.specs.Values.{number}
 use Rattle.database.specs.Rows.{Row, Rows}
 use Rattle.readings.specs.Readings.{Reading}
-use Rattle.engineering.specs.Curves.{Curve, curveOf}
-use Rattle.engineering.specs.OffCurve.{isOffCurve}
+use Rattle.curve_points.specs.Curves.{Curve, curveOf}
+use Rattle.curve_values.specs.OffCurve.{isOffCurve}
 use Rattle.calls.specs.Extraction.{extractBy}
 
 -- 01: "30 … raw value off an F curve", that of CURTX in a pcf row of CATEG N

@@ -22,9 +22,9 @@ use Rattle.parameters.specs.Located.{byLines, located, atPlaces}
 use Rattle.parameters.specs.declared.Places.{Places}
 use Rattle.parameters.proofs.LocatedLaws.{at-found, at-missing}
 use Rattle.database.proofs.GatherLaws.{Listed}
-use Rattle.limit_state.specs.Held.{levelOf}
-use Rattle.limit_state.specs.Checks.{Check, checkOf, checksIn}
-use Rattle.limit_state.proofs.SeverityInLaws.{stored-more}
+use Rattle.severity.specs.Levels.{levelOf}
+use Rattle.severity.specs.Checks.{Check, checkOf, checksIn}
+use Rattle.severity.proofs.SeverityInLaws.{stored-more}
 use Rattle.checking.specs.Checks.{checksOf, hasValue, firstRaw, applies}
 use Rattle.checking.specs.Room.{Room}
 

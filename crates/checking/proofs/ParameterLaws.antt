@@ -14,10 +14,10 @@ use Rattle.database.specs.Rows.{Rows}
 use Rattle.raw_values.specs.RawValues.{rawOf}
 use Rattle.parameters.specs.Located.{byLines}
 use Rattle.readings.specs.Readings.{validity}
-use Rattle.engineering.specs.Scale.{Scale, scaleOf, scaleIn}
-use Rattle.engineering.specs.declared.scale.Scale.the-variants.{AsRead}
-use Rattle.limit_state.specs.Checks.{Check}
-use Rattle.limit_state.specs.declared.severity.Progress.{Progress}
+use Rattle.curve_values.specs.Scale.{Scale, scaleOf, scaleIn}
+use Rattle.curve_values.specs.declared.scale.Scale.the-variants.{AsRead}
+use Rattle.severity.specs.Checks.{Check}
+use Rattle.announced.specs.declared.Progress.{Progress}
 use Rattle.checking.specs.Checks.{applying}
 use Rattle.checking.specs.Values.{occurrencesFrom, rawsOf, valuesOn, scaleUnder, valuesOf}
 use Rattle.checking.specs.Progress.{progressBy, checkedOf}

@@ -11,10 +11,10 @@ use borrow.Author.Tests.{eq-eqb, ne-eqb}
 use Rattle.laws.specs.Lists.{any}
 use Rattle.outcomes.specs.Outcome.{Outcome, refused, answer, andThen}
 use Rattle.outcomes.specs.Values.{Value}
-use Rattle.engineering.specs.Scale.{Scale, onScale}
-use Rattle.limit_state.specs.Severity.{afterReading, afterReadings}
-use Rattle.limit_state.specs.declared.severity.Severity.{Severity}
-use Rattle.limit_state.specs.declared.severity.Progress.{Progress}
+use Rattle.curve_values.specs.Scale.{Scale, onScale}
+use Rattle.announced.specs.Announced.{afterReading, afterReadings}
+use Rattle.severity.specs.declared.Severity.{Severity}
+use Rattle.announced.specs.declared.Progress.{Progress}
 use Rattle.checking.specs.Values.{occurrencesFrom, integerIn, rawsOf, isRefusal, answered, unlessRefused, valuesOn}
 use Rattle.checking.specs.Pass.{afterRefusal, afterValue, afterValues, ended}
 use Rattle.checking.specs.declared.occurrences.Pass.{Pass}

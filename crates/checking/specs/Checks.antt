@@ -15,7 +15,7 @@ use Rattle.database.specs.Rows.{Row, Rows}
 use Rattle.raw_values.specs.RawValues.{rawOf}
 use Rattle.parameters.specs.Located.{Located, located}
 use Rattle.readings.specs.Readings.{sameInteger, equals}
-use Rattle.limit_state.specs.Checks.{Check, checkOf}
+use Rattle.severity.specs.Checks.{Check, checkOf}
 
 -- 01: "The checks are the good ocp rows of the name"
 unfoldable pub checksOf : Rows → Name → List OcpRow

@@ -8,7 +8,7 @@ use Rattle.rows.specs.declared.records.OcfRow.{OcfRow}
 use Rattle.rows.specs.declared.records.PcfRow.{PcfRow}
 use Rattle.database.specs.Rows.{Rows}
 use Rattle.readings.specs.Readings.{validity}
-use Rattle.engineering.specs.Scale.{scaleIn}
+use Rattle.curve_values.specs.Scale.{scaleIn}
 use Rattle.checking.specs.Values.{scaleUnder}
 use Rattle.checking.specs.declared.occurrences.Manner.{Manner}
 

@@ -7,10 +7,10 @@ use lib.Dec.{eqb}
 use lib.IntN.{ℤ, pos}
 use Rattle.outcomes.specs.Outcome.{Outcome, refused, answer}
 use Rattle.outcomes.specs.Refusals.{refusedBy}
-use Rattle.limit_state.specs.Severity.{raised, violation, afterReading}
-use Rattle.limit_state.specs.declared.severity.Severity.{Severity}
-use Rattle.limit_state.specs.declared.severity.Severity.the-variants.{Within, Soft, Hard}
-use Rattle.limit_state.specs.declared.severity.Progress.{Progress}
+use Rattle.announced.specs.Announced.{raised, violation, afterReading}
+use Rattle.severity.specs.declared.Severity.{Severity}
+use Rattle.severity.specs.declared.Severity.the-variants.{Within, Soft, Hard}
+use Rattle.announced.specs.declared.Progress.{Progress}
 use Rattle.checking.specs.declared.occurrences.Pass.{Pass}
 use Rattle.checking.specs.declared.occurrences.RawNumber.{RawNumber}
 use Rattle.checking.specs.declared.occurrences.RawNumber.the-variants as number

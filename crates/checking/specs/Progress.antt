@@ -9,10 +9,10 @@ use Rattle.rows.specs.declared.records.OcfRow.{OcfRow}
 use Rattle.outcomes.specs.Outcome.{Outcome, answer, andThen}
 use Rattle.database.specs.Rows.{Rows}
 use Rattle.parameters.specs.Located.{Located}
-use Rattle.limit_state.specs.Violations.{isViolated}
-use Rattle.limit_state.specs.Checks.{Check, violates, severityIn}
-use Rattle.limit_state.specs.Severity.{raised, violation, afterReading, afterReadings}
-use Rattle.limit_state.specs.declared.severity.Progress.{Progress}
+use Rattle.severity.specs.Violations.{isViolated}
+use Rattle.severity.specs.Checks.{Check, violates, severityIn}
+use Rattle.announced.specs.Announced.{raised, violation, afterReading, afterReadings}
+use Rattle.announced.specs.declared.Progress.{Progress}
 use Rattle.checking.specs.Checks.{applying}
 use Rattle.checking.specs.Values.{valuesOf}
 

@@ -16,7 +16,7 @@ use Rattle.database.specs.Rows.{Rows}
 use Rattle.raw_values.specs.RawValues.{rawOf}
 use Rattle.parameters.specs.Located.{Located}
 use Rattle.readings.specs.Readings.{validity}
-use Rattle.engineering.specs.Scale.{Scale, asRead, scaleOf, onScale}
+use Rattle.curve_values.specs.Scale.{Scale, asRead, scaleOf, onScale}
 
 -- n occurrences from k on
 unfoldable pub occurrencesFrom : (k n : ℕ) → List ℕ

@@ -1,10 +1,10 @@
 // The occurrences of a parameter in a packet, checked in order.
-use engineering::curve::CurveResult;
-use engineering::scale::Scale;
-use engineering::scale::value_on;
-use limit_state::applying::severity_in;
-use limit_state::severity::Progress;
-use limit_state::severity::after_reading;
+use curve_values::along::CurveResult;
+use curve_values::scale::Scale;
+use curve_values::scale::value_on;
+use severity::severity_in;
+use announced::Progress;
+use announced::after_reading;
 use outcomes::Refusal;
 use outcomes::Value;
 use outcomes::number_of;
@@ -16,8 +16,8 @@ ghost use Rattle.rows.specs.Records.{plfRow, pcfRow};
 ghost use Rattle.outcomes.specs.Outcome.{andThen, answer};
 ghost use Rattle.outcomes.specs.Values.{valueOf};
 ghost use Rattle.raw_values.specs.RawValues.{saidRaw, rawOf};
-ghost use Rattle.engineering.specs.Scale.{onScale, scaleIn};
-ghost use Rattle.limit_state.specs.Checks.{checksIn, severityIn};
+ghost use Rattle.curve_values.specs.Scale.{onScale, scaleIn};
+ghost use Rattle.severity.specs.Checks.{checksIn, severityIn};
 ghost use Rattle.checking.specs.Values.{integerIn, rawsOf, occurrencesFrom, valuesOn};
 ghost use Rattle.checking.specs.Progress.{progressBy};
 ghost use Rattle.checking.specs.Pass.{afterRefusal, afterValue, ended, saidNumber, saidChecked};

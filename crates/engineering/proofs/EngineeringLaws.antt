@@ -7,8 +7,8 @@ use Rattle.rows.specs.declared.letters.Category.{Category}
 use Rattle.rows.specs.declared.letters.Category.the-variants as category
 use Rattle.outcomes.specs.Outcome.{Outcome, andThen}
 use Rattle.database.specs.Rows.{Rows}
-use Rattle.engineering.specs.Scale.{scaleOf, onScale}
-use Rattle.engineering.specs.Texts.{textFor}
+use Rattle.curve_values.specs.Scale.{scaleOf, onScale}
+use Rattle.texts.specs.Texts.{Text, textFor}
 use Rattle.engineering.specs.Engineering.{Engineered, asValue, asText, byCategory, engineered}
 
 module _ (rows : Rows) {kind : Category} (curtx : OptionalCurve) (raw : ℤ) {z : ℤ} (q : z ≡ raw) where
@@ -17,9 +17,10 @@ module _ (rows : Rows) {kind : Category} (curtx : OptionalCurve) (raw : ℤ) {z 
   unfolding byCategory
   numeric-value e h k = h ∙ rw (e, k, q)
 
-  pub status-text : {x : Outcome Engineered} → kind ≡ category.Status → x ≡ andThen (textFor rows (curtx .name) z) asText → x ≡ byCategory rows kind curtx raw
+  pub status-text : {x : Outcome Engineered} {o : Outcome Text} → kind ≡ category.Status → x ≡ andThen o asText → o ≡ textFor rows (curtx .name) z
+      → x ≡ byCategory rows kind curtx raw
   unfolding byCategory
-  status-text e h = h ∙ rw (e, q)
+  status-text e h k = h ∙ rw (e, k, q)
 
   pub text-raw : kind ≡ category.Text → asValue z ≡ byCategory rows kind curtx raw
   unfolding byCategory

@@ -15,9 +15,9 @@ use Rattle.outcomes.specs.Refusals.{numberOf, placeOf, refusedBy}
 use Rattle.outcomes.specs.declared.Refusal.the-variants.{NoText}
 use Rattle.database.specs.Rows.{Rows}
 use Rattle.database.specs.GoodRows.{among}
-use Rattle.engineering.specs.Scale.{scaleOf, onScale}
-use Rattle.engineering.specs.Texts as texts
-use Rattle.engineering.specs.Texts.{foundIn, textIn, textFor}
+use Rattle.curve_values.specs.Scale.{scaleOf, onScale}
+use Rattle.texts.specs.Texts as texts
+use Rattle.texts.specs.Texts.{foundIn, textIn, textFor}
 use Rattle.engineering.specs.declared.engineer.Engineered as code
 use Rattle.engineering.specs.declared.engineer.Engineered.the-variants.{Is, Text, Refused}
 

@@ -1,13 +1,14 @@
 // Engineering values.
-use crate::curve::CurveResult;
-use crate::scale::scale_value;
-use crate::text::text_value;
+use curve_values::along::CurveResult;
+use curve_values::scale::scale_value;
 use outcomes::Refusal;
 use outcomes::Value;
 use rows::decoded::pcf_of;
 use rows::letters::Category;
 use rows::records::OptionalCurve;
 use tables::TABLES;
+use texts::TextResult;
+use texts::text_value;
 use units::RowNumber;
 use units::TableOffset;
 ghost use mathlib.Core.Path.{_≡_};
@@ -15,11 +16,11 @@ ghost use mathlib.Core.List.{map};
 ghost use Rattle.rows.specs.Records.{pcfRow};
 ghost use Rattle.outcomes.specs.Outcome.{andThen};
 ghost use Rattle.database.specs.Arrays.{database, answers};
-ghost use Rattle.engineering.specs.Points.{saidResult};
-ghost use Rattle.engineering.specs.Engineering.{asValue, byCategory, engineered, saidEngineered};
+ghost use Rattle.curve_values.specs.Along.{saidResult};
+ghost use Rattle.texts.specs.Texts.{saidText};
+ghost use Rattle.engineering.specs.Engineering.{asValue, asText, byCategory, engineered, saidEngineered};
 
 // A value; a text as its txp row, and ALTXT's place in that table and its length; or why there is none.
-// `text_part` hands back the bytes of such a text.
 pub enum Engineered {
     Is(Value),
     Text(RowNumber, TableOffset, usize),
@@ -32,6 +33,15 @@ fn as_value(result: CurveResult) -> Engineered
     match result {
         CurveResult::Is(v) => Engineered::Is(Value::Number(v)),
         CurveResult::Refused(refusal) => Engineered::Refused(refusal),
+    }
+}
+
+fn as_text(result: TextResult) -> Engineered
+    ensures { λ r. ⌜ saidEngineered r ≡ andThen (saidText result) asText ⌝ }
+{
+    match result {
+        TextResult::Is(row, from, bytes) => Engineered::Text(row, from, bytes),
+        TextResult::Refused(refusal) => Engineered::Refused(refusal),
     }
 }
 
@@ -52,7 +62,7 @@ fn by_category(
         Category::Numeric => as_value(scale_value(tables, words, links, columns, curtx, raw)),
         Category::Status => {
             let name = curtx.name;
-            text_value(tables, words, links, columns, name, raw)
+            as_text(text_value(tables, words, links, columns, name, raw))
         }
         Category::Text => Engineered::Is(Value::Number(raw)),
     }

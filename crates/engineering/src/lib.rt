@@ -1,5 +1,2 @@
-// Engineering values: the value along a curve, and texts.
-pub mod curve;
+// The engineering value of a raw one.
 pub mod engineer;
-pub mod scale;
-pub mod text;

@@ -12,7 +12,7 @@ use Rattle.outcomes.specs.Values as values
 use Rattle.verdicts.specs.Answer as import
 use Rattle.identification.specs.Identification.{Identity}
 use Rattle.readings.specs.Readings.{Reading}
-use Rattle.engineering.specs.Texts.{Text}
+use Rattle.texts.specs.Texts.{Text}
 use Rattle.engineering.specs.Engineering.{Engineered, value, text}
 use Rattle.limit_state.specs.declared.state.LimitState.{LimitState}
 

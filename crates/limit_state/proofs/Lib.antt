@@ -1,4 +1,1 @@
 pub mod StateLaws
-pub mod SeverityLaws
-pub mod CheckLaws
-pub mod SeverityInLaws

@@ -1,5 +1,1 @@
 pub mod State
-pub mod Severity
-pub mod Violations
-pub mod Held
-pub mod Checks

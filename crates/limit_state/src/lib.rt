@@ -1,5 +1,2 @@
-// The limit state of a parameter: which packets it takes, and how readings change it.
-pub mod applying;
-pub mod checks;
-pub mod severity;
+// The limit state of a parameter, and which packets are newer.
 pub mod state;

@@ -41,9 +41,10 @@ use Rattle.headers.specs.declared.Head.{Head}
 use Rattle.raw_values.specs.RawValues.{startOf, isString, valueAt, fieldRaw, rawIn, rawOf}
 use Rattle.parameters.specs.Located.{Located, byLines, needed, located}
 use Rattle.readings.specs.Readings.{withValidity, readingWith, reading}
-use Rattle.engineering.specs.Curves.{Curve, outcomeOf, along}
-use Rattle.engineering.specs.Scale.{Scale, asRead, onCurve, scaleOf, onScale}
-use Rattle.engineering.specs.Texts.{Text, toOf, altxtOf, textIn, textFor}
+use Rattle.curve_points.specs.Curves.{Curve}
+use Rattle.curve_values.specs.Along.{outcomeOf, along}
+use Rattle.curve_values.specs.Scale.{Scale, asRead, onCurve, scaleOf, onScale}
+use Rattle.texts.specs.Texts.{Text, toOf, altxtOf, textIn, textFor}
 use Rattle.engineering.specs.Engineering.{asValue, asText, byCategory, engineered}
 use Rattle.refusal_places.specs.Small.{Small}
 use Rattle.refusal_places.proofs.SmallLaws.{small-answer, no-place, small-place, small-then}

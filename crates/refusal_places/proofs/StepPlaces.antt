@@ -20,7 +20,7 @@ use Rattle.identification.specs.Identification.{identifyHeaded}
 use Rattle.headers.specs.declared.Head.{Head}
 use Rattle.raw_values.specs.RawValues.{rawOf}
 use Rattle.parameters.specs.Located.{Located, located}
-use Rattle.engineering.specs.Scale.{Scale, onScale}
+use Rattle.curve_values.specs.Scale.{Scale, onScale}
 use Rattle.limit_state.specs.State.{isState, isNewer}
 use Rattle.limit_state.specs.declared.state.LimitState.{LimitState}
 use Rattle.checking.specs.Values.{occurrencesFrom, integerIn, rawsOf, isRefusal, unlessRefused, valuesOn, valuesOf}

@@ -20,12 +20,12 @@ use Rattle.database.specs.Rows.{Rows}
 use Rattle.parameters.specs.Located.{Located, located}
 use Rattle.identification.specs.Identification.{Identity, identifyHeaded}
 use Rattle.limit_state.specs.State.{isState, isNewer}
-use Rattle.limit_state.specs.Checks.{severityIn}
-use Rattle.limit_state.specs.Severity.{afterReadings}
+use Rattle.severity.specs.Checks.{severityIn}
+use Rattle.announced.specs.Announced.{afterReadings}
 use Rattle.limit_state.specs.declared.state.LimitState.{LimitState}
-use Rattle.limit_state.specs.declared.severity.Progress.{Progress}
+use Rattle.announced.specs.declared.Progress.{Progress}
 use Rattle.limit_state.proofs.StateLaws.{state-small, makes-state}
-use Rattle.limit_state.proofs.SeverityLaws.{Small, readings-small}
+use Rattle.announced.proofs.SmallLaws.{Small, readings-small}
 use Rattle.checking.specs.Checks.{applying}
 use Rattle.checking.specs.Values.{valuesOf}
 use Rattle.stepping.specs.Time.{stateIn, inTime}

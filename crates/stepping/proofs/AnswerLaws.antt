@@ -17,7 +17,7 @@ use Rattle.headers.specs.Header.{headOf}
 use Rattle.headers.specs.declared.Head.{Head}
 use Rattle.limit_state.specs.State.{isState, isNewer}
 use Rattle.limit_state.specs.declared.state.LimitState.{LimitState}
-use Rattle.limit_state.specs.declared.severity.Progress.{Progress}
+use Rattle.announced.specs.declared.Progress.{Progress}
 use Rattle.checking.specs.Checks.{applying}
 use Rattle.checking.specs.Values.{valuesOf}
 use Rattle.checking.specs.Progress.{progressBy, checkedOf}

@@ -9,8 +9,8 @@ use Rattle.outcomes.specs.Outcome.{Outcome, refused, answer, andThen}
 use Rattle.database.specs.Rows.{Rows}
 use Rattle.raw_values.specs.RawValues.{rawOf}
 use Rattle.readings.specs.Readings.{validity}
-use Rattle.engineering.specs.Scale.{Scale}
-use Rattle.limit_state.specs.Severity.{afterReadings}
+use Rattle.curve_values.specs.Scale.{Scale}
+use Rattle.announced.specs.Announced.{afterReadings}
 use Rattle.limit_state.specs.declared.state.LimitState.{LimitState}
 use Rattle.checking.specs.Values.{occurrencesFrom, rawsOf, valuesOn, valuesOf}
 use Rattle.checking.specs.Progress.{progressBy}

@@ -16,9 +16,9 @@ use Rattle.parameters.specs.Located.{Located, located}
 use Rattle.headers.specs.Header.{headOf}
 use Rattle.identification.specs.Identification.{Identity, identifyHeaded}
 use Rattle.headers.specs.declared.Head.{Head}
-use Rattle.limit_state.specs.Checks.{Check}
+use Rattle.severity.specs.Checks.{Check}
 use Rattle.limit_state.specs.declared.state.LimitState.{LimitState}
-use Rattle.limit_state.specs.declared.severity.Progress.{Progress}
+use Rattle.announced.specs.declared.Progress.{Progress}
 use Rattle.checking.specs.Checks.{applying}
 use Rattle.checking.specs.Values.{valuesOf}
 use Rattle.checking.specs.Progress.{progressBy}

@@ -49,13 +49,14 @@ use Rattle.parameters.specs.Located.{byLines, needed, located}
 use Rattle.readings.specs.Readings.{sameInteger, equals, agrees, withValidity, readingWith, validWithin, validity}
 use Rattle.five_numbers.specs.Numbers.{orOther, picRowOf, identifiersFrom, numbersOf, fiveNumbers}
 use Rattle.identification.specs.Identification.{chosen, chooseBy, identifyHeaded}
-use Rattle.engineering.specs.Curves.{curveEnds, xvalsOf, yvalsOf, curveBy, curveOf, outcomeOf, along}
-use Rattle.engineering.specs.Scale.{scaleOf, onScale}
+use Rattle.curve_points.specs.Curves.{curveEnds, xvalsOf, yvalsOf, curveBy, curveOf}
+use Rattle.curve_values.specs.Along.{outcomeOf, along}
+use Rattle.curve_values.specs.Scale.{scaleOf, onScale}
 use Rattle.limit_state.specs.State.{isOver, hasNumber, isState, ahead, isNewer}
-use Rattle.limit_state.specs.Severity.{raised, violation, afterReading, afterReadings}
-use Rattle.limit_state.specs.Violations.{isViolated}
-use Rattle.limit_state.specs.Held.{levelOf}
-use Rattle.limit_state.specs.Checks.{checkOf, violates, severityIn}
+use Rattle.announced.specs.Announced.{raised, violation, afterReading, afterReadings}
+use Rattle.severity.specs.Violations.{isViolated}
+use Rattle.severity.specs.Levels.{levelOf}
+use Rattle.severity.specs.Checks.{checkOf, violates, severityIn}
 use Rattle.limit_state.specs.declared.state.LimitState.{LimitState}
 use Rattle.checking.specs.Checks.{checksOf, hasValue, firstRaw, applies, applying}
 use Rattle.checking.specs.Values.{

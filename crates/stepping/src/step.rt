@@ -10,7 +10,7 @@ use headers::read_header;
 use identification::Identified;
 use identification::identify_headed;
 use key_symbols::limits_key;
-use limit_state::severity::Progress;
+use announced::Progress;
 use limit_state::state::LimitState;
 use limit_state::state::is_newer;
 use limit_state::state::is_state;

@@ -13,8 +13,8 @@ use Rattle.outcomes.specs.Outcome.{Outcome, answer, andThen}
 use Rattle.outcomes.specs.Values.{Value}
 use Rattle.outcomes.specs.Refusals.{refusedBy}
 use Rattle.raw_values.specs.RawValues.{rawOf}
-use Rattle.engineering.specs.Scale.{scaleIn}
-use Rattle.limit_state.specs.Checks.{checksIn, severityIn}
+use Rattle.curve_values.specs.Scale.{scaleIn}
+use Rattle.severity.specs.Checks.{checksIn, severityIn}
 use Rattle.checking.specs.Values.{integerIn}
 use Rattle.checking.specs.Progress.{progressBy}
 use Rattle.checking.specs.Pass.{saidNumber, saidChecked}

@@ -5,10 +5,10 @@ use mir.Val.{SFits, toZ, ofZ}
 use mir.Syntax.{w64}
 use borrow.Author.Needs.{needs}
 use Rattle.outcomes.specs.Refusals.{refusedBy}
-use Rattle.engineering.specs.Points.{saidResult}
-use Rattle.engineering.specs.Scale.{onScale, scaleIn}
-use Rattle.engineering.specs.declared.curve.CurveResult.{CurveResult}
-use Rattle.limit_state.specs.Checks.{severityIn}
+use Rattle.curve_values.specs.Along.{saidResult}
+use Rattle.curve_values.specs.Scale.{onScale, scaleIn}
+use Rattle.curve_values.specs.declared.along.CurveResult.{CurveResult}
+use Rattle.severity.specs.Checks.{severityIn}
 use Rattle.checking.proofs.PassLaws.{after-number, after-refused}
 use Rattle.checking.proofs.occurrences.check_value.Statement.{statement}
 use Rattle.checking.proofs.occurrences.check_value.Tie as tie

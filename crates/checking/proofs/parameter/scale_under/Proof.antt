@@ -7,7 +7,7 @@ use lib.Seq.{length-sets}
 use denote.Ref.{now}
 use Rattle.verdicts.specs.Key.{curve}
 use Rattle.database.proofs.GatherLaws.{members-few}
-use Rattle.engineering.proofs.ScaleLaws.{gathered-scale}
+use Rattle.curve_values.proofs.ScaleLaws.{gathered-scale}
 use Rattle.checking.proofs.ParameterLaws.{under-raw, under-engineering}
 use borrow.Author.Needs.{needs}
 use Rattle.checking.proofs.parameter.scale_under.Statement.{statement}

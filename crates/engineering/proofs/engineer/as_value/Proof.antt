@@ -6,7 +6,7 @@ use mir.Syntax.{w64}
 use Rattle.outcomes.specs.Outcome.{andThen}
 use Rattle.outcomes.specs.Refusals.{refusedBy}
 use Rattle.outcomes.specs.Values.{valueOf}
-use Rattle.engineering.specs.Points.{saidResult}
+use Rattle.curve_values.specs.Along.{saidResult}
 use Rattle.engineering.specs.Engineering.{asValue, saidEngineered}
 use borrow.Author.Needs.{needs}
 use Rattle.engineering.proofs.engineer.as_value.Statement.{statement}

@@ -22,6 +22,9 @@ enum-told-2 c = search needs
 text-value-requires : tie.Need-text-value-requires
 text-value-requires c κs = tt
 
+as-text-requires : tie.Need-as-text-requires
+as-text-requires c κs = tt
+
 enum-told-3 : tie.Need-enum-told-3
 enum-told-3 c = search needs
 
@@ -34,9 +37,10 @@ returns c =
 
 returns-2 : tie.Need-returns-2
 returns-2 c =
-    let e = c .before .before in
+    let v = c .before in
+    let e = v .before .before in
     let s = e .before .before .before .before .before in
-    status-text _ _ _ (toZ-ofZ (s .fits .raw)) (e .enum-told2 .given .1) (c .text-value .ensures)
+    status-text _ _ _ (toZ-ofZ (s .fits .raw)) (e .enum-told2 .given .1) (c .as-text .ensures) (v .text-value .ensures)
 
 returns-3 : tie.Need-returns-3
 unfolding saidEngineered valueOf asValue
@@ -53,6 +57,7 @@ by-category-spec =
     as-value-requires
     enum-told-2
     text-value-requires
+    as-text-requires
     enum-told-3
     returns
     returns-2

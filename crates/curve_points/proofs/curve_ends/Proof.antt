@@ -1,0 +1,42 @@
+-- By the row that holds the curve's key, where there is one.
+use Rattle.curve_points.proofs.CurveLaws.{ends-none, ends-some}
+use borrow.Author.Needs.{needs}
+use Rattle.curve_points.proofs.curve_ends.Statement.{statement}
+use Rattle.curve_points.proofs.curve_ends.Tie as tie
+
+curve-key-requires : tie.Need-curve-key-requires
+curve-key-requires c κs = tt
+
+holder-of-requires : tie.Need-holder-of-requires
+holder-of-requires c κs = tt
+
+returns : tie.Need-returns
+returns c = let h = c .before in ends-none _ _ _ _ _ (h .before .curve-key .ensures) (h .holder-of .ensures .0) (c .if1 .taken)
+
+sub-line-of : tie.Need-sub-line-of
+sub-line-of c = search needs
+
+line-of-requires : tie.Need-line-of-requires
+line-of-requires c κs = tt
+
+caf-of-requires : tie.Need-caf-of-requires
+caf-of-requires c κs = tt
+
+returns-2 : tie.Need-returns-2
+returns-2 c =
+    let l = c .before in
+    let i = l .before in
+    let h = i .before in
+    ends-some _ _ _ _ _ (h .before .curve-key .ensures) (h .holder-of .ensures .0) (i .if1 .left) (c .caf-of .ensures) (l .line-of .ensures)
+
+pub curve-ends-spec : {M : Type 1} → statement M
+curve-ends-spec =
+    tie.close
+    (tie.spec
+    curve-key-requires
+    holder-of-requires
+    returns
+    sub-line-of
+    line-of-requires
+    caf-of-requires
+    returns-2)

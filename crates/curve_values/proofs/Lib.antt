@@ -1,0 +1,4 @@
+pub mod AlongLaws
+pub mod OrderLaws
+pub mod OffCurveLaws
+pub mod ScaleLaws

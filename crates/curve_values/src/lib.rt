@@ -1,0 +1,3 @@
+// The value along the curve that CURTX names, or as it was read.
+pub mod along;
+pub mod scale;

@@ -1,0 +1,3 @@
+pub mod Violations
+pub mod Levels
+pub mod Checks

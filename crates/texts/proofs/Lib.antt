@@ -1,0 +1,3 @@
+pub mod AltxtLaws
+pub mod NamedLaws
+pub mod TextLaws

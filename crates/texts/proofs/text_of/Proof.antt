@@ -1,0 +1,79 @@
+-- Where TO isn't below the raw value, and where the column stands in its line.
+use mathlib.Core.Path.{_≡_, ap₂, sym, _∙_}
+use mathlib.Core.List.{map}
+use native.Mathlib.Omega.{arith}
+use lib.Signed.{ltZ}
+use denote.Ref.{now}
+use mir.Facts.{toZ-ofZ}
+use mir.Val.{SFits}
+use mir.Syntax.{w64}
+use Rattle.outcomes.specs.Refusals.{numberOf, placeOf, refusedBy}
+use Rattle.database.specs.Arrays.{rowAt}
+use Rattle.texts.specs.Texts.{toOf, saidText}
+use Rattle.texts.proofs.AltxtLaws.{altxt-first, altxt-inside}
+use Rattle.texts.proofs.TextLaws.{to-is, text-below, text-reached}
+use borrow.Author.Needs.{needs}
+use Rattle.texts.proofs.text_of.Statement.{statement}
+use Rattle.texts.proofs.text_of.Tie as tie
+
+line-of-requires : tie.Need-line-of-requires
+line-of-requires c κs = tt
+
+txp-of-requires : tie.Need-txp-of-requires
+txp-of-requires c κs = tt
+
+less-requires : tie.Need-less-requires
+less-requires c κs = tt
+
+-- whether TO is below the raw value
+below : (c : tie.After-less) → (let s = c .before .before .before .before .before in
+    ltZ (toOf (rowAt (map now (s .args .tables)) (s .args .columns .now) (s .args .place))) (s .args .raw) ≡ c .less .result)
+below c =
+    let t = c .before .before in
+    let s = t .before .before .before in
+    let f : SFits w64 (t .txp-of .result .to) = search needs in
+    sym (c .less .ensures ∙ ap₂ ltZ (toZ-ofZ f ∙ to-is _ (t .txp-of .ensures) (t .before .line-of .ensures)) (toZ-ofZ (s .fits .raw)))
+
+returns : tie.Need-returns
+unfolding saidText refusedBy numberOf placeOf
+returns c =
+    let t = c .before .before .before in
+    text-below _ (t .txp-of .ensures) (t .before .line-of .ensures) _ (below (c .before) ∙ c .if1 .taken)
+
+start-of-requires : tie.Need-start-of-requires
+start-of-requires c κs = tt
+
+add-t13 : tie.Need-add-t13
+add-t13 c =
+    let t = c .before .before .before .before .before in
+    let r = t .txp-of .ensures in
+    omega (arith, c .before .start-of .ensures .1, altxt-first _ r, altxt-inside _ r, t .before .line-of .ok)
+
+number-of-requires : tie.Need-number-of-requires
+number-of-requires c κs = tt
+
+sub-t12 : tie.Need-sub-t12
+sub-t12 c = altxt-first _ (c .before .before .before .before .before .before .before .txp-of .ensures)
+
+returns-2 : tie.Need-returns-2
+unfolding saidText rowAt
+returns-2 c =
+    let b = c .before .before .before in
+    let i = b .before in
+    let t = i .before .before .before in
+    text-reached _ (t .txp-of .ensures) (t .before .line-of .ensures) _ (below (i .before) ∙ i .if1 .left)
+    (c .before .number-of .ensures) (b .start-of .ensures .0)
+
+pub text-of-spec : {M : Type 1} → statement M
+text-of-spec =
+    tie.close
+    (tie.spec
+    line-of-requires
+    txp-of-requires
+    less-requires
+    returns
+    start-of-requires
+    add-t13
+    number-of-requires
+    sub-t12
+    returns-2)
