@@ -23,9 +23,9 @@ use Rattle.parameters.specs.Located.{Located}
 use Rattle.curve_values.specs.Scale.{Scale, onScale}
 use Rattle.limit_state.specs.State.{isState, isNewer}
 use Rattle.limit_state.specs.declared.state.LimitState.{LimitState}
-use Rattle.checking.specs.Values.{occurrencesFrom, integerIn, rawsOf, isRefusal, unlessRefused, valuesOn, valuesOf}
-use Rattle.checking.proofs.WholeLaws.{no-string}
-use Rattle.stepping.specs.Time.{stateIn, inTime}
+use Rattle.occurrences.specs.Values.{occurrencesFrom, integerIn, rawsOf, isRefusal, unlessRefused, valuesOn, valuesOf}
+use Rattle.occurrences.proofs.WholeLaws.{no-string}
+use Rattle.accepting.specs.Time.{stateIn, inTime}
 use Rattle.stepping.specs.Step.{stepAt}
 use Rattle.at_verdicts.proofs.NumberLaws.{Numbered, one-more, one-then}
 use Rattle.at_verdicts.proofs.PacketNumbers.{reading, raw-made}

@@ -23,7 +23,7 @@ use Rattle.headers.specs.declared.Head.{Head}
 use Rattle.parameters.specs.Located.{byLines, located}
 use Rattle.limit_state.specs.State.{isState}
 use Rattle.limit_state.specs.declared.state.LimitState.{LimitState}
-use Rattle.stepping.specs.Time.{stateIn}
+use Rattle.accepting.specs.Time.{stateIn}
 use Rattle.stepping.specs.Step.{limitsFrom, limitsOf, stepAt, stepOf, stepHeaded, stepIn}
 use Rattle.calls.specs.Tables.{afterSizes, asking}
 use Rattle.calls.specs.Calls.{limitStepOf}

@@ -19,8 +19,8 @@ use Rattle.loading.specs.Loaded.{Lent, lent, hasRoom, Loads}
 use Rattle.loading.specs.declared.Loading.{Loading}
 use Rattle.loading.specs.declared.Loading.the-variants as loading
 use Rattle.limit_state.specs.declared.state.LimitState.{LimitState}
-use Rattle.stepping.specs.Answer.{Answers}
-use Rattle.stepping.specs.declared.step.Stepped.{Stepped}
+use Rattle.accepting.specs.Answer.{Answers}
+use Rattle.accepting.specs.declared.step.Stepped.{Stepped}
 use Rattle.calls.specs.Tables.{afterSizes, asking}
 
 -- the arrays of a call have room

@@ -1,4 +1,6 @@
 // A parameter's limit state after a packet.
+use accepting::step::Answer;
+use accepting::step::Stepped;
 use database::COLUMNS;
 use kept::LINKS;
 use kept::WORDS;
@@ -6,14 +8,12 @@ use limit_state::state::LimitState;
 use loading::Loading;
 use loading::load;
 use outcomes::Refusal;
-use stepping::step::Answer;
-use stepping::step::Stepped;
 use stepping::step::step_in;
 use tables::TABLES;
 ghost use mathlib.Core.Path.{_≡_};
 ghost use mathlib.Core.List.{map};
 ghost use Rattle.outcomes.specs.Refusals.{refusedBy};
-ghost use Rattle.stepping.specs.Answer.{Answers};
+ghost use Rattle.accepting.specs.Answer.{Answers};
 ghost use Rattle.calls.specs.Calls.{limitStepOf};
 
 // A refusal leaves the state as it was.

@@ -10,44 +10,17 @@ use lib.ListN.{length, getD, take, drop, set, length-set, drop-of-length-le}
 use Rattle.laws.specs.Lists.{keep}
 use Rattle.laws.proofs.Lists.{split}
 use Rattle.lines.specs.declared.names.Name.{Name}
-use Rattle.rows.specs.Records.{plfRow, pcfRow, ocpRow}
+use Rattle.rows.specs.Records.{ocpRow}
 use Rattle.rows.specs.declared.records.OcpRow.{OcpRow}
-use Rattle.outcomes.specs.Outcome.{Outcome, andThen}
-use Rattle.outcomes.specs.Values.{Value}
 use Rattle.verdicts.specs.Key.{limits}
-use Rattle.database.specs.Rows.{Row, Rows}
+use Rattle.database.specs.Rows.{Row}
 use Rattle.database.specs.Arrays.{database, rowAt, answers}
-use Rattle.raw_values.specs.RawValues.{rawOf}
-use Rattle.parameters.specs.Located.{byLines, located, atPlaces}
-use Rattle.parameters.specs.declared.Places.{Places}
-use Rattle.parameters.proofs.LocatedLaws.{at-found, at-missing}
 use Rattle.database.proofs.GatherLaws.{Listed}
 use Rattle.severity.specs.Levels.{levelOf}
 use Rattle.severity.specs.Checks.{Check, checkOf, checksIn}
 use Rattle.severity.proofs.SeverityInLaws.{stored-more}
-use Rattle.checking.specs.Checks.{checksOf, hasValue, firstRaw, applies}
+use Rattle.applying.specs.Checks.{checksOf}
 use Rattle.checking.specs.Room.{Room}
-
--- Whether a check applies
-
-module _ (rows : Rows) (p : List ℕ) (spid : ℕ) (row : OcpRow) where
-  pub applies-free : row .rlchk .given ≡ false → true ≡ applies rows p spid row
-  unfolding applies
-  applies-free f = rw f
-
-  module _ (texts : List (List ℕ)) (columns : List ℕ) (at : Places) (t : row .rlchk .given ≡ true)
-      (is : atPlaces texts columns at ≡ located rows spid (row .rlchk .name)) where
-    pub applies-nowhere : at .found ≡ false → false ≡ applies rows p spid row
-    unfolding applies firstRaw hasValue andThen
-    applies-nowhere f = rw (t, ← is, at-missing texts columns at f)
-
-    pub applies-located : at .found ≡ true → (raw : Outcome Value) {b : Bool} (plf pcf : List ℕ)
-        → plf ≡ rowAt texts columns (at .plf) .bytes → pcf ≡ rowAt texts columns (at .pcf) .bytes
-        → raw ≡ rawOf p (plfRow plf) (pcfRow pcf) 0 → b ≡ hasValue raw (row .valpar) → b ≡ applies rows p spid row
-    unfolding applies firstRaw andThen byLines
-    applies-located f raw plf pcf el ec er eb = rw (t, ← is, at-found texts columns at f, ← el, ← ec, ← er) eb
-
--- The checks that pass a test, stored one after the other
 
 module _ (texts : List (List ℕ)) (columns : List ℕ) (passes : OcpRow → Bool) where
   abbrev pub counting : (places : List ℕ) → List Check

@@ -1,4 +1,2 @@
 pub mod CheckLaws
-pub mod PassLaws
 pub mod ParameterLaws
-pub mod WholeLaws

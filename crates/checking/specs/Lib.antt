@@ -1,6 +1,3 @@
-pub mod Checks
 pub mod Room
-pub mod Values
-pub mod Progress
 pub mod Manner
-pub mod Pass
+pub mod Places

@@ -1,16 +1,12 @@
 // The checks of a parameter that apply in a packet.
+use crate::parameter::Subject;
+use applying::applies;
 use database::MOST_MEMBERS;
 use database::line_of;
 use database::list_members;
 use key_symbols::limits_key;
-use severity::level_of;
-use lines::names::Name;
-use parameters::locate;
-use raw_values::RawValue;
-use raw_values::raw_of;
-use readings::equals;
 use rows::decoded::ocp_of;
-use rows::records::OcpRow;
+use severity::level_of;
 use tables::TABLES;
 use units::Spid;
 ghost use mathlib.Core.Path.{_≡_};
@@ -20,47 +16,10 @@ ghost use lib.ListN.{length, take};
 ghost use Rattle.laws.specs.Lists.{keep};
 ghost use Rattle.rows.specs.Records.{ocpRow};
 ghost use Rattle.database.specs.Arrays.{database, rowAt, answers};
-ghost use Rattle.raw_values.specs.RawValues.{saidRaw};
 ghost use Rattle.severity.specs.Checks.{checkOf, checksIn};
-ghost use Rattle.checking.specs.Checks as spec;
+ghost use Rattle.applying.specs.Checks as spec;
 ghost use Rattle.checking.specs.Room.{Room};
-ghost use Rattle.checking.specs.Checks.{hasValue, applying};
-
-// Whether a raw value is a number and this one.
-fn has_value(raw: RawValue, valpar: i64) -> bool
-    ensures { λ r. ⌜ r ≡ hasValue (saidRaw raw) valpar ⌝ }
-{
-    match raw {
-        RawValue::Is(value) => equals(value, valpar),
-        RawValue::Refused(refusal) => false,
-    }
-}
-
-// Whether RLCHK lets the check apply.
-fn applies(
-    tables: [&[u8]; TABLES],
-    words: &[u64],
-    links: &[u16],
-    columns: &[u16],
-    p: &[u8],
-    spid: Spid,
-    row: OcpRow,
-) -> bool
-    ensures { λ r. ⌜ r ≡ spec.applies (answers (database (map now (tables .entry)) (now (words .entry)) (now (links .entry)) (now (columns .entry))))
-        (now (p .entry)) (spid .0) row ⌝ }
-{
-    if !row.rlchk.given {
-        return true;
-    }
-    let name = row.rlchk.name;
-    let at = locate(words, links, columns, spid, name);
-    if !at.found {
-        return false;
-    }
-    let plf = line_of(tables, columns, at.plf);
-    let pcf = line_of(tables, columns, at.pcf);
-    has_value(raw_of(p, plf, pcf, 0), row.valpar)
-}
+ghost use Rattle.applying.specs.Checks.{applying};
 
 // Of the ocp rows at these places LVALU, HVALU and the level of each that applies; how many these are.
 fn fill_checks(
@@ -109,8 +68,7 @@ pub(crate) fn gather_checks(
     links: &[u16],
     columns: &[u16],
     p: &[u8],
-    spid: Spid,
-    name: Name,
+    subject: Subject,
     lows: &mut [i64; MOST_MEMBERS],
     highs: &mut [i64; MOST_MEMBERS],
     levels: &mut [u8; MOST_MEMBERS],
@@ -118,9 +76,11 @@ pub(crate) fn gather_checks(
     requires { ⌜ Room (now lows) (now highs) (now levels) ⌝ }
     ensures { λ r. ⌜ checksIn (now (lows .exit)) (now (highs .exit)) (take r (now (levels .exit)))
         ≡ applying (answers (database (map now (tables .entry)) (now (words .entry)) (now (links .entry)) (now (columns .entry))))
-        (now (p .entry)) (spid .0) name ⌝ }
+        (now (p .entry)) (subject .spid .0) (subject .name) ⌝ }
     ensures { λ r. ⌜ (r ≤ 1024) × Room (now (lows .exit)) (now (highs .exit)) (now (levels .exit)) ⌝ }
 {
+    let spid = subject.spid;
+    let name = subject.name;
     let mut places = [0usize; MOST_MEMBERS];
     let members = list_members(words, links, columns, limits_key(name), &mut places);
     fill_checks(

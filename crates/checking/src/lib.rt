@@ -1,4 +1,3 @@
-// A parameter in a packet, checked: which checks apply, and what the occurrences make of run and announced.
+// A parameter in a packet, checked.
 mod checks;
-pub mod occurrences;
 pub mod parameter;

@@ -1,14 +1,14 @@
 // A parameter in a packet, checked.
 use crate::checks::gather_checks;
-use crate::occurrences::Checked;
-use crate::occurrences::Manner;
-use crate::occurrences::check_occurrences;
-use database::MOST_MEMBERS;
-use database::line_of;
+use announced::Progress;
 use curve_values::scale::Scale;
 use curve_values::scale::gather_scale;
-use announced::Progress;
+use database::MOST_MEMBERS;
+use database::line_of;
 use lines::names::Name;
+use occurrences::Checked;
+use occurrences::Manner;
+use occurrences::check_occurrences;
 use parameters::Places;
 use readings::validity;
 use rows::decoded::pcf_of;
@@ -21,13 +21,15 @@ ghost use mathlib.Core.Path.{_≡_};
 ghost use mathlib.Core.List.{map};
 ghost use lib.ListN.{length};
 ghost use Rattle.rows.specs.Records.{pcfRow};
+ghost use Rattle.outcomes.specs.Outcome.{andThen, answer};
 ghost use Rattle.database.specs.Arrays.{database, rowAt, answers};
-ghost use Rattle.parameters.specs.Located.{byLines};
 ghost use Rattle.curve_values.specs.Scale.{scaleIn};
-ghost use Rattle.checking.specs.Values.{scaleUnder};
-ghost use Rattle.checking.specs.Progress.{checkedOf};
+ghost use Rattle.severity.specs.Checks.{checksIn};
+ghost use Rattle.occurrences.specs.Values.{scaleUnder, valuesOf};
+ghost use Rattle.occurrences.specs.Progress.{progressBy, checkedOf};
+ghost use Rattle.checking.specs.Places.{rowsAt};
 ghost use Rattle.checking.specs.Manner.{MannerOf};
-ghost use Rattle.checking.specs.Pass.{saidChecked};
+ghost use Rattle.occurrences.specs.Pass.{saidChecked};
 
 // What is checked: a parameter in packets of a SPID, its limits, and the places of its plf and pcf rows.
 pub struct Subject {
@@ -91,8 +93,8 @@ fn manner_of(
     }
 }
 
-// The checks and the curve's points are gathered once.
-pub fn check_parameter(
+// By these checks. The curve's points are gathered once.
+fn check_by(
     tables: [&[u8]; TABLES],
     words: &[u64],
     links: &[u16],
@@ -100,45 +102,61 @@ pub fn check_parameter(
     p: &[u8],
     subject: Subject,
     progress: Progress,
+    lows: &[i64],
+    highs: &[i64],
+    levels: &[u8],
+) -> Checked
+    ensures { λ r. ⌜ saidChecked r
+        ≡ andThen (valuesOf (answers (database (map now (tables .entry)) (now (words .entry)) (now (links .entry)) (now (columns .entry))))
+        (now (p .entry)) (subject .spid .0) (subject .limits) (rowsAt (map now (tables .entry)) (now (columns .entry)) (subject .at))) (λ values.
+        answer (progressBy (checksIn (now (lows .entry)) (now (highs .entry)) (now (levels .entry))) (subject .limits .nbchck) progress values)) ⌝ }
+{
+    let mut xs = [0i64; MOST_MEMBERS];
+    let mut ys = [0i64; MOST_MEMBERS];
+    let manner = manner_of(tables, words, links, columns, p, subject, &mut xs, &mut ys);
+    let at = subject.at;
+    let plf = line_of(tables, columns, at.plf);
+    let pcf = line_of(tables, columns, at.pcf);
+    check_occurrences(p, plf, pcf, &xs, &ys, lows, highs, levels, manner, progress)
+}
+
+// From these run and announced on. The checks are gathered once.
+pub fn check_parameter(
+    tables: [&[u8]; TABLES],
+    words: &[u64],
+    links: &[u16],
+    columns: &[u16],
+    p: &[u8],
+    subject: Subject,
+    start: Progress,
 ) -> Checked
     ensures { λ r. ⌜ saidChecked r ≡ checkedOf (answers (database (map now (tables .entry)) (now (words .entry)) (now (links .entry)) (now (columns .entry))))
-        (now (p .entry)) (subject .spid .0) (subject .name) (subject .limits) progress
-        (byLines (rowAt (map now (tables .entry)) (now (columns .entry)) (subject .at .plf) .bytes)
-        (rowAt (map now (tables .entry)) (now (columns .entry)) (subject .at .pcf) .bytes)) ⌝ }
+        (now (p .entry)) (subject .spid .0) (subject .name) (subject .limits) start (rowsAt (map now (tables .entry)) (now (columns .entry)) (subject .at)) ⌝ }
 {
     let mut lows = [0i64; MOST_MEMBERS];
     let mut highs = [0i64; MOST_MEMBERS];
     let mut levels = [0u8; MOST_MEMBERS];
-    let mut xs = [0i64; MOST_MEMBERS];
-    let mut ys = [0i64; MOST_MEMBERS];
-    let spid = subject.spid;
-    let name = subject.name;
     let checks = gather_checks(
         tables,
         words,
         links,
         columns,
         p,
-        spid,
-        name,
+        subject,
         &mut lows,
         &mut highs,
         &mut levels,
     );
-    let manner = manner_of(tables, words, links, columns, p, subject, &mut xs, &mut ys);
-    let at = subject.at;
-    let plf = line_of(tables, columns, at.plf);
-    let pcf = line_of(tables, columns, at.pcf);
-    check_occurrences(
+    check_by(
+        tables,
+        words,
+        links,
+        columns,
         p,
-        plf,
-        pcf,
-        &xs,
-        &ys,
+        subject,
+        start,
         &lows,
         &highs,
         &levels[..checks],
-        manner,
-        progress,
     )
 }

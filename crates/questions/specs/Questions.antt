@@ -8,7 +8,7 @@ use lib.Dec.{eqb}
 use lib.ListN.{getD}
 use Rattle.laws.specs.Text.{ascii}
 use Rattle.limit_state.specs.declared.state.LimitState.{LimitState}
-use Rattle.stepping.specs.Step.{stateAfter}
+use Rattle.accepting.specs.Accepted.{stateAfter}
 use Rattle.calls.specs.Calls.{limitStepOf}
 use Rattle.scripts.specs.Escapes.{unescaped, rowBytes, isOpen, ended, within, before, plain}
 use Rattle.answers.specs.declared.compare.Verdict.{Verdict}

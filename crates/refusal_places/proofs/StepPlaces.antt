@@ -23,8 +23,8 @@ use Rattle.parameters.specs.Located.{Located, located}
 use Rattle.curve_values.specs.Scale.{Scale, onScale}
 use Rattle.limit_state.specs.State.{isState, isNewer}
 use Rattle.limit_state.specs.declared.state.LimitState.{LimitState}
-use Rattle.checking.specs.Values.{occurrencesFrom, integerIn, rawsOf, isRefusal, unlessRefused, valuesOn, valuesOf}
-use Rattle.stepping.specs.Time.{stateIn, inTime}
+use Rattle.occurrences.specs.Values.{occurrencesFrom, integerIn, rawsOf, isRefusal, unlessRefused, valuesOn, valuesOf}
+use Rattle.accepting.specs.Time.{stateIn, inTime}
 use Rattle.stepping.specs.Step.{limitsFrom, limitsOf, stepAt, stepOf, stepHeaded, stepIn}
 use Rattle.refusal_places.specs.Small.{Small}
 use Rattle.refusal_places.proofs.SmallLaws.{small-answer, no-place, small-then}

@@ -16,7 +16,8 @@ use Rattle.loading.specs.Loaded.{Lent, Loads}
 use Rattle.loading.specs.declared.Loading.{Loading}
 use Rattle.loading.specs.declared.Loading.the-variants.{Done}
 use Rattle.limit_state.specs.declared.state.LimitState.{LimitState}
-use Rattle.stepping.specs.Step.{stateAfter, stepIn, afterPackets}
+use Rattle.accepting.specs.Accepted.{stateAfter}
+use Rattle.stepping.specs.Step.{stepIn, afterPackets}
 use Rattle.replay.specs.Turns.{Whole, Played}
 
 more-whole : (ps qs : List (List ℕ)) → Whole ps → Whole qs → Whole (ps ++ qs)

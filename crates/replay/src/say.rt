@@ -1,11 +1,11 @@
 // The lines of a replay.
+use accepting::step::Answer;
+use accepting::step::Stepped;
 use files::errors::say_error;
 use limit_state::state::LimitState;
 use outcomes::Refusal;
 use outcomes::number_of;
 use outcomes::place_of;
-use stepping::step::Answer;
-use stepping::step::Stepped;
 use words::refusals::say_refused;
 use words::say::number;
 use words::say::words;

@@ -10,7 +10,8 @@ use units::BitOffset;
 ghost use mathlib.Core.Path.{_≡_};
 ghost use mathlib.Core.List.{map};
 ghost use Rattle.database.specs.Arrays.{database, answers};
-ghost use Rattle.stepping.specs.Step.{stepIn, stateAfter};
+ghost use Rattle.stepping.specs.Step.{stepIn};
+ghost use Rattle.accepting.specs.Accepted.{stateAfter};
 ghost use Rattle.replay.specs.Count.{countIn};
 
 // The sequence count in a packet's header, also in one that is refused.

@@ -1,4 +1,6 @@
 // The answers to the questions of packets, in words and numbers.
+use accepting::step;
+use accepting::step::Stepped;
 use answers::answer::Answer;
 use answers::answer::compose;
 use answers::answer::one;
@@ -16,15 +18,13 @@ use outcomes::Value;
 use outcomes::number_of;
 use outcomes::place_of;
 use readings::Reading;
-use stepping::step;
-use stepping::step::Stepped;
 ghost use mathlib.Core.Path.{_≡_};
 ghost use Rattle.outcomes.specs.Refusals.{numberOf, placeOf};
 ghost use Rattle.outcomes.specs.Values.{valueOf, number, part};
 ghost use Rattle.identification.specs.Identification.{saidIdentified};
 ghost use Rattle.readings.specs.Readings.{saidReading};
 ghost use Rattle.engineering.specs.Engineering.{text, saidEngineered};
-ghost use Rattle.stepping.specs.Answer.{saidStep};
+ghost use Rattle.accepting.specs.Answer.{saidStep};
 ghost use Rattle.answers.specs.Answers.{refusing};
 ghost use Rattle.replies.specs.Replies.{replyOf, identityAnswer, rawAnswer, readingAnswer, valueAnswer, engineeredAnswer, stateAnswer};
 

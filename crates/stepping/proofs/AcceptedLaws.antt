@@ -1,36 +1,34 @@
 -- What passes the refusals of a step, and what an accepted packet leaves.
 use mathlib.Core.Path.{_≡_, refl, sym, ap, subst, _∙_}
-use mathlib.Core.Bool.{Bool, true, false, cond, _&&_, _||_, not}
+use mathlib.Core.Bool.{Bool, true, false, cond}
 use mathlib.Core.List.{List, map}
-use Prim.Native.Nat.{ℕ, _+_, _≤_}
+use Prim.Native.Nat.{ℕ, _≤_}
 use native.Mathlib.Omega.{arith}
-use lib.Dec.{eqb, ltb}
+use lib.Dec.{eqb}
 use lib.IntN.{ℤ}
-use lib.ListN.{length}
-use borrow.Author.Tests.{eq-eqb, eqb-true}
+use borrow.Author.Tests.{eqb-true}
 use Rattle.laws.proofs.Cases.{false≢true}
 use Rattle.lines.specs.Names.{nameOf}
 use Rattle.rows.specs.declared.records.OcfRow.{OcfRow}
 use Rattle.fields.proofs.BitLaws.{number-lt}
 use Rattle.headers.specs.Header.{apid, sequenceCount, headOf}
 use Rattle.headers.specs.declared.Head.{Head}
-use Rattle.headers.proofs.HeaderLaws.{Tells, head-tells}
+use Rattle.headers.proofs.HeaderLaws.{head-tells}
 use Rattle.outcomes.specs.Outcome.{Outcome, refused, answer, andThen}
 use Rattle.database.specs.Rows.{Rows}
 use Rattle.parameters.specs.Located.{Located, located}
 use Rattle.identification.specs.Identification.{Identity, identifyHeaded}
 use Rattle.limit_state.specs.State.{isState, isNewer}
 use Rattle.severity.specs.Checks.{severityIn}
-use Rattle.announced.specs.Announced.{afterReadings}
 use Rattle.limit_state.specs.declared.state.LimitState.{LimitState}
-use Rattle.announced.specs.declared.Progress.{Progress}
 use Rattle.limit_state.proofs.StateLaws.{state-small, makes-state}
-use Rattle.announced.proofs.SmallLaws.{Small, readings-small}
-use Rattle.checking.specs.Checks.{applying}
-use Rattle.checking.specs.Values.{valuesOf}
-use Rattle.stepping.specs.Time.{stateIn, inTime}
-use Rattle.checking.specs.Progress.{progressBy}
-use Rattle.stepping.specs.Step.{limitsOf, progressOf, accepted, stepBy, stepAt, stepOf, stepHeaded, stepIn}
+use Rattle.announced.proofs.SmallLaws.{readings-small}
+use Rattle.applying.specs.Checks.{applying}
+use Rattle.occurrences.specs.Values.{valuesOf}
+use Rattle.accepting.specs.Time.{stateIn, inTime}
+use Rattle.occurrences.specs.Progress.{progressBy}
+use Rattle.stepping.specs.Step.{limitsOf, stepBy, stepAt, stepOf, stepHeaded, stepIn}
+use Rattle.accepting.specs.Accepted.{progressOf, accepted}
 
 -- what is answered in the end was answered at each step
 module _ {A B : Type 0} (f : A → Outcome B) {b : B} where

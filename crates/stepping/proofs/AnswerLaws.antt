@@ -1,10 +1,9 @@
 -- What the functions of a limit step answer, step by step.
-use mathlib.Core.Path.{_≡_, refl, sym, ap, _∙_}
+use mathlib.Core.Path.{_≡_, refl, ap, _∙_}
 use mathlib.Core.Bool.{true, false}
 use mathlib.Core.List.{List}
 use mathlib.Core.Option.{none, some}
 use Prim.Native.Nat.{ℕ}
-use borrow.Author.Tests.{eq-eqb, ne-eqb}
 use Rattle.lines.specs.Names.{nameOf}
 use Rattle.lines.specs.declared.names.Name.{Name}
 use Rattle.rows.specs.Records.{ocfRow}
@@ -15,40 +14,15 @@ use Rattle.database.specs.Rows.{Row, Rows}
 use Rattle.parameters.specs.Located.{Located, located}
 use Rattle.headers.specs.Header.{headOf}
 use Rattle.headers.specs.declared.Head.{Head}
-use Rattle.limit_state.specs.State.{isState, isNewer}
+use Rattle.limit_state.specs.State.{isState}
 use Rattle.limit_state.specs.declared.state.LimitState.{LimitState}
 use Rattle.announced.specs.declared.Progress.{Progress}
-use Rattle.checking.specs.Checks.{applying}
-use Rattle.checking.specs.Values.{valuesOf}
-use Rattle.checking.specs.Progress.{progressBy, checkedOf}
-use Rattle.stepping.specs.Time.{stateIn, inTime}
-use Rattle.stepping.specs.Step.{limitsFrom, limitsOf, progressOf, accepted, stepBy, stepAt, stepOf, stepHeaded, stepIn}
-use Rattle.stepping.specs.Answer.{Answers}
-use Rattle.stepping.specs.declared.step.Stepped.{Stepped}
-
--- equal outcomes have the same answer
-pub answers-as : {s : LimitState} {a b : Outcome LimitState} {r : Stepped} → Answers s a r → a ≡ b → Answers s b r
-answers-as x e = rw e at x
-
--- The time of a packet
-
-module _ (s : LimitState) (head : Head) where
-  pub time-fresh : s .fresh ≡ true → answer s ≡ inTime s head
-  unfolding inTime
-  time-fresh f = rw f
-
-  module _ (f : s .fresh ≡ false) where
-    pub time-other : (head .apid ≡ s .apid → ⊥) → refused 36 0 ≡ inTime s head
-    unfolding inTime
-    time-other h = rw (f, ne-eqb (head .apid) (s .apid) h)
-
-    pub time-newer : head .apid ≡ s .apid → isNewer (head .count) (s .count) ≡ true → answer s ≡ inTime s head
-    unfolding inTime
-    time-newer e n = rw (f, eq-eqb (head .apid) (s .apid) e, n)
-
-    pub time-old : head .apid ≡ s .apid → isNewer (head .count) (s .count) ≡ false → refused 35 0 ≡ inTime s head
-    unfolding inTime
-    time-old e n = rw (f, eq-eqb (head .apid) (s .apid) e, n)
+use Rattle.applying.specs.Checks.{applying}
+use Rattle.occurrences.specs.Values.{valuesOf}
+use Rattle.occurrences.specs.Progress.{progressBy, checkedOf}
+use Rattle.accepting.specs.Time.{stateIn, inTime}
+use Rattle.stepping.specs.Step.{limitsFrom, limitsOf, stepBy, stepAt, stepOf, stepHeaded, stepIn}
+use Rattle.accepting.specs.Accepted.{progressOf, accepted}
 
 -- The values
 

@@ -12,9 +12,10 @@ use Rattle.readings.specs.Readings.{validity}
 use Rattle.curve_values.specs.Scale.{Scale}
 use Rattle.announced.specs.Announced.{afterReadings}
 use Rattle.limit_state.specs.declared.state.LimitState.{LimitState}
-use Rattle.checking.specs.Values.{occurrencesFrom, rawsOf, valuesOn, valuesOf}
-use Rattle.checking.specs.Progress.{progressBy}
-use Rattle.stepping.specs.Step.{progressOf, accepted, stepBy}
+use Rattle.occurrences.specs.Values.{occurrencesFrom, rawsOf, valuesOn, valuesOf}
+use Rattle.occurrences.specs.Progress.{progressBy}
+use Rattle.accepting.specs.Accepted.{progressOf, accepted}
+use Rattle.stepping.specs.Step.{stepBy}
 use Rattle.stepping.proofs.AcceptedLaws.{Accepted}
 
 -- an invalid parameter has no values

@@ -13,8 +13,9 @@ use Rattle.database.specs.Rows.{Rows}
 use Rattle.limit_state.specs.State.{isState, isNewer}
 use Rattle.limit_state.specs.declared.state.LimitState.{LimitState}
 use Rattle.limit_state.proofs.StateLaws.{never-newer, one-way, behind-old}
-use Rattle.stepping.specs.Step.{stepIn, stateAfter, afterPackets}
-use Rattle.stepping.proofs.AnswerLaws.{time-old}
+use Rattle.stepping.specs.Step.{stepIn, afterPackets}
+use Rattle.accepting.specs.Accepted.{stateAfter}
+use Rattle.accepting.proofs.TimeLaws.{time-old}
 use Rattle.stepping.proofs.AcceptedLaws.{Accepted, accepted-by, offered-again, left-fresh, left-apid, left-count, left-state}
 
 -- a packet that was accepted is refused by any state of its APID to which it isn't newer

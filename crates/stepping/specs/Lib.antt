@@ -1,4 +1,2 @@
-pub mod Time
 pub mod Step
-pub mod Answer
 pub mod StepExamples

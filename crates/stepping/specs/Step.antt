@@ -1,7 +1,6 @@
 -- A limit step: the state after a packet.
 use Prim.Native.Nat.{ℕ}
 use mathlib.Core.Path.{_≡_, refl}
-use mathlib.Core.Bool.{false}
 use mathlib.Core.List.{List, [], _∷_}
 use mathlib.Core.Option.{Option, none, some}
 use lib.IntN.{ℤ}
@@ -18,11 +17,11 @@ use Rattle.identification.specs.Identification.{Identity, identifyHeaded}
 use Rattle.headers.specs.declared.Head.{Head}
 use Rattle.severity.specs.Checks.{Check}
 use Rattle.limit_state.specs.declared.state.LimitState.{LimitState}
-use Rattle.announced.specs.declared.Progress.{Progress}
-use Rattle.checking.specs.Checks.{applying}
-use Rattle.checking.specs.Values.{valuesOf}
-use Rattle.checking.specs.Progress.{progressBy}
-use Rattle.stepping.specs.Time.{stateIn, inTime}
+use Rattle.applying.specs.Checks.{applying}
+use Rattle.occurrences.specs.Values.{valuesOf}
+use Rattle.occurrences.specs.Progress.{progressBy}
+use Rattle.accepting.specs.Time.{stateIn, inTime}
+use Rattle.accepting.specs.Accepted.{progressOf, accepted, stateAfter}
 
 -- 01: "33 … no good ocf row"
 unfoldable pub limitsFrom : Option Row → Outcome OcfRow
@@ -31,14 +30,6 @@ limitsFrom (some row) = answer (ocfRow (row .bytes))
 
 unfoldable pub limitsOf : Rows → Name → Outcome OcfRow
 limitsOf rows name = limitsFrom (rows .holder (limits name))
-
--- the numbers of a state that readings change
-unfoldable pub progressOf : LimitState → Progress
-progressOf s = record { run = s .run; announced = s .announced }
-
--- 01: "An accepted packet always sets the APID and count and ends fresh": the state after it is no longer fresh
-unfoldable pub accepted : Head → Progress → LimitState
-accepted head progress = record { fresh = false; apid = head .apid; count = head .count; run = progress .run; announced = progress .announced }
 
 -- the state after values that are checked by these checks, wherever they came from
 unfoldable pub stepBy : (checks : List Check) → (nbchck : ℕ) → Head → LimitState → (values : List ℤ) → LimitState
@@ -64,17 +55,12 @@ module _ (rows : Rows) (p : List ℕ) (name : Name) (s : LimitState) (head : Hea
 unfoldable pub stepIn : Rows → List ℕ → (name : List ℕ) → LimitState → Outcome LimitState
 stepIn rows p name s = andThen (stateIn s) (λ old. andThen (headOf p) (stepHeaded rows p (nameOf name) old))
 
--- the state that the next packet meets. 01: "A refusal writes nothing"
-unfoldable pub stateAfter : LimitState → Outcome LimitState → LimitState
-stateAfter s (refused number place) = s
-stateAfter s (answer t) = t
-
--- and the state after packets that are offered one after the other
+-- the state after packets that are offered one after the other
 unfoldable pub afterPackets : Rows → (name : List ℕ) → LimitState → (packets : List (List ℕ)) → LimitState
 afterPackets rows name s [] = s
 afterPackets rows name s (p ∷ later) = afterPackets rows name (stateAfter s (stepIn rows p name s)) later
 
--- a refused packet leaves the state
-pub example : (s : LimitState) → stateAfter s (refused 35 0) ≡ s
-unfolding stateAfter
-example s = refl
+-- no packets leave the state
+pub example : (rows : Rows) (name : List ℕ) (s : LimitState) → afterPackets rows name s [] ≡ s
+unfolding afterPackets
+example rows name s = refl

@@ -58,21 +58,12 @@ use Rattle.severity.specs.Violations.{isViolated}
 use Rattle.severity.specs.Levels.{levelOf}
 use Rattle.severity.specs.Checks.{checkOf, violates, severityIn}
 use Rattle.limit_state.specs.declared.state.LimitState.{LimitState}
-use Rattle.checking.specs.Checks.{checksOf, hasValue, firstRaw, applies, applying}
-use Rattle.checking.specs.Values.{
-  occurrencesFrom,
-  integerIn,
-  rawsOf,
-  isRefusal,
-  answered,
-  unlessRefused,
-  valuesOn,
-  scaleUnder,
-  valuesOf,
-}
-use Rattle.stepping.specs.Time.{stateIn, inTime}
-use Rattle.checking.specs.Progress.{progressBy}
-use Rattle.stepping.specs.Step.{limitsFrom, limitsOf, progressOf, accepted, stepBy, stepAt, stepOf, stepHeaded, stepIn}
+use Rattle.applying.specs.Checks.{checksOf, hasValue, firstRaw, applies, applying}
+use Rattle.occurrences.specs.Values.{occurrencesFrom, integerIn, rawsOf, isRefusal, answered, unlessRefused, valuesOn, scaleUnder, valuesOf}
+use Rattle.accepting.specs.Time.{stateIn, inTime}
+use Rattle.occurrences.specs.Progress.{progressBy}
+use Rattle.stepping.specs.Step.{limitsFrom, limitsOf, stepBy, stepAt, stepOf, stepHeaded, stepIn}
+use Rattle.accepting.specs.Accepted.{progressOf, accepted}
 
 -- here ";" stands for TAB
 abbrev line : (table : ℕ) → String → Row

@@ -1,5 +1,10 @@
 // A limit step: the state after a packet.
-use checking::occurrences::Checked;
+use accepting::step::Answer;
+use accepting::step::Stepped;
+use accepting::step::accept;
+use accepting::step::in_time;
+use accepting::step::refuse;
+use announced::Progress;
 use checking::parameter::Subject;
 use checking::parameter::check_parameter;
 use database::holder_of;
@@ -10,9 +15,7 @@ use headers::read_header;
 use identification::Identified;
 use identification::identify_headed;
 use key_symbols::limits_key;
-use announced::Progress;
 use limit_state::state::LimitState;
-use limit_state::state::is_newer;
 use limit_state::state::is_state;
 use lines::names::Name;
 use lines::names::name_of;
@@ -23,71 +26,10 @@ use tables::TABLES;
 use units::Spid;
 ghost use mathlib.Core.Path.{_≡_};
 ghost use mathlib.Core.List.{map};
-ghost use Rattle.outcomes.specs.Outcome.{andThen, answer};
-ghost use Rattle.outcomes.specs.Refusals.{refusedBy};
 ghost use Rattle.database.specs.Arrays.{database, rowAt, answers};
 ghost use Rattle.parameters.specs.Located.{byLines};
-ghost use Rattle.stepping.specs.Time.{inTime};
-ghost use Rattle.checking.specs.Pass.{saidChecked};
-ghost use Rattle.stepping.specs.Step.{accepted, stepAt, stepOf, stepHeaded, stepIn};
-ghost use Rattle.stepping.specs.Answer.{saidStep, Answers};
-
-// Whether the packet was taken, or why not.
-pub enum Answer {
-    Taken,
-    Refused(Refusal),
-}
-
-// The answer, and the state after the packet: refused, it is the state that was offered.
-pub struct Stepped {
-    pub answer: Answer,
-    pub state: LimitState,
-}
-
-fn refuse(state: LimitState, refusal: Refusal) -> Stepped
-    ensures { λ r. ⌜ Answers state (refusedBy refusal) r ⌝ }
-{
-    Stepped {
-        answer: Answer::Refused(refusal),
-        state,
-    }
-}
-
-// An accepted packet sets APID and count, and its state is no longer fresh.
-fn accept(head: Head, checked: Checked, state: LimitState) -> Stepped
-    ensures { λ r. ⌜ Answers state (andThen (saidChecked checked) (λ progress. answer (accepted head progress))) r ⌝ }
-{
-    match checked {
-        Checked::Is(progress) => Stepped {
-            answer: Answer::Taken,
-            state: LimitState {
-                fresh: false,
-                apid: head.apid,
-                count: head.count,
-                run: progress.run,
-                announced: progress.announced,
-            },
-        },
-        Checked::Refused(refusal) => refuse(state, refusal),
-    }
-}
-
-// Whether the state takes a packet of this APID and count: 36 before 35.
-fn in_time(state: LimitState, head: Head) -> Answer
-    ensures { λ r. ⌜ saidStep r state ≡ inTime state head ⌝ }
-{
-    if state.fresh {
-        return Answer::Taken;
-    }
-    if head.apid != state.apid {
-        return Answer::Refused(Refusal::OtherApid);
-    }
-    if is_newer(head.count, state.count) {
-        Answer::Taken
-    } else {
-        Answer::Refused(Refusal::NotNewer)
-    }
-}
+ghost use Rattle.stepping.specs.Step.{stepAt, stepOf, stepHeaded, stepIn};
+ghost use Rattle.accepting.specs.Answer.{Answers};
 
 // The parameter and its limits are found.
 fn step_at(

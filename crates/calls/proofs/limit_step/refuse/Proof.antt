@@ -1,8 +1,8 @@
 -- The state stays.
 use mathlib.Core.Path.{refl}
 use Rattle.outcomes.specs.Refusals.{refusedBy}
-use Rattle.stepping.specs.Step.{stateAfter}
-use Rattle.stepping.specs.Answer.{saidStep}
+use Rattle.accepting.specs.Accepted.{stateAfter}
+use Rattle.accepting.specs.Answer.{saidStep}
 use Rattle.calls.proofs.limit_step.refuse.Statement.{statement}
 use Rattle.calls.proofs.limit_step.refuse.Tie as tie
 

@@ -12,7 +12,7 @@ use borrow.Author.Needs.{needs}
 use Rattle.rows.specs.declared.records.OcpRow.{OcpRow}
 use Rattle.database.specs.Arrays.{database, answers}
 use Rattle.severity.specs.Levels.{levelOf}
-use Rattle.checking.specs.Checks.{applies}
+use Rattle.applying.specs.Checks.{applies}
 use Rattle.checking.proofs.CheckLaws.{Filling, fill-start, fill-more, fill-other, fill-done}
 use Rattle.checking.proofs.checks.fill_checks.Statement.{statement}
 use Rattle.checking.proofs.checks.fill_checks.Tie as tie

@@ -5,17 +5,17 @@ use native.Mathlib.Omega.{arith}
 use denote.Ref.{now}
 use Rattle.verdicts.specs.Key.{limits}
 use Rattle.database.proofs.GatherLaws.{Listed, listed, listed-room, listed-part}
-use Rattle.checking.specs.Checks.{applying}
+use Rattle.applying.specs.Checks.{applying}
 use Rattle.checking.proofs.CheckLaws.{listed-checks}
 use borrow.Author.Needs.{needs}
 use Rattle.checking.proofs.checks.gather_checks.Statement.{statement}
 use Rattle.checking.proofs.checks.gather_checks.Tie as tie
 
 abbrev start : tie.After-list-members → tie.Start
-start c = c .before .before .before .before .before .before .before
+start c = c .before .before .before .before .before .before .before .before .before
 
 rows-listed : (c : tie.After-list-members) → (let s = start c in
-    Listed (map now (s .args .tables)) (s .args .words .now) (s .args .links .now) (s .args .columns .now) (limits (s .args .name))
+    Listed (map now (s .args .tables)) (s .args .words .now) (s .args .links .now) (s .args .columns .now) (limits (s .args .subject .name))
     (c .list-members .last .1 .1 .1 .1 .0) (c .list-members .result))
 rows-listed c = listed _ _ _ _ _ (c .before .before .limits-key .ensures) (c .list-members .ensures)
 

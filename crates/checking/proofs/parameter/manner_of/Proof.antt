@@ -6,7 +6,7 @@ use denote.Ref.{now}
 use Rattle.rows.specs.Records.{pcfRow}
 use Rattle.rows.specs.declared.records.PcfRow.{PcfRow}
 use Rattle.database.specs.Arrays.{database, rowAt, answers}
-use Rattle.checking.specs.Values.{scaleUnder}
+use Rattle.occurrences.specs.Values.{scaleUnder}
 use borrow.Author.Needs.{needs}
 use Rattle.checking.proofs.parameter.manner_of.Statement.{statement}
 use Rattle.checking.proofs.parameter.manner_of.Tie as tie

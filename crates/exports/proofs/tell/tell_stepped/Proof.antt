@@ -1,8 +1,8 @@
 -- Case by case.
 use mathlib.Core.Path.{refl, ap}
 use borrow.Author.Needs.{needs}
-use Rattle.stepping.specs.Answer.{saidStep}
-use Rattle.stepping.specs.declared.step.Answer.{Answer}
+use Rattle.accepting.specs.Answer.{saidStep}
+use Rattle.accepting.specs.declared.step.Answer.{Answer}
 use Rattle.exports.specs.Answers.{ofState}
 use Rattle.exports.proofs.AnswerLaws.{kept, place-small, told-refused, told-values}
 use Rattle.exports.proofs.tell.tell_stepped.Statement.{statement}

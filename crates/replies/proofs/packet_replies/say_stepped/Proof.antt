@@ -1,6 +1,6 @@
 -- Case by case.
 use Rattle.outcomes.specs.Refusals.{refusedBy}
-use Rattle.stepping.specs.Answer.{saidStep}
+use Rattle.accepting.specs.Answer.{saidStep}
 use Rattle.replies.specs.Replies.{replyOf}
 use borrow.Author.Needs.{needs}
 use Rattle.replies.proofs.packet_replies.say_stepped.Statement.{statement}

@@ -2,10 +2,12 @@
 use Rattle.outcomes.specs.Outcome.{andThen}
 use Rattle.outcomes.proofs.OutcomeLaws.{told, then-refused}
 use Rattle.limit_state.specs.declared.state.LimitState.{LimitState}
-use Rattle.stepping.specs.Step.{progressOf, stepAt}
-use Rattle.stepping.specs.Answer.{saidStep}
-use Rattle.stepping.specs.declared.step.Answer.{Answer}
-use Rattle.stepping.proofs.AnswerLaws.{answers-as, in-time}
+use Rattle.accepting.specs.Accepted.{progressOf}
+use Rattle.stepping.specs.Step.{stepAt}
+use Rattle.accepting.specs.Answer.{saidStep}
+use Rattle.accepting.specs.declared.step.Answer.{Answer}
+use Rattle.accepting.proofs.TimeLaws.{answers-as}
+use Rattle.stepping.proofs.AnswerLaws.{in-time}
 use borrow.Author.Needs.{needs}
 use Rattle.stepping.proofs.step.step_at.Statement.{statement}
 use Rattle.stepping.proofs.step.step_at.Tie as tie

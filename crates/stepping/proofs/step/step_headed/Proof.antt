@@ -3,7 +3,7 @@ use Rattle.identification.specs.Identification.{saidIdentified}
 use Rattle.outcomes.proofs.OutcomeLaws.{told, then-answer, then-refused}
 use mathlib.Core.Path.{refl}
 use Rattle.stepping.specs.Step.{stepHeaded}
-use Rattle.stepping.proofs.AnswerLaws.{answers-as}
+use Rattle.accepting.proofs.TimeLaws.{answers-as}
 use borrow.Author.Needs.{needs}
 use Rattle.stepping.proofs.step.step_headed.Statement.{statement}
 use Rattle.stepping.proofs.step.step_headed.Tie as tie

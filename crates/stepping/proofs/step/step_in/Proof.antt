@@ -1,11 +1,12 @@
 -- By the state, and then by the header.
 use mathlib.Core.Path.{sym, _∙_}
 use Rattle.outcomes.specs.Refusals.{refusedBy, numberOf, placeOf}
-use Rattle.readings.proofs.ReadingLaws.{not-true, not-false}
 use Rattle.headers.specs.Header.{saidHead}
 use Rattle.outcomes.proofs.OutcomeLaws.{told, then-refused}
-use Rattle.stepping.proofs.AnswerLaws.{answers-as, no-state, with-head, of-state}
+use Rattle.accepting.proofs.TimeLaws.{answers-as}
+use Rattle.stepping.proofs.AnswerLaws.{no-state, with-head, of-state}
 use borrow.Author.Needs.{needs}
+use borrow.Author.Tests.{not-true, not-false}
 use Rattle.stepping.proofs.step.step_in.Statement.{statement}
 use Rattle.stepping.proofs.step.step_in.Tie as tie
 

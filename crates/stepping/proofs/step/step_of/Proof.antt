@@ -10,9 +10,10 @@ use Rattle.verdicts.specs.Key.{limits}
 use Rattle.database.specs.Arrays.{database, rowAt, answers}
 use Rattle.database.proofs.FindLaws.{holder-none, holder-some}
 use Rattle.parameters.proofs.LocatedLaws.{at-found, at-missing}
-use Rattle.readings.proofs.ReadingLaws.{not-true, not-false}
-use Rattle.stepping.proofs.AnswerLaws.{answers-as, no-limits, no-place, with-place}
+use Rattle.accepting.proofs.TimeLaws.{answers-as}
+use Rattle.stepping.proofs.AnswerLaws.{no-limits, no-place, with-place}
 use borrow.Author.Needs.{needs}
+use borrow.Author.Tests.{not-true, not-false}
 use Rattle.stepping.proofs.step.step_of.Statement.{statement}
 use Rattle.stepping.proofs.step.step_of.Tie as tie
 

@@ -1,0 +1,3 @@
+pub mod Time
+pub mod Accepted
+pub mod Answer
