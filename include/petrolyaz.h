@@ -5,31 +5,20 @@
  * Tables, packets and names are bytes, each a pointer and a length in bytes. The tables stand in the order
  * pid, pic, plf, pcf, caf, cap, txf, txp, ocf, ocp; an empty table has length 0. They are read only, need no alignment
  * and no end mark, and may overlap each other. No pointer is null, not even where the length is 0.
- * `cells` (2-byte aligned) and `answer` (8 numbers, 8-byte aligned) overlap nothing else that is passed.
- * The functions keep nothing between calls, call nothing but memcpy and memset, and may run in several threads at once. Each needs
- * up to 2 MiB of stack.
+ * `cells` (2-byte aligned), `state` (5 numbers) and `answer` (8 numbers, both 8-byte aligned) overlap nothing else that
+ * is passed: the state of the next step is copied out of the answer of the last.
+ * The functions keep nothing between calls, call nothing but memcpy and memset, and may run in several threads at once.
+ * Each needs up to 2 MiB of stack.
  *
- * The result is 0 for an answer, whose values then stand in the first places of `answer`; further places stay as they were.
- * Else it is refused: the number of the refusal * 2^32 + its place, and nothing is written, neither to `answer` nor to `cells`.
- * The place is, for 1 and 2, the first such table, 1 to 10; for 24, 28 and 29 the byte of the packet, from 0, in which the
- * first such field starts; else 0.
- *
- *   1  a table over 65,536 bytes              27  occurrence not below NBOCC
- *   2  a table over 1,024 rows                28  a bit of the field lies outside
- *   3  import: fewer cells than rows          29  a string not on a byte
- *  20  packet under 7 or over 8,192 bytes     30  raw value off an F curve
- *  21  version not 0, or the type bit set     31  curve result outside -2,147,483,648 to 2,147,483,647
- *  22  length field plus 7 isn't the length   32  no text
- *  23  header flagged, under 9 bytes          33  no good ocf row
- *  24  an identification field leaves         34  no such state: run over 99, announced over 2, APID over
- *      the packet                                 2,047, count over 16,383, or fresh with any number not 0
- *  25  no good VALID Y pid row                35  packet not newer
- *  26  no good plf row for name and SPID      36  packet of another APID
+ * The result is 0 for an answer, whose values then stand in the first places of `answer`; further places stay as they
+ * were. Else it is refused: the number of the refusal * 2^32 + its place, and nothing is written, neither to `answer` nor
+ * to `cells`. petrolyaz_number and petrolyaz_place take a result apart. The place is, for 1 and 2, the first such table,
+ * 1 to 10; for 24, 28 and 29 the byte of the packet, from 0, in which the first such field starts; else 0.
+ * The least number decides; a limit step seeks refusals in the order 1, 2, 34, 20 to 25, 33, 26, 36, 35, 28, 30, 31.
  */
 #ifndef PETROLYAZ_H
 #define PETROLYAZ_H
 
-#include <stdbool.h>
 #include <stddef.h>
 #include <stdint.h>
 
@@ -37,6 +26,87 @@
 extern "C" {
 #endif
 
+/* Raised with each change of a signature or an answer: a library whose petrolyaz_version() is PETROLYAZ_VERSION is what
+ * this header declares. */
+#define PETROLYAZ_VERSION 1
+
+uint32_t petrolyaz_version(void);
+
+/* The most rows that ten tables have, 1,024 each: so many cells are enough for any tables. */
+#define PETROLYAZ_MOST_CELLS 10240
+
+/* The tables, by the number that is the place of refusals 1 and 2. */
+enum petrolyaz_table {
+    PETROLYAZ_PID = 1,
+    PETROLYAZ_PIC = 2,
+    PETROLYAZ_PLF = 3,
+    PETROLYAZ_PCF = 4,
+    PETROLYAZ_CAF = 5,
+    PETROLYAZ_CAP = 6,
+    PETROLYAZ_TXF = 7,
+    PETROLYAZ_TXP = 8,
+    PETROLYAZ_OCF = 9,
+    PETROLYAZ_OCP = 10
+};
+
+/* Why a row is not good, in the order in which reasons are sought: 12 comes before 11. A row has the first that is
+ * found; 4 to 7 are sought column by column, from the left. The column, from 1, is the one that the reason speaks of;
+ * column 0 is the whole row, of which 1, 2, 3 and 9 speak. */
+enum petrolyaz_reason {
+    PETROLYAZ_GOOD = 0,
+    PETROLYAZ_LINE = 1,           /* the line is over 512 bytes long, or no line feed ends it */
+    PETROLYAZ_FOREIGN_BYTE = 2,   /* a byte is neither TAB nor from 0x20 to 0x7E */
+    PETROLYAZ_COLUMN_COUNT = 3,   /* the table has another number of columns */
+    PETROLYAZ_EMPTY = 4,          /* the column is mandatory, and empty */
+    PETROLYAZ_TOO_WIDE = 5,       /* the column is too wide */
+    PETROLYAZ_NOT_LISTED = 6,     /* this is no number, or none of the letters listed */
+    PETROLYAZ_OUT_OF_RANGE = 7,   /* the number is out of range */
+    PETROLYAZ_CONTRADICTION = 8,  /* this contradicts another column, or is not carried; the lowest such column */
+    PETROLYAZ_KEY_SHARED = 9,     /* another row holds the same key: all holders have this reason */
+    PETROLYAZ_COUNT_DIFFERS = 10, /* the rows that this column counts are another number */
+    PETROLYAZ_CIRCLE = 12,        /* the VALID chain returns to this row */
+    PETROLYAZ_NOT_NAMED = 11      /* no good row of the kind asked has this name; the lowest such column */
+};
+
+/* Why a call is refused. */
+enum petrolyaz_refusal {
+    PETROLYAZ_TABLE_TOO_LONG = 1,        /* a table over 65,536 bytes */
+    PETROLYAZ_TOO_MANY_ROWS = 2,         /* a table over 1,024 rows */
+    PETROLYAZ_TOO_FEW_CELLS = 3,         /* import: fewer cells than rows */
+    PETROLYAZ_PACKET_LENGTH = 20,        /* packet under 7 or over 8,192 bytes */
+    PETROLYAZ_PACKET_VERSION = 21,       /* version not 0, or the type bit set */
+    PETROLYAZ_LENGTH_FIELD = 22,         /* length field plus 7 isn't the packet's length */
+    PETROLYAZ_DATA_FIELD = 23,           /* data field header flagged, under 9 bytes */
+    PETROLYAZ_IDENTIFICATION_LEAVES = 24,/* an identification field leaves the packet */
+    PETROLYAZ_NO_PID_ROW = 25,           /* no good VALID Y pid row */
+    PETROLYAZ_NO_PLF_ROW = 26,           /* no good plf row for name and SPID */
+    PETROLYAZ_NO_OCCURRENCE = 27,        /* occurrence not below NBOCC */
+    PETROLYAZ_FIELD_LEAVES = 28,         /* a bit of the field lies outside */
+    PETROLYAZ_STRING_OFF_BYTE = 29,      /* a string not on a byte */
+    PETROLYAZ_OFF_CURVE = 30,            /* raw value off an F curve */
+    PETROLYAZ_CURVE_RESULT = 31,         /* curve result outside -2,147,483,648 to 2,147,483,647 */
+    PETROLYAZ_NO_TEXT = 32,              /* no text */
+    PETROLYAZ_NO_LIMITS = 33,            /* no good ocf row */
+    PETROLYAZ_NO_STATE = 34,             /* no such state: see petrolyaz_limit_step */
+    PETROLYAZ_NOT_NEWER = 35,            /* packet not newer */
+    PETROLYAZ_OTHER_APID = 36            /* packet of another APID */
+};
+
+/* What an answer of petrolyaz_extract and petrolyaz_engineer is; its first place says it. */
+enum petrolyaz_kind {
+    PETROLYAZ_INTEGER = 0,
+    PETROLYAZ_STRING = 1, /* a part of the packet */
+    PETROLYAZ_TEXT = 2    /* a part of the table txp; of petrolyaz_engineer alone */
+};
+
+/* What is announced of a parameter. */
+enum petrolyaz_announced {
+    PETROLYAZ_WITHIN = 0,
+    PETROLYAZ_SOFT = 1,
+    PETROLYAZ_HARD = 2
+};
+
+/* The tables, as each function takes them. */
 #define PETROLYAZ_TABLES \
     const uint8_t *pid, size_t pid_bytes, const uint8_t *pic, size_t pic_bytes, \
     const uint8_t *plf, size_t plf_bytes, const uint8_t *pcf, size_t pcf_bytes, \
@@ -44,37 +114,54 @@ extern "C" {
     const uint8_t *txf, size_t txf_bytes, const uint8_t *txp, size_t txp_bytes, \
     const uint8_t *ocf, size_t ocf_bytes, const uint8_t *ocp, size_t ocp_bytes
 
-/* Judges all rows: one cell for each, in table order, reason * 256 + column, 0 where the row is good. Further cells stay as they were.
- * `cells_count` counts cells, not bytes. answer: the number of rows, the number of good rows. */
-uint64_t petrolyaz_import(PETROLYAZ_TABLES, uint16_t *cells, size_t cells_count, int64_t *answer);
+/* A packet, and the name of a parameter. */
+#define PETROLYAZ_PACKET const uint8_t *packet, size_t packet_bytes
+#define PETROLYAZ_NAME const uint8_t *name, size_t name_bytes
+
+/* At least so many numbers, which C can say and C++ can't. */
+#ifdef __cplusplus
+#define PETROLYAZ_STATE const int64_t *state
+#define PETROLYAZ_ANSWER int64_t *answer
+#else
+#define PETROLYAZ_STATE const int64_t state[static 5]
+#define PETROLYAZ_ANSWER int64_t answer[static 8]
+#endif
+
+/* Judges all rows: one cell for each, in table order, reason * 256 + column, 0 where the row is good. Further cells stay
+ * as they were. `cells_count` counts cells, not bytes. answer: the number of rows, the number of good rows. */
+uint64_t petrolyaz_import(PETROLYAZ_TABLES, uint16_t *cells, size_t cells_count, PETROLYAZ_ANSWER);
 
 /* Which packet it is. answer: the number of the pid row, from 1; SPID; APID; type; subtype; PI1; PI2.
- * PI1 and PI2 are stored as 64 bits: one above 2^63 - 1 would stand there as itself less 2^64. Fields of 32 bits never are. */
-uint64_t petrolyaz_identify(PETROLYAZ_TABLES, const uint8_t *packet, size_t packet_bytes, int64_t *answer);
+ * PI1 and PI2 are stored as 64 bits: one above 2^63 - 1 would stand there as itself less 2^64. Fields of 32 bits never
+ * are. */
+uint64_t petrolyaz_identify(PETROLYAZ_TABLES, PETROLYAZ_PACKET, PETROLYAZ_ANSWER);
 
 /* The raw value of a parameter in a packet, occurrences from 0.
  * answer: 0, the value, valid (1) or not (0);
  *      or 1, the first byte of the string in the packet, from 0, its length in bytes, valid (1) or not (0). */
-uint64_t petrolyaz_extract(PETROLYAZ_TABLES, const uint8_t *packet, size_t packet_bytes, const uint8_t *name, size_t name_bytes,
-                           size_t occurrence, int64_t *answer);
+uint64_t petrolyaz_extract(PETROLYAZ_TABLES, PETROLYAZ_PACKET, PETROLYAZ_NAME, size_t occurrence, PETROLYAZ_ANSWER);
 
 /* Its engineering value, valid or not.
  * answer: 0, the value;
  *      or 1, the first byte of the string in the packet, from 0, its length in bytes;
  *      or 2, the number of the txp row, from 1, the first byte of its text in txp, from 0, its length in bytes. */
-uint64_t petrolyaz_engineer(PETROLYAZ_TABLES, const uint8_t *packet, size_t packet_bytes, const uint8_t *name, size_t name_bytes,
-                            size_t occurrence, int64_t *answer);
+uint64_t petrolyaz_engineer(PETROLYAZ_TABLES, PETROLYAZ_PACKET, PETROLYAZ_NAME, size_t occurrence, PETROLYAZ_ANSWER);
 
-/* The limit state of a parameter after a packet. The state is: fresh or not, APID, sequence count, run, and what is announced:
- * 0 within, 1 soft, 2 hard. A fresh state, which has seen no packet, has all numbers 0.
- * answer: the state after the packet: fresh, which is 0 from then on, APID, count, run, announced. After a refusal the state is as before.
- * Refusals are sought in the order 1, 2, 34, 20 to 25, 33, 26, 36, 35, 28, 30, 31. */
-uint64_t petrolyaz_limit_step(PETROLYAZ_TABLES, const uint8_t *packet, size_t packet_bytes, const uint8_t *name, size_t name_bytes,
-                              bool fresh, uint16_t apid, uint16_t count, uint8_t run, uint8_t announced, int64_t *answer);
+/* The limit state of a parameter after a packet, by its state before. A state is five numbers: fresh (1) or not (0),
+ * APID, sequence count, run, and what is announced. A fresh state, which has seen no packet, is 1, 0, 0, 0, 0.
+ * Five numbers are no state (34) if fresh is neither 0 nor 1, APID over 2,047, count over 16,383, run over 99 or
+ * announced over 2, if one is negative, or if fresh is 1 and another isn't 0.
+ * answer: the state after the packet in the same order; fresh is 0 from then on. After a refusal the state is as
+ * before. */
+uint64_t petrolyaz_limit_step(PETROLYAZ_TABLES, PETROLYAZ_PACKET, PETROLYAZ_NAME, PETROLYAZ_STATE, PETROLYAZ_ANSWER);
 
 /* The number and the place of a refusal; both are 0 for an answer. */
 static inline unsigned petrolyaz_number(uint64_t result) { return (unsigned)(result >> 32); }
 static inline uint32_t petrolyaz_place(uint64_t result) { return (uint32_t)result; }
+
+/* The reason and the column of a cell; both are 0 for a good row. */
+static inline unsigned petrolyaz_reason_of(uint16_t cell) { return cell / 256u; }
+static inline unsigned petrolyaz_column_of(uint16_t cell) { return cell % 256u; }
 
 #ifdef __cplusplus
 }

@@ -57,7 +57,7 @@ static void expect(const char *what, uint64_t result, unsigned number, uint32_t 
 #define NOTHING 0, answer
 #define EXTRACT(name) petrolyaz_extract(ALL(asked), packet, 14, NAME(name), 0, answer)
 #define ENGINEER(name) petrolyaz_engineer(ALL(asked), packet, 14, NAME(name), 0, answer)
-#define STEP(packet, name, ...) petrolyaz_limit_step(ALL(asked), packet, 14, NAME(name), __VA_ARGS__, answer)
+#define STEP(packet, name, ...) petrolyaz_limit_step(ALL(asked), packet, 14, NAME(name), (const int64_t[5]){__VA_ARGS__}, answer)
 
 int main(void)
 {
@@ -79,12 +79,14 @@ int main(void)
     expect("text of 0", ENGINEER("MODE"), 0, 0, VALUES(2, 1, 6, 3));
     expect("two bytes of text", ENGINEER("PART"), 0, 0, VALUES(1, 12, 2));
     expect("no such name", ENGINEER("NONE"), 26, 0, NOTHING);
-    expect("count 16,383, a first value above 4,000", STEP(last, "WORD", true, 0, 0, 0, 0), 0, 0, VALUES(0, 10, 16383, 1, 0));
-    expect("next count 0: newer, and soft", STEP(packet, "WORD", false, 10, 16383, 1, 0), 0, 0, VALUES(0, 10, 0, 2, 1));
-    expect("the same count again", STEP(packet, "WORD", false, 10, 0, 2, 1), 35, 0, NOTHING);
-    expect("another APID", STEP(packet, "WORD", false, 11, 16383, 1, 0), 36, 0, NOTHING);
-    expect("a fresh state with a run", STEP(packet, "WORD", true, 0, 0, 1, 0), 34, 0, NOTHING);
-    expect("no limits", STEP(packet, "BYTE", true, 0, 0, 0, 0), 33, 0, NOTHING);
-    expect("limits outside", STEP(packet, "PAST", true, 0, 0, 0, 0), 28, 13, NOTHING);
+    expect("count 16,383, a first value above 4,000", STEP(last, "WORD", 1, 0, 0, 0, 0), 0, 0, VALUES(0, 10, 16383, 1, 0));
+    expect("next count 0: newer, and soft", STEP(packet, "WORD", 0, 10, 16383, 1, 0), 0, 0, VALUES(0, 10, 0, 2, 1));
+    expect("the same count again", STEP(packet, "WORD", 0, 10, 0, 2, 1), 35, 0, NOTHING);
+    expect("another APID", STEP(packet, "WORD", 0, 11, 16383, 1, 0), 36, 0, NOTHING);
+    expect("a fresh state with a run", STEP(packet, "WORD", 1, 0, 0, 1, 0), 34, 0, NOTHING);
+    expect("an APID of 65,546, which is 10 in 16 bits", STEP(packet, "WORD", 0, 65546, 16383, 1, 0), 34, 0, NOTHING);
+    expect("a run of -1", STEP(packet, "WORD", 0, 10, 16383, -1, 0), 34, 0, NOTHING);
+    expect("no limits", STEP(packet, "BYTE", 1, 0, 0, 0, 0), 33, 0, NOTHING);
+    expect("limits outside", STEP(packet, "PAST", 1, 0, 0, 0, 0), 28, 13, NOTHING);
     return wrong != 0;
 }

@@ -65,7 +65,6 @@ impl Values for Value {
 
 impl Values for State {
     fn values(&self) -> Vec<i64> {
-        let numbers = [self.apid, self.count, self.run.into(), self.announced.into()];
-        [i64::from(self.fresh)].into_iter().chain(numbers.map(i64::from)).collect()
+        self.numbers().to_vec()
     }
 }

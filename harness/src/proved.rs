@@ -1,7 +1,6 @@
 //! The proved library, as include/petrolyaz.h declares it: a slice is a pointer and a length.
 
 use crate::answers::{Answer, Places};
-use crate::reference::limits::State;
 use crate::reference::Tables;
 
 macro_rules! questions {
@@ -25,6 +24,10 @@ macro_rules! questions {
     };
 }
 
+extern "C" {
+    fn petrolyaz_version() -> u32;
+}
+
 questions! {
     petrolyaz_import(cells: *mut u16, cells_length: usize);
     petrolyaz_identify(packet: *const u8, packet_length: usize);
@@ -36,7 +39,7 @@ questions! {
     );
     petrolyaz_limit_step(
         packet: *const u8, packet_length: usize, name: *const u8, name_length: usize,
-        fresh: bool, apid: u16, count: u16, run: u8, announced: u8
+        state: *const [i64; 5]
     );
 }
 
@@ -76,22 +79,14 @@ pub fn engineer(tables: &Tables, packet: &[u8], name: &[u8], occurrence: usize, 
     ask!(petrolyaz_engineer, tables, places, packet, packet_length, name.as_ptr(), name.len(), occurrence)
 }
 
-pub fn limit_step(tables: &Tables, packet: &[u8], name: &[u8], state: State, places: Places) -> Answer {
-    let State { fresh, apid, count, run, announced } = state;
+/// The state as five numbers: fresh, APID, count, run, announced.
+pub fn limit_step(tables: &Tables, packet: &[u8], name: &[u8], state: [i64; 5], places: Places) -> Answer {
     let (packet, packet_length) = (packet.as_ptr(), packet.len());
-    let (name, name_length) = (name.as_ptr(), name.len());
-    ask!(
-        petrolyaz_limit_step,
-        tables,
-        places,
-        packet,
-        packet_length,
-        name,
-        name_length,
-        fresh,
-        apid,
-        count,
-        run,
-        announced
-    )
+    ask!(petrolyaz_limit_step, tables, places, packet, packet_length, name.as_ptr(), name.len(), &state)
+}
+
+/// The interface's version, which include/petrolyaz.h tells too.
+pub fn version() -> u32 {
+    // Sound: it takes nothing and keeps nothing.
+    unsafe { petrolyaz_version() }
 }

@@ -13,7 +13,7 @@ use harness::generate::{borrowed, packets, states, ByteSet};
 use harness::proved;
 use harness::random::Random;
 use harness::reference::judging::TABLES;
-use harness::reference::limits::{limit_step, State, HARD, SOFT, WITHIN};
+use harness::reference::limits::{limit_step_from, State, HARD, SOFT, WITHIN};
 use harness::reference::lines::{count_lines, lines};
 use harness::reference::packets::{extract, identify, Raw, Reading};
 use harness::reference::reach::reaching;
@@ -32,7 +32,7 @@ const PACKETS: u64 = 3;
 const STACK: usize = 4 << 20;
 
 /// The kinds of answers that must occur.
-const ANSWERS: [(Question, &str); 11] = [
+const ANSWERS: [(Question, &str); 12] = [
     (Question::Extract, "integer, valid"),
     (Question::Extract, "integer, invalid"),
     (Question::Extract, "string, valid"),
@@ -44,7 +44,37 @@ const ANSWERS: [(Question, &str); 11] = [
     (Question::LimitStep, "soft"),
     (Question::LimitStep, "hard"),
     (Question::LimitStep, "run raised, announced kept"),
+    (Question::LimitStep, NO_STATE),
 ];
+
+const NO_STATE: &str = "numbers that are no state";
+
+/// 34 comes after 1 and 2 and before the packet's refusals.
+#[test]
+fn numbers_that_are_no_state_are_refused() {
+    let long = vec![b'\n'; 65_537];
+    let rows = vec![b'\n'; 1_025];
+    let mut tables: Tables = [b""; TABLES];
+    for (k, most) in [1, 65_535, 65_535, 255, 255].into_iter().enumerate() {
+        for number in [most + 1, most + 11, -1, i64::MIN, i64::MAX] {
+            let mut state = [0; 5];
+            state[k] = number;
+            tables[6] = b"";
+            assert_eq!(proved::limit_step(&tables, b"", b"", state, PLACES), refused(34, 0));
+            tables[6] = &long;
+            assert_eq!(proved::limit_step(&tables, b"", b"", state, PLACES), refused(1, 7));
+            tables[6] = &rows;
+            assert_eq!(proved::limit_step(&tables, b"", b"", state, PLACES), refused(2, 7));
+        }
+    }
+    assert_eq!(proved::limit_step(&[b""; TABLES], b"", b"", [0, 10, 0, 0, 0], PLACES), refused(20, 0));
+}
+
+const PLACES: Places = [7, -7, 77, -77, 777, -777, 0, 1];
+
+fn refused(number: u64, place: u64) -> Answer {
+    Answer { result: (number << 32) + place, places: PLACES }
+}
 
 #[test]
 fn the_library_answers_as_the_reference() {
@@ -197,7 +227,7 @@ impl<'s> Comparison<'s> {
         self.identify(tables, judged, &packet);
         self.extract(tables, judged, &packet, &name, occurrence);
         self.engineer(tables, judged, &packet, &name, occurrence);
-        let state = states::state(&mut self.random, &packet);
+        let state = states::numbers(&mut self.random, &packet);
         self.limit_step(tables, judged, &packet, &limited, state);
     }
 
@@ -257,15 +287,17 @@ impl<'s> Comparison<'s> {
         judged: &Result<Judged, Refusal>,
         packet: &[u8],
         name: &[u8],
-        state: State,
+        state: [i64; 5],
     ) {
         let places = self.places();
-        let expected = ask(judged, |judged| limit_step(judged, packet, name, state));
+        let expected = ask(judged, |judged| limit_step_from(judged, packet, name, state));
         let asked = format!("limit step of {} from {state:?} by {packet:02X?}", name.escape_ascii());
         let library = proved::limit_step(tables, packet, name, state, places);
         self.answered(Question::LimitStep, &asked, library, answer(&expected, places));
-        if let Ok(after) = &expected {
-            self.tally.answer(Question::LimitStep, kind_of_step(&state, after));
+        match (State::of(state), &expected) {
+            (Some(before), Ok(after)) => self.tally.answer(Question::LimitStep, kind_of_step(&before, after)),
+            (None, Err(Refusal { number: 34, .. })) => self.tally.answer(Question::LimitStep, NO_STATE),
+            _ => {}
         }
     }
 

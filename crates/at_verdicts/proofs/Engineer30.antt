@@ -24,8 +24,8 @@ use Rattle.parameters.specs.Located.{Located, byLines, needed, located}
 use Rattle.readings.specs.Readings.{Reading, withValidity, readingWith, validity, reading}
 use Rattle.engineering.specs.Engineering.{Engineered, engineered}
 use Rattle.calls.specs.Tables.{afterSizes, asking}
-use Rattle.calls.specs.Extraction.{extractBy}
-use Rattle.calls.specs.Engineering.{ofValue, engineerBy}
+use Rattle.extraction.specs.Extraction.{extractBy}
+use Rattle.extraction.specs.Engineering.{ofValue, engineerBy}
 use Rattle.calls.specs.Calls.{engineerOf}
 use Rattle.at_verdicts.specs.OffCurve.{ReadOffItsCurve}
 use Rattle.at_verdicts.proofs.NumberLaws.{numberIn, Never, never-one, never-then, then-is, later, earlier}

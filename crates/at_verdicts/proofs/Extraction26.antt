@@ -16,7 +16,7 @@ use Rattle.raw_values.specs.RawValues.{rawOf}
 use Rattle.parameters.specs.Located.{byLines, needed, located}
 use Rattle.readings.specs.Readings.{Reading, withValidity, readingWith, validity, reading}
 use Rattle.calls.specs.Tables.{afterSizes, asking}
-use Rattle.calls.specs.Extraction.{extractBy}
+use Rattle.extraction.specs.Extraction.{extractBy}
 use Rattle.calls.specs.Calls.{extractOf}
 use Rattle.at_verdicts.specs.Unlocated.{Unlocated}
 use Rattle.at_verdicts.proofs.NumberLaws.{numberIn, Numbered, never-one, then-is, then-refused, later}

@@ -16,7 +16,7 @@ use Rattle.database.specs.Rows.{Row, Rows}
 use Rattle.readings.specs.Readings.{Reading}
 use Rattle.curve_points.specs.Curves.{Curve, curveOf}
 use Rattle.curve_values.specs.OffCurve.{isOffCurve}
-use Rattle.calls.specs.Extraction.{extractBy}
+use Rattle.extraction.specs.Extraction.{extractBy}
 
 -- 01: "30 … raw value off an F curve", that of CURTX in a pcf row of CATEG N
 pub record OffItsCurve (rows : Rows) (row : PcfRow) (raw : ℤ) : Type 0 where

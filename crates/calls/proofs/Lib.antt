@@ -1,3 +1,3 @@
 pub mod LoadLaws
-pub mod ExtractLaws
-pub mod EngineerLaws
+pub mod AnsweringLaws
+pub mod OfferedLaws

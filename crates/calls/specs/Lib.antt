@@ -1,4 +1,3 @@
 pub mod Tables
-pub mod Extraction
-pub mod Engineering
 pub mod Calls
+pub mod Answering

@@ -1,41 +1,68 @@
 // A parameter's limit state after a packet.
+use crate::ask::Answered;
+use crate::ask::Call;
+use crate::ask::ask;
+use limit_state::state::LimitState;
+use offered::Offered;
+use offered::state_of;
+use outcomes::Refusal;
 use accepting::step::Answer;
 use accepting::step::Stepped;
-use database::COLUMNS;
-use kept::LINKS;
-use kept::WORDS;
-use limit_state::state::LimitState;
-use loading::Loading;
-use loading::load;
-use outcomes::Refusal;
-use stepping::step::step_in;
+use tables::Sizes;
 use tables::TABLES;
+use tables::check_sizes;
+use units::TableNumber;
 ghost use mathlib.Core.Path.{_≡_};
 ghost use mathlib.Core.List.{map};
 ghost use Rattle.outcomes.specs.Refusals.{refusedBy};
-ghost use Rattle.accepting.specs.Answer.{Answers};
-ghost use Rattle.calls.specs.Calls.{limitStepOf};
+ghost use Rattle.offered.specs.Offered.{offeredState};
+ghost use Rattle.accepting.specs.Answer.{saidStep, Answers};
+ghost use Rattle.calls.specs.Calls.{limitStepOf, noState, limitStepFrom};
 
-// A refusal leaves the state as it was.
-fn refuse(refusal: Refusal, state: LimitState) -> Stepped
-    ensures { λ r. ⌜ Answers state (refusedBy refusal) r ⌝ }
-{
-    Stepped {
-        answer: Answer::Refused(refusal),
-        state,
-    }
-}
-
+// An answer of another kind never comes.
 pub fn limit_step(tables: [&[u8]; TABLES], p: &[u8], name: &[u8], state: LimitState) -> Stepped
     ensures { λ r. ⌜ Answers state (limitStepOf (map now (tables .entry)) (now (p .entry)) (now (name .entry)) state) r ⌝ }
 {
-    let mut words = [0u64; WORDS];
-    let mut links = [0u16; LINKS];
-    let mut columns = [0u16; COLUMNS];
-    match load(tables, &mut words, &mut links, &mut columns) {
-        Loading::Done => step_in(tables, &words, &links, &columns, p, name, state),
-        Loading::TooLong(table) => refuse(Refusal::TableTooLong(table), state),
-        Loading::TooManyRows(table) => refuse(Refusal::TooManyRows(table), state),
-        Loading::NoRoom => refuse(Refusal::NoPidRow, state),
+    match ask(tables, p, name, Call::LimitStep(state)) {
+        Answered::Stepped(stepped) => stepped,
+        _ => Stepped {
+            answer: Answer::Refused(Refusal::NoPidRow),
+            state,
+        },
+    }
+}
+
+fn refuse_state(tables: [&[u8]; TABLES]) -> Refusal
+    ensures { λ r. ⌜ refusedBy r ≡ noState (map now (tables .entry)) ⌝ }
+{
+    match check_sizes(tables) {
+        Sizes::Fit => Refusal::NoState,
+        Sizes::TooLong(table) => Refusal::TableTooLong(TableNumber(table)),
+        Sizes::TooManyRows(table) => Refusal::TooManyRows(TableNumber(table)),
+    }
+}
+
+// The state comes as five numbers; where they are none, the state beside the refusal says nothing.
+pub fn limit_step_from(
+    tables: [&[u8]; TABLES],
+    p: &[u8],
+    name: &[u8],
+    numbers: &[i64; 5],
+) -> Stepped
+    ensures { λ r. ⌜ saidStep (r .answer) (r .state)
+        ≡ limitStepFrom (map now (tables .entry)) (now (p .entry)) (now (name .entry)) (offeredState (now (numbers .entry))) ⌝ }
+{
+    match state_of(numbers) {
+        Offered::State(state) => limit_step(tables, p, name, state),
+        Offered::NoState => Stepped {
+            answer: Answer::Refused(refuse_state(tables)),
+            state: LimitState {
+                fresh: true,
+                apid: 0,
+                count: 0,
+                run: 0,
+                announced: 0,
+            },
+        },
     }
 }

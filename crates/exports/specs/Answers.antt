@@ -16,6 +16,10 @@ use Rattle.texts.specs.Texts.{Text}
 use Rattle.engineering.specs.Engineering.{Engineered, value, text}
 use Rattle.limit_state.specs.declared.state.LimitState.{LimitState}
 
+-- raised with each change of a signature or of an answer
+abbrev pub version : ℕ
+version = 1
+
 -- 01: "A refusal … returns number and place", as one number. Every place is below 2 ^ 32 (crate refusal_places), so both are read back from it (`read-back`)
 unfoldable pub code : (number place : ℕ) → ℕ
 code number place = number * 2 ^ 32 + place

@@ -7,14 +7,25 @@ use crate::tell::tell_stepped;
 use calls::engineer::engineer;
 use calls::extract::extract;
 use calls::identify::identify;
-use calls::limit_step::limit_step;
+use calls::limit_step::limit_step_from;
 use import::import;
-use limit_state::state::LimitState;
-ghost use Rattle.calls.specs.Calls.{identifyOf, extractOf, engineerOf, limitStepOf};
-ghost use Rattle.exports.specs.Answers.{ofIdentity, ofReading, ofEngineered, ofState, Told, ImportTold, ten};
+ghost use mathlib.Core.Path.{_≡_};
+ghost use Rattle.offered.specs.Offered.{offeredState};
+ghost use Rattle.calls.specs.Calls.{identifyOf, extractOf, engineerOf, limitStepFrom};
+ghost use Rattle.exports.specs.Answers.{ofIdentity, ofReading, ofEngineered, ofState, Told, ImportTold, ten, version};
 
 mod places;
 mod tell;
+
+// The version of these functions, which PETROLYAZ_VERSION of the header is too.
+const VERSION: u32 = 1;
+
+#[no_mangle]
+pub extern "C" fn petrolyaz_version() -> u32
+    ensures { λ r. ⌜ r ≡ version ⌝ }
+{
+    VERSION
+}
 
 // Judges all rows of the ten tables: one cell for each, in table order.
 #[no_mangle]
@@ -120,7 +131,7 @@ pub extern "C" fn petrolyaz_engineer<'a>(
     tell_engineered(engineer(tables, packet, name, occurrence), answer)
 }
 
-// A parameter's limit state after a packet, by its state before.
+// A parameter's limit state after a packet, by its state before: fresh, APID, count, run, announced.
 #[no_mangle]
 pub extern "C" fn petrolyaz_limit_step<'a>(
     pid: &'a [u8],
@@ -135,26 +146,14 @@ pub extern "C" fn petrolyaz_limit_step<'a>(
     ocp: &'a [u8],
     packet: &[u8],
     name: &[u8],
-    fresh: bool,
-    apid: u16,
-    count: u16,
-    run: u8,
-    announced: u8,
+    state: &[i64; 5],
     answer: &mut [i64; 8],
 ) -> u64
-    ensures { λ r. ⌜ Told ofState (limitStepOf
+    ensures { λ r. ⌜ Told ofState (limitStepFrom
         (ten (now (pid .entry)) (now (pic .entry)) (now (plf .entry)) (now (pcf .entry)) (now (caf .entry))
         (now (cap .entry)) (now (txf .entry)) (now (txp .entry)) (now (ocf .entry)) (now (ocp .entry)))
-        (now (packet .entry)) (now (name .entry))
-        (record { fresh = fresh; apid = apid; count = count; run = run; announced = announced })) (now (answer .entry)) (now (answer .exit)) r ⌝ }
+        (now (packet .entry)) (now (name .entry)) (offeredState (now (state .entry)))) (now (answer .entry)) (now (answer .exit)) r ⌝ }
 {
     let tables = [pid, pic, plf, pcf, caf, cap, txf, txp, ocf, ocp];
-    let state = LimitState {
-        fresh,
-        apid,
-        count,
-        run,
-        announced,
-    };
-    tell_stepped(limit_step(tables, packet, name, state), answer)
+    tell_stepped(limit_step_from(tables, packet, name, state), answer)
 }

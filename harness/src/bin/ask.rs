@@ -8,7 +8,6 @@ use harness::answers::Answer;
 use harness::generate::borrowed;
 use harness::generate::full::{full_packet, full_set, last_parameter, Shape};
 use harness::proved;
-use harness::reference::limits::State;
 use harness::reference::Tables;
 
 const USAGE: &str = "usage: ask import|identify|extract|engineer|limit-step CHAIN (the length of the VALID chains, up to 1024)";
@@ -36,7 +35,7 @@ fn ask(question: &str, tables: &Tables, packet: &[u8], name: &[u8]) -> Option<An
         "identify" => proved::identify(tables, packet, places),
         "extract" => proved::extract(tables, packet, name, 1, places),
         "engineer" => proved::engineer(tables, packet, name, 1, places),
-        "limit-step" => proved::limit_step(tables, packet, name, State { fresh: true, ..State::default() }, places),
+        "limit-step" => proved::limit_step(tables, packet, name, [1, 0, 0, 0, 0], places),
         _ => return None,
     })
 }

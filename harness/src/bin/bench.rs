@@ -75,7 +75,7 @@ fn measure_all(tables: &Tables, shape: Shape, rounds: usize) {
     measure_packet("engineer", rounds, tables, &once, by_library, by_reference);
     let fresh = State { fresh: true, ..State::default() };
     let by_reference = |judged: &Judged| answer(&limit_step(judged, packet, name, fresh), NO_PLACES);
-    let by_library = || proved::limit_step(tables, packet, name, fresh, NO_PLACES);
+    let by_library = || proved::limit_step(tables, packet, name, fresh.numbers(), NO_PLACES);
     measure_packet("limit step", rounds, tables, &once, by_library, by_reference);
     measure_judged_step(tables, packet, &parameter);
 }

@@ -13,6 +13,17 @@ pub fn state(random: &mut Random, packet: &[u8]) -> State {
     }
 }
 
+/// A state as five numbers, of which one may be none of its field.
+pub fn numbers(random: &mut Random, packet: &[u8]) -> [i64; 5] {
+    let mut numbers = state(random, packet).numbers();
+    if random.chance(5) {
+        let k = random.below(5);
+        let field = [2, 65_536, 65_536, 256, 256][k];
+        numbers[k] = *random.pick(&[field, field + numbers[k], -1, numbers[k] - field, i64::MAX, i64::MIN]);
+    }
+    numbers
+}
+
 fn any(random: &mut Random) -> State {
     let word = random.word();
     State {

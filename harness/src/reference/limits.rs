@@ -15,6 +15,27 @@ pub struct State {
     pub announced: u8,
 }
 
+impl State {
+    /// As the C interface keeps it: fresh, APID, count, run, announced.
+    pub fn numbers(self) -> [i64; 5] {
+        [self.fresh.into(), self.apid.into(), self.count.into(), self.run.into(), self.announced.into()]
+    }
+
+    /// The state that five numbers are, where each is one of its field.
+    pub fn of([fresh, apid, count, run, announced]: [i64; 5]) -> Option<State> {
+        if !(0..=1).contains(&fresh) {
+            return None;
+        }
+        Some(State {
+            fresh: fresh == 1,
+            apid: apid.try_into().ok()?,
+            count: count.try_into().ok()?,
+            run: run.try_into().ok()?,
+            announced: announced.try_into().ok()?,
+        })
+    }
+}
+
 pub const WITHIN: u8 = 0;
 pub const SOFT: u8 = 1;
 pub const HARD: u8 = 2;
@@ -54,6 +75,17 @@ pub fn limit_step(judged: &Judged, packet: &[u8], name: &[u8], state: State) -> 
         }
     }
     Ok(after)
+}
+
+/// The same from five numbers: those that are no state are refused as a state is that no step takes.
+pub fn limit_step_from(
+    judged: &Judged,
+    packet: &[u8],
+    name: &[u8],
+    numbers: [i64; 5],
+) -> Result<State, Refusal> {
+    let Some(state) = State::of(numbers) else { return refuse(34) };
+    limit_step(judged, packet, name, state)
 }
 
 /// The raw values of all occurrences in order, or refusal 28 at the first that leaves the packet.

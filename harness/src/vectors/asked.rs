@@ -43,7 +43,7 @@ impl Asked for Library {
     }
 
     fn step(&self, tables: &Tables, packet: &[u8], name: &[u8], state: State) -> Answer {
-        proved::limit_step(tables, packet, name, state, BLANK)
+        proved::limit_step(tables, packet, name, state.numbers(), BLANK)
     }
 
     fn inner(&self, _: &Inner, _: &[u8]) -> Option<String> {

@@ -132,12 +132,5 @@ fn only(table: usize, row: &[u8]) -> Tables<'_> {
 
 fn state_after(answer: &Answer) -> Option<State> {
     let [fresh, apid, count, run, announced, ..] = answer.places;
-    let state = State {
-        fresh: fresh == 1,
-        apid: apid as u16,
-        count: count as u16,
-        run: run as u8,
-        announced: announced as u8,
-    };
-    (answer.result == 0).then_some(state)
+    State::of([fresh, apid, count, run, announced]).filter(|_| answer.result == 0)
 }

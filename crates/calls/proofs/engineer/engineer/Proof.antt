@@ -1,81 +1,25 @@
--- By what loading the tables answers.
-use Rattle.engineering.specs.Engineering.{saidEngineered}
-use Rattle.calls.specs.Engineering.{engineerBy}
+-- An answer of its own kind; there is no other.
+use mathlib.Core.Path.{subst}
+use mathlib.Core.List.{[], _∷_}
+use types.Run.{OneOf, miss}
 use Rattle.calls.specs.Calls.{engineerOf}
-use Rattle.calls.proofs.LoadLaws.{room, never-short, asked, too-long, too-many}
+use Rattle.calls.proofs.AnsweringLaws.{says-engineered, kind-engineered}
 use borrow.Author.Needs.{needs}
 use Rattle.calls.proofs.engineer.engineer.Statement.{statement}
 use Rattle.calls.proofs.engineer.engineer.Tie as tie
-use Rattle.calls.proofs.engineer.engineer_in.Reads as engineer-in-reads
 
-slice-aggregate-load : tie.Need-slice-aggregate-load
-slice-aggregate-load c = search needs
+ask-requires : tie.Need-ask-requires
+ask-requires c κs = search needs
 
-slice-aggregate-load-2 : tie.Need-slice-aggregate-load-2
-slice-aggregate-load-2 c = search needs
-
-slice-aggregate-load-3 : tie.Need-slice-aggregate-load-3
-slice-aggregate-load-3 c = search needs
-
-load-requires : tie.Need-load-requires
-load-requires c κs = search needs
-
-enum-told : tie.Need-enum-told
-enum-told c = search needs
-
-slice-aggregate-engineer-in : tie.Need-slice-aggregate-engineer-in
-slice-aggregate-engineer-in c = search needs
-
-slice-aggregate-engineer-in-2 : tie.Need-slice-aggregate-engineer-in-2
-slice-aggregate-engineer-in-2 c = search needs
-
-slice-aggregate-engineer-in-3 : tie.Need-slice-aggregate-engineer-in-3
-slice-aggregate-engineer-in-3 c = search needs
-
-engineer-in-requires : tie.Need-engineer-in-requires
-engineer-in-requires c κs = search needs
-
-enum-known-table : tie.Need-enum-known-table
-enum-known-table c = search needs
-
-enum-known-table-2 : tie.Need-enum-known-table-2
-enum-known-table-2 c = search needs
-
-enum-told-2 : tie.Need-enum-told-2
-enum-told-2 c = search needs
+enum-known-engineered : tie.Need-enum-known-engineered
+enum-known-engineered c = search needs
 
 returns : tie.Need-returns
 unfolding engineerOf
-returns c = asked _ _ _ (c .before .before .before .before .before .before .before .before .before .load .ensures) (λ rows. engineerBy rows _ _ _) (c .before .before .before .before .enum-told .given .1) (c .engineer-in .ensures)
+returns c = says-engineered _ _ _ _ (c .before .before .before .ask .ensures) _ (c .before .engineered .given .1)
 
 returns-2 : tie.Need-returns-2
-unfolding engineerOf saidEngineered
-returns-2 c = too-long _ _ _ (c .before .before .before .before .before .before .load .ensures) (λ rows. engineerBy rows _ _ _) _ (c .before .table .given .1)
-
-returns-3 : tie.Need-returns-3
-unfolding engineerOf saidEngineered
-returns-3 c = too-many _ _ _ (c .before .before .before .before .before .before .load .ensures) (λ rows. engineerBy rows _ _ _) _ (c .before .table2 .given .1)
-
-returns-4 : tie.Need-returns-4
-returns-4 c = absurd (never-short _ _ _ (c .before .before .before .before .before .load .ensures) room (c .enum-told2 .given .1))
+returns-2 c = absurd (miss (0 ∷ 1 ∷ 3 ∷ []) 2 tt (subst (OneOf (0 ∷ 1 ∷ 3 ∷ [])) (kind-engineered _ _ _ _ _ (c .before .ask .ensures)) (c .match .keys2)))
 
 pub engineer-spec : {M : Type 1} → statement M
-engineer-spec =
-    tie.close
-    (tie.spec
-    slice-aggregate-load
-    slice-aggregate-load-2
-    slice-aggregate-load-3
-    load-requires
-    enum-told
-    slice-aggregate-engineer-in
-    slice-aggregate-engineer-in-2
-    slice-aggregate-engineer-in-3
-    engineer-in-requires
-    enum-known-table
-    enum-known-table-2
-    enum-told-2
-    returns
-    returns-2
-    returns-3
-    returns-4)
+engineer-spec = tie.close (tie.spec ask-requires enum-known-engineered returns returns-2)

@@ -1,0 +1,2 @@
+pub mod ExtractLaws
+pub mod EngineerLaws

@@ -1,0 +1,34 @@
+-- The engineering value of a parameter in a packet.
+use Prim.Native.Nat.{ℕ}
+use mathlib.Core.Path.{_≡_, refl}
+use mathlib.Core.List.{List, []}
+use lib.IntN.{pos}
+use Rattle.laws.specs.Text.{ascii}
+use Rattle.lines.specs.Names.{nameOf}
+use Rattle.lines.specs.declared.names.Name.{Name}
+use Rattle.rows.specs.Records.{pcfRow}
+use Rattle.verdicts.specs.Key.{parameter}
+use Rattle.outcomes.specs.Outcome.{Outcome, refused, answer, andThen}
+use Rattle.outcomes.specs.Values.{Value, number, part}
+use Rattle.database.specs.Rows.{Rows}
+use Rattle.database.specs.GoodRows.{among, find}
+use Rattle.parameters.specs.Located.{needed}
+use Rattle.engineering.specs.Engineering.{Engineered, value, engineered}
+use Rattle.extraction.specs.Extraction.{extractBy}
+
+-- of a raw value, by the parameter's good pcf row. 01: "A string is answered as the part of the packet it is"
+unfoldable pub ofValue : Rows → Name → Value → Outcome Engineered
+ofValue rows name (number z) = andThen (needed (rows .holder (parameter name))) (λ row. engineered rows (pcfRow (row .bytes)) z)
+ofValue rows name (part start bytes) = answer (value (part start bytes))
+
+-- valid or not
+unfoldable pub engineerBy : Rows → (p name : List ℕ) → (k : ℕ) → Outcome Engineered
+engineerBy rows p name k = andThen (extractBy rows p name k) (λ r. ofValue rows (nameOf name) (r .value))
+
+pub record Examples : Type 0 where
+  pub string : ofValue (among []) (nameOf (ascii "T1")) (part 12 2) ≡ answer (value (part 12 2))
+  pub unknown : ofValue (among []) (nameOf (ascii "T1")) (number (pos 7)) ≡ refused 26 0
+
+pub examples : Examples
+unfolding ofValue andThen needed among find
+examples = record { string = refl; unknown = refl }

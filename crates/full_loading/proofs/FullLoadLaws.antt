@@ -1,0 +1,37 @@
+-- Loading into arrays that have room.
+use mathlib.Core.Path.{_≡_, sym, subst, _∙_}
+use mathlib.Core.Bool.{true, false}
+use mathlib.Core.List.{List}
+use Prim.Native.Nat.{ℕ, _≤_}
+use lib.ListN.{length}
+use borrow.Author.Tests.{le-leb}
+use Rattle.laws.proofs.Cases.{false≢true}
+use Rattle.units.specs.declared.TableNumber.{TableNumber}
+use Rattle.outcomes.specs.Refusals.{numberOf, placeOf}
+use Rattle.outcomes.specs.declared.Refusal.the-variants.{TableTooLong, TooManyRows}
+use Rattle.loading.specs.Loaded.{Lent, hasRoom, Loads}
+use Rattle.loading.specs.declared.Loading.{Loading}
+use Rattle.loading.specs.declared.Loading.the-variants as loading
+use Rattle.full_loading.specs.FullLoads.{FullLoads}
+use Rattle.full_loading.specs.declared.FullLoading.the-variants.{Done, Refused}
+
+module _ (texts : List (List ℕ)) (before after : Lent) {r : Loading} (l : Loads texts before after r) where
+  pub full-done : r ≡ loading.Done → FullLoads texts before after Done
+  unfolding Loads FullLoads
+  full-done e = subst (Loads texts before after) e l
+
+  pub full-long : (table : TableNumber) → r ≡ loading.TooLong table → FullLoads texts before after (Refused (TableTooLong table))
+  unfolding Loads FullLoads numberOf placeOf
+  full-long table e = subst (Loads texts before after) e l
+
+  pub full-many : (table : TableNumber) → r ≡ loading.TooManyRows table → FullLoads texts before after (Refused (TooManyRows table))
+  unfolding Loads FullLoads numberOf placeOf
+  full-many table e = subst (Loads texts before after) e l
+
+  pub never-short : 114688 ≤ length (before .words) → 73728 ≤ length (before .links) → 114688 ≤ length (before .columns) → r ≡ loading.NoRoom → ⊥
+  unfolding Loads
+  never-short w k c e =
+      let short : hasRoom before ≡ false = subst (Loads texts before after) e l .1 in
+      let room : hasRoom before ≡ true =
+      rw (le-leb 114688 (length (before .words)) w, le-leb 73728 (length (before .links)) k, le-leb 114688 (length (before .columns)) c) in
+      false≢true (sym short ∙ room)

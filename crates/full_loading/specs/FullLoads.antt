@@ -1,0 +1,16 @@
+-- What loading into arrays of the full size answers and leaves.
+use Prim.Native.Nat.{ℕ}
+use mathlib.Core.Path.{_≡_}
+use mathlib.Core.List.{List}
+use Rattle.outcomes.specs.Refusals.{numberOf, placeOf}
+use Rattle.tables.specs.Sizes.{fit, refusedBy, sizesOf}
+use Rattle.database.specs.Arrays.{database, answers}
+use Rattle.database.specs.GoodRows.{ofTables}
+use Rattle.loading.specs.Loaded.{Lent}
+use Rattle.full_loading.specs.declared.FullLoading.{FullLoading}
+use Rattle.full_loading.specs.declared.FullLoading.the-variants.{Done, Refused}
+
+-- once tables are loaded, the database answers what they do; refused by 1 or 2, the arrays are as they were
+unfoldable pub FullLoads : List (List ℕ) → Lent → Lent → FullLoading → Type 0
+FullLoads texts before after Done = (sizesOf texts ≡ fit) × (answers (database texts (after .words) (after .links) (after .columns)) ≡ ofTables texts)
+FullLoads texts before after (Refused refusal) = (sizesOf texts ≡ refusedBy (numberOf refusal) (placeOf refusal)) × (after ≡ before)
