@@ -1,7 +1,7 @@
 // The engineering value of a parameter in a packet.
-use crate::ask::Answered;
-use crate::ask::Call;
 use crate::ask::ask;
+use answering::Answered;
+use answering::Call;
 use engineering::engineer::Engineered;
 use outcomes::Refusal;
 use tables::TABLES;

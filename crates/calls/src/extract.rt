@@ -1,7 +1,7 @@
 // What a packet says of a parameter.
-use crate::ask::Answered;
-use crate::ask::Call;
 use crate::ask::ask;
+use answering::Answered;
+use answering::Call;
 use outcomes::Refusal;
 use readings::Reading;
 use tables::TABLES;

@@ -1,7 +1,7 @@
 // Which packet it is.
-use crate::ask::Answered;
-use crate::ask::Call;
 use crate::ask::ask;
+use answering::Answered;
+use answering::Call;
 use identification::Identified;
 use outcomes::Refusal;
 use tables::TABLES;

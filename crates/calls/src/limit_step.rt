@@ -1,13 +1,13 @@
 // A parameter's limit state after a packet.
-use crate::ask::Answered;
-use crate::ask::Call;
 use crate::ask::ask;
+use accepting::step::Answer;
+use accepting::step::Stepped;
+use answering::Answered;
+use answering::Call;
 use limit_state::state::LimitState;
 use offered::Offered;
 use offered::state_of;
 use outcomes::Refusal;
-use accepting::step::Answer;
-use accepting::step::Stepped;
 use tables::Sizes;
 use tables::TABLES;
 use tables::check_sizes;

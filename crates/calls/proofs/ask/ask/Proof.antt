@@ -1,6 +1,6 @@
 -- By what loading the tables answers.
 use Rattle.calls.proofs.LoadLaws.{asked, refused}
-use Rattle.calls.proofs.AnsweringLaws.{answering-same}
+use Rattle.answering.proofs.AnsweringLaws.{answering-same}
 use borrow.Author.Needs.{needs}
 use Rattle.calls.proofs.ask.ask.Statement.{statement}
 use Rattle.calls.proofs.ask.ask.Tie as tie
@@ -11,8 +11,8 @@ load-full-requires c κs = search needs
 enum-told : tie.Need-enum-told
 enum-told c = search needs
 
-answer-in-requires : tie.Need-answer-in-requires
-answer-in-requires c κs = search needs
+answer-full-requires : tie.Need-answer-full-requires
+answer-full-requires c κs = search needs
 
 enum-known-refusal : tie.Need-enum-known-refusal
 enum-known-refusal c = search needs
@@ -21,7 +21,7 @@ refuse-requires : tie.Need-refuse-requires
 refuse-requires c κs = search needs
 
 returns : tie.Need-returns
-returns c = answering-same _ _ (asked _ _ _ (c .before .before .before .before .before .before .load-full .ensures) (c .before .before .before .before .enum-told .given .1)) _ _ _ _ (c .answer-in .ensures)
+returns c = answering-same _ _ (asked _ _ _ (c .before .before .before .before .before .before .load-full .ensures) (c .before .before .before .before .enum-told .given .1)) _ _ _ _ (c .answer-full .ensures)
 
 returns-2 : tie.Need-returns-2
 returns-2 c = answering-same _ _ (refused _ _ _ (c .before .before .before .before .load-full .ensures) _ (c .before .before .refusal .given .1)) _ _ _ _ (c .refuse .ensures)
@@ -32,7 +32,7 @@ ask-spec =
     (tie.spec
     load-full-requires
     enum-told
-    answer-in-requires
+    answer-full-requires
     enum-known-refusal
     refuse-requires
     returns

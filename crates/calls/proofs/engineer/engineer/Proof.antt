@@ -3,7 +3,7 @@ use mathlib.Core.Path.{subst}
 use mathlib.Core.List.{[], _∷_}
 use types.Run.{OneOf, miss}
 use Rattle.calls.specs.Calls.{engineerOf}
-use Rattle.calls.proofs.AnsweringLaws.{says-engineered, kind-engineered}
+use Rattle.answering.proofs.AnsweringLaws.{says-engineered, kind-engineered}
 use borrow.Author.Needs.{needs}
 use Rattle.calls.proofs.engineer.engineer.Statement.{statement}
 use Rattle.calls.proofs.engineer.engineer.Tie as tie

@@ -3,7 +3,7 @@ use mathlib.Core.Path.{subst}
 use mathlib.Core.List.{[], _∷_}
 use types.Run.{OneOf, miss}
 use Rattle.calls.specs.Calls.{extractOf}
-use Rattle.calls.proofs.AnsweringLaws.{says-reading, kind-reading}
+use Rattle.answering.proofs.AnsweringLaws.{says-reading, kind-reading}
 use borrow.Author.Needs.{needs}
 use Rattle.calls.proofs.extract.extract.Statement.{statement}
 use Rattle.calls.proofs.extract.extract.Tie as tie

@@ -3,7 +3,7 @@ use mathlib.Core.Path.{subst}
 use mathlib.Core.List.{[], _∷_}
 use types.Run.{OneOf, miss}
 use Rattle.calls.specs.Calls.{identifyOf}
-use Rattle.calls.proofs.AnsweringLaws.{says-identity, kind-identity}
+use Rattle.answering.proofs.AnsweringLaws.{says-identity, kind-identity}
 use borrow.Author.Needs.{needs}
 use Rattle.calls.proofs.identify.identify.Statement.{statement}
 use Rattle.calls.proofs.identify.identify.Tie as tie

@@ -3,7 +3,7 @@ use mathlib.Core.Path.{subst}
 use mathlib.Core.List.{[], _∷_}
 use types.Run.{OneOf, miss}
 use Rattle.calls.specs.Calls.{limitStepOf}
-use Rattle.calls.proofs.AnsweringLaws.{says-step, kind-step}
+use Rattle.answering.proofs.AnsweringLaws.{says-step, kind-step}
 use borrow.Author.Needs.{needs}
 use Rattle.calls.proofs.limit_step.limit_step.Statement.{statement}
 use Rattle.calls.proofs.limit_step.limit_step.Tie as tie

@@ -1,8 +1,8 @@
 -- Call by call.
-use Rattle.calls.proofs.AnsweringLaws.{refuse-identify, refuse-extract, refuse-engineer, refuse-step}
+use Rattle.answering.proofs.AnsweringLaws.{refuse-identify, refuse-extract, refuse-engineer, refuse-step}
 use borrow.Author.Needs.{needs}
-use Rattle.calls.proofs.ask.refuse.Statement.{statement}
-use Rattle.calls.proofs.ask.refuse.Tie as tie
+use Rattle.answering.proofs.refuse.Statement.{statement}
+use Rattle.answering.proofs.refuse.Tie as tie
 
 enum-told : tie.Need-enum-told
 enum-told c = search needs

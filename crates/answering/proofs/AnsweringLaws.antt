@@ -25,12 +25,12 @@ use Rattle.accepting.specs.declared.step.Answer.the-variants as step
 use Rattle.accepting.specs.declared.step.Stepped as stepped
 use Rattle.extraction.specs.Extraction.{extractBy}
 use Rattle.extraction.specs.Engineering.{engineerBy}
-use Rattle.calls.specs.Answering.{Asking, Answering}
-use Rattle.calls.specs.declared.ask.Call.{Call}
-use Rattle.calls.specs.declared.ask.Call.the-variants.{Identify, Extract, Engineer, LimitStep}
-use Rattle.calls.specs.declared.ask.Answered.{Answered}
-use Rattle.calls.proofs.ask.Answered.{the-type}
-use Rattle.calls.specs.declared.ask.Answered.the-variants.{Identified, Read, Engineered, Stepped}
+use Rattle.answering.specs.Answering.{Asking, Answering}
+use Rattle.answering.specs.declared.Call.{Call}
+use Rattle.answering.specs.declared.Call.the-variants.{Identify, Extract, Engineer, LimitStep}
+use Rattle.answering.specs.declared.Answered.{Answered}
+use Rattle.answering.proofs.Answered.{the-type}
+use Rattle.answering.specs.declared.Answered.the-variants.{Identified, Read, Engineered, Stepped}
 
 abbrev refusing : Refusal → Asking
 refusing refusal = λ A ask. refusedBy refusal

@@ -13,10 +13,10 @@ use Rattle.stepping.specs.Step.{stepIn}
 use Rattle.accepting.specs.Answer.{Answers}
 use Rattle.extraction.specs.Extraction.{extractBy}
 use Rattle.extraction.specs.Engineering.{engineerBy}
-use Rattle.calls.specs.declared.ask.Call.{Call}
-use Rattle.calls.specs.declared.ask.Call.the-variants.{Identify, Extract, Engineer, LimitStep}
-use Rattle.calls.specs.declared.ask.Answered.{Answered}
-use Rattle.calls.specs.declared.ask.Answered.the-variants.{Identified, Read, Engineered, Stepped}
+use Rattle.answering.specs.declared.Call.{Call}
+use Rattle.answering.specs.declared.Call.the-variants.{Identify, Extract, Engineer, LimitStep}
+use Rattle.answering.specs.declared.Answered.{Answered}
+use Rattle.answering.specs.declared.Answered.the-variants.{Identified, Read, Engineered, Stepped}
 
 -- how rows are asked: the tables' own rows after refusals 1 and 2, the rows of a database, or none where all is refused
 abbrev pub Asking : Type 1
