@@ -9,7 +9,8 @@ use lib.Seq.{sets}
 use borrow.Author.Tests.{lt-ltb, le-ltb}
 use Rattle.laws.proofs.Lists.{split}
 use Rattle.lines.specs.Columns.{partOf}
-use Rattle.areas.specs.Memory.{Memory, Kept, areaIn, cleared, added}
+use Rattle.tables.specs.Parts.{partSize}
+use Rattle.areas.specs.Memory.{Memory, Kept, areaIn, cleared, added, areaCount}
 use Rattle.areas.specs.Memory.{unread}
 
 -- Bytes put one after the other
@@ -25,42 +26,42 @@ module _ (xs : List ℕ) (at : ℕ) (bytes : List ℕ) (i : ℕ) where
 
 -- Areas
 
-pub clear-in : (ends : List ℕ) (t : ℕ) → t < 11 → set ends t (t * 65537) ≡ cleared ends t
+pub clear-in : (ends : List ℕ) (t : ℕ) → t < areaCount → set ends t (t * partSize) ≡ cleared ends t
 unfolding cleared
-clear-in ends t h = rw (lt-ltb t 11 h)
+clear-in ends t h = rw (lt-ltb t areaCount h)
 
-pub clear-out : (ends : List ℕ) (t : ℕ) → 11 ≤ t → ends ≡ cleared ends t
+pub clear-out : (ends : List ℕ) (t : ℕ) → areaCount ≤ t → ends ≡ cleared ends t
 unfolding cleared
-clear-out ends t h = rw (le-ltb t 11 h)
+clear-out ends t h = rw (le-ltb t areaCount h)
 
-pub area-in : (m : Memory) (t e : ℕ) → t < 11 → e ≡ getD (m .ends) t 0 → partOf (m .space) (t * 65537) e ≡ areaIn m t
+pub area-in : (m : Memory) (t e : ℕ) → t < areaCount → e ≡ getD (m .ends) t 0 → partOf (m .space) (t * partSize) e ≡ areaIn m t
 unfolding areaIn
-area-in m t e h p = rw (lt-ltb t 11 h, p)
+area-in m t e h p = rw (lt-ltb t areaCount h, p)
 
-pub area-out : (m : Memory) (t : ℕ) → 11 ≤ t → [] ≡ areaIn m t
+pub area-out : (m : Memory) (t : ℕ) → areaCount ≤ t → [] ≡ areaIn m t
 unfolding areaIn
-area-out m t h = rw (le-ltb t 11 h)
+area-out m t h = rw (le-ltb t areaCount h)
 
 module _ (m : Memory) (t : ℕ) (bytes : List ℕ) where
-  pub add-out : 11 ≤ t → unread m ≡ added m t bytes
+  pub add-out : areaCount ≤ t → unread m ≡ added m t bytes
   unfolding added
-  add-out h = rw (le-ltb t 11 h)
+  add-out h = rw (le-ltb t areaCount h)
 
-  pub add-small : t < 11 → length (m .space) < t * 65537 + 65537 → unread m ≡ added m t bytes
+  pub add-small : t < areaCount → length (m .space) < t * partSize + partSize → unread m ≡ added m t bytes
   unfolding added
-  add-small h l = rw (lt-ltb t 11 h, lt-ltb (length (m .space)) (t * 65537 + 65537) l)
+  add-small h l = rw (lt-ltb t areaCount h, lt-ltb (length (m .space)) (t * partSize + partSize) l)
 
-  pub add-full : t < 11 → t * 65537 + 65537 ≤ length (m .space) → t * 65537 + 65537 < getD (m .ends) t 0 + length bytes → unread m ≡ added m t bytes
+  pub add-full : t < areaCount → t * partSize + partSize ≤ length (m .space) → t * partSize + partSize < getD (m .ends) t 0 + length bytes → unread m ≡ added m t bytes
   unfolding added
   add-full h l k =
-      rw (lt-ltb t 11 h, le-ltb (length (m .space)) (t * 65537 + 65537) l, lt-ltb (t * 65537 + 65537) (getD (m .ends) t 0 + length bytes) k)
+      rw (lt-ltb t areaCount h, le-ltb (length (m .space)) (t * partSize + partSize) l, lt-ltb (t * partSize + partSize) (getD (m .ends) t 0 + length bytes) k)
 
-  pub add-fits : t < 11 → t * 65537 + 65537 ≤ length (m .space) → getD (m .ends) t 0 + length bytes ≤ t * 65537 + 65537
+  pub add-fits : t < areaCount → t * partSize + partSize ≤ length (m .space) → getD (m .ends) t 0 + length bytes ≤ t * partSize + partSize
       → record { readable = true; space = sets (m .space) (getD (m .ends) t 0) bytes; ends = set (m .ends) t (getD (m .ends) t 0 + length bytes) }
       ≡ added m t bytes
   unfolding added
   add-fits h l k =
-      rw (lt-ltb t 11 h, le-ltb (length (m .space)) (t * 65537 + 65537) l, le-ltb (t * 65537 + 65537) (getD (m .ends) t 0 + length bytes) k)
+      rw (lt-ltb t areaCount h, le-ltb (length (m .space)) (t * partSize + partSize) l, le-ltb (t * partSize + partSize) (getD (m .ends) t 0 + length bytes) k)
 
 -- what is kept, part by part
 pub kept-parts : (r : Bool) {s s′ e e′ : List ℕ} → s ≡ s′ → e ≡ e′

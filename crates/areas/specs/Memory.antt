@@ -1,13 +1,16 @@
--- The memory of a vector file: the ten tables and the packet, each in its own 65,537 bytes of one space, one more than a table may have.
+-- The memory of a vector file: the tables and after them the packet, each in its own part of one space.
 use Prim.Native.Nat.{ℕ, zero, suc, _+_, _*_}
 use mathlib.Core.Path.{_≡_, refl}
 use mathlib.Core.Bool.{Bool, true, false, cond}
-use mathlib.Core.List.{List, [], _∷_, map}
+use mathlib.Core.List.{List, [], _∷_}
 use lib.Dec.{ltb}
 use lib.ListN.{length, getD, set}
 use lib.Seq.{sets}
 use Rattle.laws.specs.Text.{ascii}
 use Rattle.lines.specs.Columns.{partOf}
+use Rattle.verdicts.specs.Entries.{tableCount}
+use Rattle.tables.specs.Parts.{partSize}
+use Rattle.tables.specs.Parts as tables
 
 -- the space, and where each area ends in it
 pub record Memory : Type 0 where
@@ -29,16 +32,27 @@ kept readable space ends = record { readable = readable; space = space; ends = e
 unfoldable pub unread : Memory → Kept
 unread m = record { readable = false; space = m .space; ends = m .ends }
 
+-- the tables' areas come first, and the packet's after them
+abbrev pub packetArea : ℕ
+packetArea = tableCount
+
+abbrev pub areaCount : ℕ
+areaCount = suc tableCount
+
+-- the space has a part for each
+abbrev pub spaceSize : ℕ
+spaceSize = areaCount * partSize
+
 -- what an area holds
 unfoldable pub areaIn : Memory → ℕ → List ℕ
-areaIn m t = cond (ltb t 11) (partOf (m .space) (t * 65537) (getD (m .ends) t 0)) []
+areaIn m t = cond (ltb t areaCount) (partOf (m .space) (t * partSize) (getD (m .ends) t 0)) []
 
 unfoldable pub tablesIn : Memory → List (List ℕ)
-tablesIn m = map (areaIn m) (0 ∷ 1 ∷ 2 ∷ 3 ∷ 4 ∷ 5 ∷ 6 ∷ 7 ∷ 8 ∷ 9 ∷ [])
+tablesIn m = tables.tablesIn (m .space) (m .ends)
 
 -- an area without bytes
 unfoldable pub cleared : List ℕ → ℕ → List ℕ
-cleared ends t = cond (ltb t 11) (set ends t (t * 65537)) ends
+cleared ends t = cond (ltb t areaCount) (set ends t (t * partSize)) ends
 
 -- the first n of them
 unfoldable pub firstCleared : ℕ → List ℕ → List ℕ
@@ -46,14 +60,14 @@ firstCleared zero ends = ends
 firstCleared (suc n) ends = cleared (firstCleared n ends) n
 
 unfoldable pub allCleared : List ℕ → List ℕ
-allCleared ends = firstCleared 11 ends
+allCleared ends = firstCleared areaCount ends
 
 -- bytes added to an area, where there is room for them
 unfoldable pub added : Memory → ℕ → List ℕ → Kept
 added m t bytes =
-    cond (ltb t 11)
-    (cond (ltb (length (m .space)) (t * 65537 + 65537)) (unread m)
-    (cond (ltb (t * 65537 + 65537) (getD (m .ends) t 0 + length bytes)) (unread m)
+    cond (ltb t areaCount)
+    (cond (ltb (length (m .space)) (t * partSize + partSize)) (unread m)
+    (cond (ltb (t * partSize + partSize) (getD (m .ends) t 0 + length bytes)) (unread m)
     (record { readable = true; space = sets (m .space) (getD (m .ends) t 0) bytes; ends = set (m .ends) t (getD (m .ends) t 0 + length bytes) })))
     (unread m)
 

@@ -1,7 +1,7 @@
-// The ten tables and the packet that questions are asked of, each in its own part of one space.
+// The tables and the packet that questions are asked of, each in its own part of one space.
 use lines::columns::keep_at;
 use lines::columns::part;
-use scripts::bytes_of::ROOM;
+use tables::ROOM;
 use tables::TABLES;
 ghost use mathlib.Core.Path.{_≡_};
 ghost use mathlib.Core.List.{map};
@@ -11,12 +11,12 @@ ghost use lib.Seq.{sets};
 ghost use Rattle.areas.specs.Memory.{memory, kept, areaIn, tablesIn, cleared, allCleared, added};
 
 // The tables' areas come first, and the packet's after them.
-pub const PACKET: usize = 10;
+pub const PACKET: usize = TABLES;
 
-pub const AREAS: usize = 11;
+pub const AREAS: usize = TABLES + 1;
 
 // Room for each of them.
-pub const SPACE: usize = 720907;
+pub const SPACE: usize = AREAS * ROOM;
 
 // The number at a place, 0 where there is none.
 pub fn number_at(numbers: &[usize], k: usize) -> usize
@@ -41,18 +41,7 @@ pub fn area_in<'a>(space: &'a [u8], ends: &[usize], t: usize) -> &'a [u8]
 pub fn tables_in<'a>(space: &'a [u8], ends: &[usize]) -> [&'a [u8]; TABLES]
     ensures { λ r. ⌜ map now r ≡ tablesIn (memory (now (space .entry)) (now (ends .entry))) ⌝ }
 {
-    [
-        area_in(space, ends, 0),
-        area_in(space, ends, 1),
-        area_in(space, ends, 2),
-        area_in(space, ends, 3),
-        area_in(space, ends, 4),
-        area_in(space, ends, 5),
-        area_in(space, ends, 6),
-        area_in(space, ends, 7),
-        area_in(space, ends, 8),
-        area_in(space, ends, 9),
-    ]
+    tables::tables_in(space, ends)
 }
 
 // Puts bytes into the space, the first at a place.

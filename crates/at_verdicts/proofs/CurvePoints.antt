@@ -35,9 +35,10 @@ use Rattle.verdicts.specs.Places.{entryAt}
 use Rattle.verdicts.proofs.EntryLaws.{row-of}
 use Rattle.verdicts.proofs.GoodLaw.{good-law}
 use Rattle.verdicts.proofs.KeyLaws.{same-key-is, same-key-self}
+use Rattle.verdicts.proofs.OwnerLaws.{ownerOf, groupTable, counted-in}
 use Rattle.database.specs.Rows.{Row}
 use Rattle.database.specs.GoodRows.{rowsIn, isGood, goodRows, tableOf, inGroup, among, ofTables}
-use Rattle.refusal_places.proofs.GoodRows.{ownerOf, holder-line}
+use Rattle.refusal_places.proofs.GoodRows.{holder-line}
 use Rattle.at_verdicts.proofs.GoodRows.{entryOf, GoodRow, sound-says, is-good}
 use Rattle.at_verdicts.proofs.NamedRows.{found-good, found-holds}
 use Rattle.at_verdicts.proofs.ParameterRows.{held-by}
@@ -47,17 +48,8 @@ use Rattle.at_verdicts.proofs.CountLaws.{keep-twice, rows-kept}
 
 -- only cap rows are counted by a curve
 cap-only : (t : Table) (line : List ℕ) (name : CurveName) → List·Memᴰ (curve name) (factsOf t line .groups) → t ≡ Cap
-unfolding factsOf pidFacts picFacts plfFacts pcfFacts cafFacts capFacts txfFacts txpFacts ocfFacts ocpFacts
-cap-only Pid line name m = absurd (List·Memᴰ·not-nil m)
-cap-only Pic line name m = absurd (List·Memᴰ·not-nil m)
-cap-only Plf line name m = absurd (List·Memᴰ·not-nil m)
-cap-only Pcf line name m = absurd (List·Memᴰ·not-nil m)
-cap-only Caf line name m = absurd (List·Memᴰ·not-nil m)
-cap-only Cap line name m = refl
-cap-only Txf line name m = absurd (List·Memᴰ·not-nil m)
-cap-only Txp line name m = let e = List·Memᴰ·eq-of-singleton m in absurd (let z : _≡_ {A = ℕ} 0 1 = cc in omega arith)
-cap-only Ocf line name m = absurd (List·Memᴰ·not-nil m)
-cap-only Ocp line name m = let e = List·Memᴰ·eq-of-singleton m in absurd (let z : _≡_ {A = ℕ} 0 1 = cc in omega arith)
+unfolding groupTable
+cap-only t line name m = counted-in t line m
 
 cap-name : (line : List ℕ) (name : CurveName) → List·Memᴰ (curve name) (factsOf Cap line .groups) → capRow line .numbr ≡ name
 unfolding factsOf capFacts

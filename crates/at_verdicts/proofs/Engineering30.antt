@@ -21,6 +21,7 @@ use Rattle.verdicts.specs.Key.{parameter, curve}
 use Rattle.verdicts.specs.Facts.{anyRow, whole, itself, Naming, factsOf, pcfFacts}
 use Rattle.outcomes.specs.Outcome.{Outcome, answer, refused, andThen}
 use Rattle.outcomes.specs.Values.{number}
+use Rattle.verdicts.proofs.OwnerLaws.{ownerOf}
 use Rattle.database.specs.Rows.{Row, Rows}
 use Rattle.database.specs.GoodRows.{ofTables}
 use Rattle.curve_points.specs.Curves.{Curve, curveOf}
@@ -29,7 +30,6 @@ use Rattle.curve_values.specs.OffCurve.{isOffCurve}
 use Rattle.curve_values.specs.Scale.{scaleOf, onScale}
 use Rattle.texts.specs.Texts as ranges
 use Rattle.engineering.specs.Engineering.{Engineered, value, asValue, asText, byCategory, engineered}
-use Rattle.refusal_places.proofs.GoodRows.{ownerOf}
 use Rattle.at_verdicts.specs.OffCurve.{OffItsCurve}
 use Rattle.at_verdicts.proofs.NumberLaws.{numberIn, Numbered, never-one, one-then, then-refused}
 use Rattle.at_verdicts.proofs.NamedRows.{Named, found-good, found-holds, named-row}

@@ -19,9 +19,10 @@ use Rattle.formed.proofs.Meaning.{formed-well}
 use Rattle.verdicts.specs.Key.{Key, location, parameter, limits, sameKey}
 use Rattle.verdicts.specs.Facts.{raw, numeric, itself, Naming, factsOf, plfFacts, pcfFacts, ocfFacts}
 use Rattle.verdicts.proofs.KeyLaws.{same-key-is}
+use Rattle.verdicts.proofs.OwnerLaws.{ownerOf}
 use Rattle.database.specs.Rows.{Row}
 use Rattle.database.specs.GoodRows.{tableOf, holdsKey, ofTables}
-use Rattle.refusal_places.proofs.GoodRows.{ownerOf, holds-owner, holder-line}
+use Rattle.refusal_places.proofs.GoodRows.{holds-owner, holder-line}
 use Rattle.at_verdicts.proofs.NamedRows.{found-good, found-holds, named-row, named-meets}
 
 -- A row's table and key

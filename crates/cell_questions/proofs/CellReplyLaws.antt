@@ -4,9 +4,11 @@ use mathlib.Core.List.{List, [], _∷_, map}
 use Prim.Native.Nat.{ℕ, zero, suc, _+_, _<_, _≤_}
 use native.Mathlib.Nat.{sub-zero}
 use denote.Ref.{RefT, now}
-use lib.ListN.{length, take, drop, set}
+use lib.ListN.{length, take, drop, set, replicate}
 use borrow.Author.Tests.{eq-eqb, ne-eqb, lt-ltb, le-ltb}
 use Rattle.lines.specs.Columns.{partOf}
+use Rattle.verdicts.specs.Entries.{tableCount}
+use Rattle.verdicts.specs.Answer.{mostCells}
 use Rattle.scripts.specs.declared.operands.Natural.the-variants as natural
 use Rattle.scripts.specs.Numerals.{naturalIn, atMost}
 use Rattle.scripts.specs.Words.{upto, settingOf}
@@ -18,12 +20,12 @@ module _ (texts : List (List ℕ)) (text line : List ℕ) where
   unfolding importReply
   import-whole h = rw (eq-eqb (length text) 0 h)
 
-  pub import-lent : (room : ℕ) → (length text ≡ 0 → ⊥) → atMost 10240 (naturalIn text) ≡ natural.Is room
+  pub import-lent : (room : ℕ) → (length text ≡ 0 → ⊥) → atMost mostCells (naturalIn text) ≡ natural.Is room
       → importVerdict texts (take room blankCells) line ≡ importReply texts text line
   unfolding importReply importLent
   import-lent room h e = rw (ne-eqb (length text) 0 h, e)
 
-  pub import-unread : (length text ≡ 0 → ⊥) → atMost 10240 (naturalIn text) ≡ natural.Unread → Unread ≡ importReply texts text line
+  pub import-unread : (length text ≡ 0 → ⊥) → atMost mostCells (naturalIn text) ≡ natural.Unread → Unread ≡ importReply texts text line
   unfolding importReply importLent
   import-unread h e = rw (ne-eqb (length text) 0 h, e)
 
@@ -33,18 +35,18 @@ pub tab-cut : (text : List ℕ) (n : ℕ) → n ≡ upto 9 text → partOf text 
 tab-cut text n e = rw (e, sub-zero)
 
 module _ (text line : List ℕ) (t : ℕ) (e : t ≡ settingOf (take (upto 9 text) text)) where
-  pub row-no-table : 10 ≤ t → Unread ≡ rowReply text line
+  pub row-no-table : tableCount ≤ t → Unread ≡ rowReply text line
   unfolding rowReply
-  row-no-table h = rw (← e, le-ltb t 10 h)
+  row-no-table h = rw (← e, le-ltb t tableCount h)
 
-  pub row-no-tab : t < 10 → length text ≤ upto 9 text → Unread ≡ rowReply text line
+  pub row-no-tab : t < tableCount → length text ≤ upto 9 text → Unread ≡ rowReply text line
   unfolding rowReply
-  row-no-tab h l = rw (← e, lt-ltb t 10 h, le-ltb (upto 9 text) (length text) l)
+  row-no-tab h l = rw (← e, lt-ltb t tableCount h, le-ltb (upto 9 text) (length text) l)
 
-  pub row-asked : (texts : List (List ℕ)) → t < 10 → upto 9 text < length text → texts ≡ onlyTable t (drop (upto 9 text + 1) text)
+  pub row-asked : (texts : List (List ℕ)) → t < tableCount → upto 9 text < length text → texts ≡ onlyTable t (drop (upto 9 text + 1) text)
       → rowVerdict texts blankCells line ≡ rowReply text line
   unfolding rowReply
-  row-asked texts h l p = rw (← e, lt-ltb t 10 h, lt-ltb (upto 9 text) (length text) l, p)
+  row-asked texts h l p = rw (← e, lt-ltb t tableCount h, lt-ltb (upto 9 text) (length text) l, p)
 
 map-set : {A B : Type 0} (f : A → B) (l : List A) (i : ℕ) (a : A) → map f (set l i a) ≡ set (map f l) i (f a)
 map-set f [] i a = refl
@@ -52,8 +54,8 @@ map-set f (x ∷ l) zero a = refl
 map-set f (x ∷ l) (suc i) a = ap (λ r. f x ∷ r) (map-set f l i a)
 
 pub only-is : (x row : RefT (List ℕ)) (t : ℕ) → now x ≡ []
-    → map now (set (x ∷ x ∷ x ∷ x ∷ x ∷ x ∷ x ∷ x ∷ x ∷ x ∷ []) t row) ≡ onlyTable t (now row)
+    → map now (set (replicate tableCount x) t row) ≡ onlyTable t (now row)
 unfolding onlyTable
 only-is x row t e =
-    map-set now (x ∷ x ∷ x ∷ x ∷ x ∷ x ∷ x ∷ x ∷ x ∷ x ∷ []) t row
-    ∙ ap (λ (l : List ℕ). set (l ∷ l ∷ l ∷ l ∷ l ∷ l ∷ l ∷ l ∷ l ∷ l ∷ []) t (now row)) e
+    map-set now (replicate tableCount x) t row
+    ∙ ap (λ (l : List ℕ). set (replicate tableCount l) t (now row)) e

@@ -7,7 +7,8 @@ use lib.Dec.{eqb, ltb}
 use lib.ListN.{length, getD, take, drop, set, replicate}
 use Rattle.laws.specs.Text.{ascii}
 use Rattle.numbers.specs.Number.{numberOf, answerOf, meaning, spelt, after, digitOn, digitOf}
-use Rattle.verdicts.specs.Answer.{importOf, cellsAfter}
+use Rattle.verdicts.specs.Answer.{importOf, cellsAfter, mostCells}
+use Rattle.verdicts.specs.Entries.{tableCount}
 use Rattle.scripts.specs.declared.operands.Natural.{Natural}
 use Rattle.scripts.specs.declared.operands.Natural.the-variants as natural
 use Rattle.scripts.specs.Words.{upto, settingOf}
@@ -17,9 +18,9 @@ use Rattle.answers.specs.declared.compare.Verdict.the-variants.{Unread}
 use Rattle.answers.specs.Compared.{verdictOf}
 use Rattle.replies.specs.Replies.{importedAnswer, onlyAnswer}
 
--- 10,240 cells that aren't written
+-- as many cells as an import can write, not written yet
 unfoldable pub blankCells : List ℕ
-blankCells = replicate 10240 65535
+blankCells = replicate mostCells 65535
 
 -- an import into lent cells
 unfoldable pub importVerdict : List (List ℕ) → (cells line : List ℕ) → Verdict
@@ -31,7 +32,7 @@ importLent texts line (natural.Is room) = importVerdict texts (take room blankCe
 importLent texts line natural.Unread = Unread
 
 unfoldable pub importReply : List (List ℕ) → (text line : List ℕ) → Verdict
-importReply texts text line = cond (eqb (length text) 0) (importVerdict texts blankCells line) (importLent texts line (atMost 10240 (naturalIn text)))
+importReply texts text line = cond (eqb (length text) 0) (importVerdict texts blankCells line) (importLent texts line (atMost mostCells (naturalIn text)))
 
 -- the cell of a table's only row, all other tables being empty
 unfoldable pub rowVerdict : List (List ℕ) → (cells line : List ℕ) → Verdict
@@ -40,12 +41,12 @@ rowVerdict texts cells line =
     (cellsAfter texts cells (importOf texts (length cells))) line
 
 unfoldable pub onlyTable : ℕ → List ℕ → List (List ℕ)
-onlyTable t row = set ([] ∷ [] ∷ [] ∷ [] ∷ [] ∷ [] ∷ [] ∷ [] ∷ [] ∷ [] ∷ []) t row
+onlyTable t row = set (replicate tableCount []) t row
 
 -- TABLE|ROW
 unfoldable pub rowReply : (text line : List ℕ) → Verdict
 rowReply text line =
-    cond (ltb (settingOf (take (upto 9 text) text)) 10)
+    cond (ltb (settingOf (take (upto 9 text) text)) tableCount)
     (cond (ltb (upto 9 text) (length text))
     (rowVerdict (onlyTable (settingOf (take (upto 9 text) text)) (drop (upto 9 text + 1) text)) blankCells line)
     Unread)
@@ -54,7 +55,7 @@ rowReply text line =
 -- a number of cells that isn't one, and the tables of a row of pic
 pub record Examples (line : List ℕ) : Type 0 where
   pub no-cells : importReply [] (ascii "x") line ≡ Unread
-  pub pic : onlyTable 1 (ascii "A") ≡ [] ∷ ascii "A" ∷ [] ∷ [] ∷ [] ∷ [] ∷ [] ∷ [] ∷ [] ∷ [] ∷ []
+  pub pic : take 3 (onlyTable 1 (ascii "A")) ≡ [] ∷ ascii "A" ∷ [] ∷ []
 
 pub examples : (line : List ℕ) → Examples line
 unfolding importReply importLent onlyTable atMost naturalIn naturalOf numberOf answerOf meaning spelt after digitOn digitOf

@@ -10,6 +10,7 @@ use scripts::operands::Natural;
 use scripts::operands::natural_to;
 use scripts::verb::find_byte;
 use scripts::verb::setting_of;
+use tables::MOST_CELLS;
 use tables::TABLES;
 use tables::table_at;
 ghost use mathlib.Core.Path.{_≡_};
@@ -17,9 +18,6 @@ ghost use mathlib.Core.List.{map};
 ghost use Prim.Native.Nat.{_≤_};
 ghost use lib.ListN.{length, take};
 ghost use Rattle.cell_questions.specs.CellReplies.{importVerdict, importReply, rowVerdict, rowReply};
-
-// As many cells as all tables can have rows.
-const CELLS: usize = 10240;
 
 fn import_into(
     name: &[u8],
@@ -59,12 +57,12 @@ pub fn judge_import(
 ) -> Verdict
     ensures { λ r. ⌜ r ≡ importReply (map now (tables .entry)) (now (text .entry)) (now (line .entry)) ⌝ }
 {
-    let mut memory = [65535u16; CELLS];
+    let mut memory = [65535u16; MOST_CELLS];
     let cells: &mut [u16] = &mut memory;
     if text.len() == 0 {
         return import_into(name, number, tables, line, cells);
     }
-    match natural_to(10240, text) {
+    match natural_to(MOST_CELLS as u64, text) {
         Natural::Is(room) => import_part(name, number, tables, line, room as usize, cells),
         Natural::Unread => Verdict::Unread,
     }
@@ -97,8 +95,8 @@ pub fn judge_row(name: &[u8], number: usize, text: &[u8], line: &[u8]) -> Verdic
         return Verdict::Unread;
     }
     let none = part(text, 0, 0);
-    let mut tables = [none, none, none, none, none, none, none, none, none, none];
+    let mut tables = [none; TABLES];
     tables[t] = part(text, tab + 1, text.len());
-    let mut memory = [65535u16; CELLS];
+    let mut memory = [65535u16; MOST_CELLS];
     row_into(name, number, tables, line, &mut memory)
 }

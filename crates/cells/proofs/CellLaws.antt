@@ -10,8 +10,8 @@ use lib.ListN.{length}
 use borrow.Author.Tests.{ltb-true, leb-true, eqb-true, lt-ltb, le-leb}
 use Rattle.laws.proofs.Cases.{and-left, and-right, and-both, and-false, false-of}
 use Rattle.lines.specs.Lines.{linesOf}
-use Rattle.verdicts.specs.Answer.{refused, taken, tooLong, tooManyRows, zeros, importOf}
-use Rattle.verdicts.specs.Entries.{allRows}
+use Rattle.verdicts.specs.Answer.{refused, taken, tooLong, tooManyRows, zeros, importOf, mostRows}
+use Rattle.verdicts.specs.Entries.{allRows, tableCount}
 use Rattle.verdicts.specs.Verdicts.{verdicts}
 use Rattle.verdicts.specs.Places.{textAt, IsRow, rowsBefore, place, verdictAt, Takes, imported}
 use Rattle.verdicts.proofs.EntryLaws.{rows-before-next}
@@ -46,23 +46,23 @@ module _ (cells : TableCells) (r : ℕ) where
 
 -- The cells of a table
 
-pub table-is : (n : ℕ) → 0 < n → n ≤ 10 → isTable n ≡ true
+pub table-is : (n : ℕ) → 0 < n → n ≤ tableCount → isTable n ≡ true
 unfolding isTable
-table-is n h k = and-both (lt-ltb 0 n h) (le-leb n 10 k)
+table-is n h k = and-both (lt-ltb 0 n h) (le-leb n tableCount k)
 
 table-low : (n : ℕ) → isTable n ≡ true → 0 < n
 unfolding isTable
-table-low n e = ltb-true 0 n (and-left (ltb 0 n) (leb n 10) e)
+table-low n e = ltb-true 0 n (and-left (ltb 0 n) (leb n tableCount) e)
 
-table-high : (n : ℕ) → isTable n ≡ true → n ≤ 10
+table-high : (n : ℕ) → isTable n ≡ true → n ≤ tableCount
 unfolding isTable
-table-high n e = leb-true n 10 (and-right (ltb 0 n) (leb n 10) e)
+table-high n e = leb-true n tableCount (and-right (ltb 0 n) (leb n tableCount) e)
 
 same-cells : {a b c d : ℕ} → a ≡ c → b ≡ d → _≡_ {A = TableCells} (record { start = a; end = b }) (record { start = c; end = d })
 same-cells p q = rw (p, q)
 
 module _ (texts : List (List ℕ)) (n : ℕ) where
-  pub no-table : (0 < n → n ≤ 10 → ⊥) → noCells ≡ cellsOf texts n
+  pub no-table : (0 < n → n ≤ tableCount → ⊥) → noCells ≡ cellsOf texts n
   unfolding cellsOf
   no-table h =
       let e : isTable n ≡ false = false-of (isTable n) (λ t. h (table-low n t) (table-high n t)) in
@@ -73,7 +73,7 @@ module _ (texts : List (List ℕ)) (n : ℕ) where
   unfolding cellsOf fits
   refused-cells e = rw e
 
-  pub fitting-cells : (cells : TableCells) → sizesOf texts ≡ fit → 0 < n → n ≤ 10
+  pub fitting-cells : (cells : TableCells) → sizesOf texts ≡ fit → 0 < n → n ≤ tableCount
       → cells .start ≡ rowsBefore texts (n - 1) → cells .end ≡ rowsBefore texts (suc (n - 1)) → cells ≡ cellsOf texts n
   unfolding cellsOf fits
   fitting-cells cells e h k p q =
@@ -83,7 +83,7 @@ module _ (texts : List (List ℕ)) (n : ℕ) where
 
 -- Counting rows
 
-module _ (texts : List (List ℕ)) (ten : length texts ≡ 10) (e : sizesOf texts ≡ fit) where
+module _ (texts : List (List ℕ)) (all : length texts ≡ tableCount) (e : sizesOf texts ≡ fit) where
   few-rows : tooManyRows texts ≡ 0
   unfolding sizesOf
   few-rows = go (eqb (tooLong texts) 0) (eqb (tooManyRows texts) 0) refl e
@@ -94,11 +94,11 @@ module _ (texts : List (List ℕ)) (ten : length texts ≡ 10) (e : sizesOf text
       go true false p q = cc
       go false b p q = cc
 
-  module _ (t rows : ℕ) (text : List ℕ) (h : t < 10) (is : text ≡ textAt texts t) (count : rows ≡ length (linesOf text)) where
+  module _ (t rows : ℕ) (text : List ℕ) (h : t < tableCount) (is : text ≡ textAt texts t) (count : rows ≡ length (linesOf text)) where
     counted : rows ≡ length (linesOf (textAt texts t))
     counted = count ∙ ap (λ (s : List ℕ). length (linesOf s)) is
 
-    pub at-most : rows ≤ 1024
+    pub at-most : rows ≤ mostRows
     at-most = omega (arith, counted, few texts t (omega arith) few-rows)
 
     pub rows-next : {n : ℕ} → n ≡ rowsBefore texts t → n + rows ≡ rowsBefore texts (suc t)

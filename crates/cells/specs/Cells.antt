@@ -1,5 +1,5 @@
 -- The cell of a row: where it stands among the cells that an import writes.
-use Prim.Native.Nat.{ℕ, _+_, _-_}
+use Prim.Native.Nat.{ℕ, suc, _+_, _-_}
 use mathlib.Core.Path.{_≡_, refl}
 use mathlib.Core.Bool.{Bool, true, false, cond, _&&_}
 use mathlib.Core.List.{List, [], _∷_}
@@ -8,6 +8,7 @@ use lib.ListN.{length, getD}
 use Rattle.lines.specs.Lines.{onFirst, lead, linesOf}
 use Rattle.verdicts.specs.Answer.{firstTable, tooLong, tooManyRows}
 use Rattle.verdicts.specs.Places.{textAt, rowsBefore, place}
+use Rattle.verdicts.specs.Entries.{tableCount}
 use Rattle.tables.specs.Sizes.{Sized, fit, refusedBy, sizesOf}
 use Rattle.cells.specs.declared.Cell.{Cell}
 use Rattle.cells.specs.declared.Cell.the-variants.{At, NoCell}
@@ -21,9 +22,9 @@ isFit (refusedBy number place) = false
 unfoldable pub fits : List (List ℕ) → Bool
 fits texts = isFit (sizesOf texts)
 
--- n is the number of one of the ten tables, from 1
+-- n is the number of one of the tables, from 1
 unfoldable pub isTable : ℕ → Bool
-isTable n = ltb 0 n && leb n 10
+isTable n = ltb 0 n && leb n tableCount
 
 -- and r the number of one of its rows, from 1: `IsRow` as a test
 unfoldable pub isRow : List (List ℕ) → (n r : ℕ) → Bool
@@ -51,13 +52,13 @@ verdictIn cells NoCell = 0
 
 -- two rows in pid, none in pic, and one in plf, which no line feed ends
 abbrev three : List (List ℕ)
-three = (65 ∷ 10 ∷ 66 ∷ 10 ∷ []) ∷ [] ∷ (67 ∷ []) ∷ [] ∷ [] ∷ [] ∷ [] ∷ [] ∷ [] ∷ [] ∷ []
+three = (65 ∷ 10 ∷ 66 ∷ 10 ∷ []) ∷ [] ∷ (67 ∷ []) ∷ []
 
 pub record Examples : Type 0 where
   pub second : cellOf three 1 2 ≡ At 1
   pub third : cellOf three 3 1 ≡ At 2
   pub noRow : cellOf three 2 1 ≡ NoCell
-  pub noTable : cellOf three 11 1 ≡ NoCell
+  pub noTable : cellOf three (suc tableCount) 1 ≡ NoCell
   pub fromOne : cellOf three 0 1 ≡ NoCell
   pub cells : cellsOf three 3 ≡ record { start = 2; end = 3 }
 

@@ -9,6 +9,8 @@ use units::TableNumber;
 ghost use mathlib.Core.Path.{_≡_};
 ghost use mathlib.Core.List.{map};
 ghost use Prim.Native.Nat.{suc, _≤_, _<_};
+ghost use Rattle.verdicts.specs.Entries.{tableCount};
+ghost use Rattle.verdicts.specs.Answer.{mostCells};
 ghost use Rattle.tables.specs.Sizes.{fit, sizesOf};
 ghost use Rattle.verdicts.specs.Places.{rowsBefore};
 ghost use Rattle.cells.specs.Cells.{cellIn, cellOf, cellsOf, noCells, verdictIn};
@@ -33,8 +35,8 @@ fn none() -> TableCells
 
 // How many rows the first u tables have.
 fn rows_before(tables: [&[u8]; TABLES], u: usize) -> usize
-    requires { ⌜ (sizesOf (map now tables) ≡ fit) × (u ≤ 10) ⌝ }
-    ensures { λ r. ⌜ (r ≡ rowsBefore (map now (tables .entry)) u) × (r ≤ 10240) ⌝ }
+    requires { ⌜ (sizesOf (map now tables) ≡ fit) × (u ≤ tableCount) ⌝ }
+    ensures { λ r. ⌜ (r ≡ rowsBefore (map now (tables .entry)) u) × (r ≤ mostCells) ⌝ }
 {
     let mut rows: usize = 0;
     for t in 0..u {
@@ -45,7 +47,7 @@ fn rows_before(tables: [&[u8]; TABLES], u: usize) -> usize
 
 // The cells of table u, from 0, of tables that are of a size to take.
 fn fitting(tables: [&[u8]; TABLES], u: usize) -> TableCells
-    requires { ⌜ (sizesOf (map now tables) ≡ fit) × (u < 10) ⌝ }
+    requires { ⌜ (sizesOf (map now tables) ≡ fit) × (u < tableCount) ⌝ }
     ensures { λ r. ⌜ r .start ≡ rowsBefore (map now (tables .entry)) u ⌝ }
     ensures { λ r. ⌜ r .end ≡ rowsBefore (map now (tables .entry)) (suc u) ⌝ }
 {

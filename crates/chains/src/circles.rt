@@ -3,6 +3,7 @@ use crate::ends::Course;
 use crate::ends::follow;
 use crate::ends::mark_ended;
 use crate::rows::put_flag;
+use arrays::PLACES;
 ghost use mathlib.Core.Path.{_≡_};
 ghost use lib.Seq.{sets};
 ghost use Rattle.laws.specs.Prefix.{flag};
@@ -10,11 +11,8 @@ ghost use Rattle.laws.specs.Values.{tabulate};
 ghost use Rattle.chains.specs.Chains.{comesTo};
 ghost use Rattle.chains.specs.Courses.{KnownEnds};
 
-// Chains of so many rows are remembered; a longer one is followed anew for each of its rows.
-pub(crate) const ROWS: usize = 14336;
-
 // Whether within n steps the chain from row i comes back to it. What is learnt of rows whose chains end is marked.
-fn comes_back(next: &[u16], ended: &mut [u8; ROWS], n: usize, i: usize) -> bool
+fn comes_back(next: &[u16], ended: &mut [u8; PLACES], n: usize, i: usize) -> bool
     requires { ⌜ KnownEnds (now next) (now ended) ⌝ }
     ensures { λ r. ⌜ r ≡ comesTo (now (next .entry)) i n i ⌝ }
     ensures { λ _. ⌜ KnownEnds (now (next .entry)) (now (ended .exit)) ⌝ }
@@ -33,7 +31,8 @@ fn comes_back(next: &[u16], ended: &mut [u8; ROWS], n: usize, i: usize) -> bool
 pub fn mark_circles(next: &[u16], circles: &mut [u8], n: usize)
     ensures { λ _. ⌜ now (circles .exit) ≡ sets (now (circles .entry)) 0 (tabulate (λ i. flag (comesTo (now (next .entry)) i n i)) 0 n) ⌝ }
 {
-    let mut ended = [0u8; ROWS];
+    // Rows past these are remembered nowhere, and their chains followed anew each time.
+    let mut ended = [0u8; PLACES];
     let mut i: usize = 0;
     while i < n {
         let back = comes_back(next, &mut ended, n, i);

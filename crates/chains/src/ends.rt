@@ -1,7 +1,7 @@
 // A chain followed to its end, or until it comes round.
-use crate::circles::ROWS;
 use crate::rows::NO_NEXT;
 use crate::rows::next_row;
+use arrays::PLACES;
 use arrays::byte_at;
 ghost use mathlib.Core.Path.{_≡_};
 ghost use mathlib.Core.Bool.{cond};
@@ -25,7 +25,7 @@ fn longer(steps: usize) -> usize
 
 // The chain from row i, at most n steps of it, up to a row whose chain is known to end. A row that was passed is kept, after
 // more steps each time a later one: where it is met again, the chain goes round without coming to row i.
-pub(crate) fn follow(next: &[u16], ended: &[u8; ROWS], n: usize, i: usize) -> Course
+pub(crate) fn follow(next: &[u16], ended: &[u8; PLACES], n: usize, i: usize) -> Course
     requires { ⌜ KnownEnds (now next) (now ended) ⌝ }
     ensures { λ r. ⌜ Followed (now (next .entry)) n i r ⌝ }
 {
@@ -62,14 +62,14 @@ pub(crate) fn follow(next: &[u16], ended: &[u8; ROWS], n: usize, i: usize) -> Co
 }
 
 // Marks the rows of a chain that ends, from row i on.
-pub(crate) fn mark_ended(next: &[u16], ended: &mut [u8; ROWS], n: usize, i: usize)
+pub(crate) fn mark_ended(next: &[u16], ended: &mut [u8; PLACES], n: usize, i: usize)
     requires { ⌜ KnownEnds (now next) (now ended) × Ends (now next) i ⌝ }
     ensures { λ _. ⌜ KnownEnds (now (next .entry)) (now (ended .exit)) ⌝ }
 {
     let mut left = n;
     let mut at = i;
     while 0 < left {
-        if ROWS <= at {
+        if PLACES <= at {
             return;
         }
         if ended[at] == 1 {

@@ -1,9 +1,9 @@
 // Which rows' chains end with every row firm.
-use crate::circles::ROWS;
 use crate::rows::NO_NEXT;
 use crate::rows::depth_at;
 use crate::rows::next_row;
 use crate::rows::put_flag;
+use arrays::PLACES;
 use arrays::byte_at;
 ghost use mathlib.Core.Path.{_≡_};
 ghost use mathlib.Core.Bool.{true};
@@ -15,7 +15,7 @@ ghost use Rattle.chains.specs.Chains.{firmFrom};
 ghost use Rattle.chains.specs.Courses.{KnownDepths, DepthIs};
 
 // Within how many rows, at most n, the chain from row i ends, each row firm; 0 where it doesn't.
-fn firm_depth(next: &[u16], firm: &[u8], depths: &[u16; ROWS], n: usize, i: usize) -> usize
+fn firm_depth(next: &[u16], firm: &[u8], depths: &[u16; PLACES], n: usize, i: usize) -> usize
     requires { ⌜ KnownDepths (now next) (now firm) (now depths) ⌝ }
     ensures { λ r. ⌜ DepthIs (now (next .entry)) (now (firm .entry)) n i r ⌝ }
 {
@@ -42,14 +42,14 @@ fn firm_depth(next: &[u16], firm: &[u8], depths: &[u16; ROWS], n: usize, i: usiz
 }
 
 // Keeps the depths of the rows of a firm chain, from row i on, which has this depth.
-fn keep_depths(next: &[u16], firm: &[u8], depths: &mut [u16; ROWS], depth: usize, i: usize)
+fn keep_depths(next: &[u16], firm: &[u8], depths: &mut [u16; PLACES], depth: usize, i: usize)
     requires { ⌜ KnownDepths (now next) (now firm) (now depths) × ((depth ≡ 0 → ⊥) → firmFrom (now next) (now firm) depth i ≡ true) ⌝ }
     ensures { λ _. ⌜ KnownDepths (now (next .entry)) (now (firm .entry)) (now (depths .exit)) ⌝ }
 {
     let mut left = depth;
     let mut at = i;
     while 0 < left {
-        if ROWS <= at {
+        if PLACES <= at {
             return;
         }
         if depths[at] != 0 {
@@ -69,7 +69,7 @@ fn keep_depths(next: &[u16], firm: &[u8], depths: &mut [u16; ROWS], depth: usize
 }
 
 // Whether within n rows the chain from row i ends, each row firm. What is learnt of its rows is kept.
-fn is_firm(next: &[u16], firm: &[u8], depths: &mut [u16; ROWS], n: usize, i: usize) -> bool
+fn is_firm(next: &[u16], firm: &[u8], depths: &mut [u16; PLACES], n: usize, i: usize) -> bool
     requires { ⌜ KnownDepths (now next) (now firm) (now depths) ⌝ }
     ensures { λ r. ⌜ r ≡ firmFrom (now (next .entry)) (now (firm .entry)) n i ⌝ }
     ensures { λ _. ⌜ KnownDepths (now (next .entry)) (now (firm .entry)) (now (depths .exit)) ⌝ }
@@ -83,7 +83,7 @@ fn is_firm(next: &[u16], firm: &[u8], depths: &mut [u16; ROWS], n: usize, i: usi
 pub fn mark_firm(next: &[u16], firm: &[u8], chains: &mut [u8], within: usize, n: usize)
     ensures { λ _. ⌜ now (chains .exit) ≡ sets (now (chains .entry)) 0 (tabulate (λ i. flag (firmFrom (now (next .entry)) (now (firm .entry)) within i)) 0 n) ⌝ }
 {
-    let mut depths = [0u16; ROWS];
+    let mut depths = [0u16; PLACES];
     let mut i: usize = 0;
     while i < n {
         let all = is_firm(next, firm, &mut depths, within, i);

@@ -9,13 +9,11 @@ use files::directory::tables_in;
 use import::Imported;
 use import::import;
 use rows::say_rows;
-use tables::MOST_ROWS;
+use tables::MOST_CELLS;
 use tables::TABLES;
 use words::refusals::say_refused;
 use words::say;
 use words::say::words;
-
-const CELLS: usize = MOST_ROWS * TABLES;
 
 fn say_counts(rows: usize, good: usize) {
     say::number(rows);
@@ -25,14 +23,14 @@ fn say_counts(rows: usize, good: usize) {
 }
 
 fn judge(tables: [&[u8]; TABLES]) {
-    let mut cells = [0u16; CELLS];
+    let mut cells = [0u16; MOST_CELLS];
     match import(tables, &mut cells) {
         Imported::Done(rows, good) => {
             say_rows(tables, &cells);
             say_counts(rows, good);
         }
-        Imported::TooLong(t) => say_refused(1, t),
-        Imported::TooManyRows(t) => say_refused(2, t),
+        Imported::TooLong(table) => say_refused(1, table.0),
+        Imported::TooManyRows(table) => say_refused(2, table.0),
         Imported::TooFewCells => say_refused(3, 0),
     }
 }

@@ -7,11 +7,12 @@ use lib.Dec.{ltb}
 use lib.ListN.{length, getD, take, drop, drop-of-length-le, List·getD-eq-default}
 use lib.Seq.{take-nil}
 use borrow.Author.Tests.{lt-ltb, le-ltb}
+use Rattle.symbols.specs.Arrays.{mostSymbols}
 use Rattle.lines.specs.Lines.{lineLength, nextLine, lineFrom}
 use Rattle.lines.specs.declared.walk.NextLine.{NextLine}
 use Rattle.symbols.specs.declared.Symbol.{Symbol}
 use Rattle.symbols.specs.Searches.{found}
-use Rattle.database.specs.Arrays.{mostKeys, keyed}
+use Rattle.database.specs.Arrays.{keyed}
 
 -- past a column's end
 pub past-end : (columns : List ℕ) (column i : ℕ) → length columns ≤ i → 0 ≡ getD columns (column + i) 0
@@ -30,10 +31,10 @@ module _ (text : List ℕ) (start : ℕ) where
 
 -- what a column says of a key, by the key's id
 module _ (words links columns : List ℕ) (column : ℕ) (k : Symbol) {id : ℕ} (e : id ≡ found words links k) where
-  pub keyed-in : {x : ℕ} → id < 28672 → x ≡ getD columns (column + id) 0 → x ≡ keyed words links columns column k
+  pub keyed-in : {x : ℕ} → id < mostSymbols → x ≡ getD columns (column + id) 0 → x ≡ keyed words links columns column k
   unfolding keyed
-  keyed-in h q = rw (← e, lt-ltb id 28672 h) q
+  keyed-in h q = rw (← e, lt-ltb id mostSymbols h) q
 
-  pub keyed-out : 28672 ≤ id → 0 ≡ keyed words links columns column k
+  pub keyed-out : mostSymbols ≤ id → 0 ≡ keyed words links columns column k
   unfolding keyed
-  keyed-out h = rw (← e, le-ltb id 28672 h)
+  keyed-out h = rw (← e, le-ltb id mostSymbols h)

@@ -7,12 +7,15 @@ use mathlib.Core.List.{List, [], _∷_, map}
 use mathlib.Core.Option.{Option, none, some}
 use lib.Dec.{eqb, ltb}
 use lib.ListN.{getD, drop}
+use Rattle.arrays.specs.Room.{mostPlaces}
+use Rattle.symbols.specs.Arrays.{mostSymbols}
 use Rattle.lines.specs.Lines.{lineLength, lineFrom}
 use Rattle.symbols.specs.declared.Symbol.{Symbol}
 use Rattle.symbols.specs.Searches.{found}
 use Rattle.passes.specs.Groups.{chain}
 use Rattle.verdicts.specs.Key.{Key}
 use Rattle.verdicts.specs.Places.{textAt}
+use Rattle.verdicts.specs.Answer.{mostRows}
 use Rattle.key_symbols.specs.Keyed.{symbolOf}
 use Rattle.key_symbols.specs.Bounded.{fits}
 use Rattle.database.specs.Rows.{Row, Rows}
@@ -27,35 +30,29 @@ pub record Database : Type 0 where
 abbrev pub database : (texts : List (List ℕ)) → (words links columns : List ℕ) → Database
 database texts words links columns = record { texts = texts; words = words; links = links; columns = columns }
 
--- a column of rows has this many places, and a column of keys this many: fourteen tables of 1,024 rows, and two keys for each row
-abbrev pub places : ℕ
-places = 14336
-
-abbrev pub mostKeys : ℕ
-mostKeys = 28672
-
--- where the columns of keys start: one more than the good row that holds the key, and than the first row of the group that goes by it
+-- a column of keys has a place for each symbol, and a column of rows one for each row.
+-- Where the columns of keys start: one more than the good row that holds the key, and than the first row of the group that goes by it
 abbrev pub holderColumn : ℕ
 holderColumn = 0
 
 abbrev pub firstColumn : ℕ
-firstColumn = 28672
+firstColumn = holderColumn + mostSymbols
 
 -- and those of rows: one more than the next row of the same group, the row's number, its table, and where its line starts
 abbrev pub nextColumn : ℕ
-nextColumn = 57344
+nextColumn = firstColumn + mostSymbols
 
 abbrev pub numberColumn : ℕ
-numberColumn = 71680
+numberColumn = nextColumn + mostPlaces
 
 abbrev pub tableColumn : ℕ
-tableColumn = 86016
+tableColumn = numberColumn + mostPlaces
 
 abbrev pub startColumn : ℕ
-startColumn = 100352
+startColumn = tableColumn + mostPlaces
 
 abbrev pub allColumns : ℕ
-allColumns = 114688
+allColumns = startColumn + mostPlaces
 
 -- row i, from 0
 unfoldable pub rowAt : (texts : List (List ℕ)) → (columns : List ℕ) → ℕ → Row
@@ -70,15 +67,15 @@ rowFor texts columns at = cond (eqb at 0) none (some (rowAt texts columns (at - 
 
 -- what a column of keys says of a symbol; 0 of one that isn't there
 unfoldable pub keyed : (words links columns : List ℕ) → (column : ℕ) → Symbol → ℕ
-keyed words links columns column k = let id : ℕ = found words links k in cond (ltb id mostKeys) (getD columns (column + id) 0) 0
+keyed words links columns column k = let id : ℕ = found words links k in cond (ltb id mostSymbols) (getD columns (column + id) 0) 0
 
 -- the same of a key; 0 of one that no row can hold
 unfoldable pub keyedBy : (words links columns : List ℕ) → (column : ℕ) → Key → ℕ
 keyedBy words links columns column k = cond (fits k) (keyed words links columns column (symbolOf k)) 0
 
--- a table has at most 1,024 rows, so that a group has at most as many
+-- a group has at most as many rows as a table
 abbrev pub mostMembers : ℕ
-mostMembers = 1024
+mostMembers = mostRows
 
 -- the places of the rows of a group from its first on, as each leads to the next
 unfoldable pub placesFrom : (columns : List ℕ) → ℕ → List ℕ

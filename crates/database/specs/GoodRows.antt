@@ -10,10 +10,9 @@ use Rattle.laws.specs.Lists.{any, keep}
 use Rattle.laws.specs.Text.{ascii}
 use Rattle.lines.specs.Lines.{Line, onFirst, lead, linesOf}
 use Rattle.schemas.specs.declared.Table.{Table}
-use Rattle.schemas.specs.declared.Table.the-variants.{Ocp}
 use Rattle.verdicts.specs.Key.{Key, sameKey}
 use Rattle.verdicts.specs.Facts.{factsOf}
-use Rattle.verdicts.specs.Entries.{carried}
+use Rattle.verdicts.specs.Entries.{carried, carriedAt}
 use Rattle.verdicts.specs.Places.{verdictAt}
 use Rattle.database.specs.Rows.{Row, Rows}
 
@@ -41,7 +40,7 @@ goodRows texts = keep (isGood texts) (rowsIn texts)
 
 -- which table a row is of
 abbrev pub tableOf : Row → Table
-tableOf row = getD carried (row .table) Ocp
+tableOf row = carriedAt (row .table)
 
 -- a row's columns hold a key, or say that it is counted in a group
 unfoldable pub holdsKey : Key → Row → Bool

@@ -1,8 +1,11 @@
 // The database: tables in lent arrays, in which a row is found by its key, and rows are followed by their group.
+use arrays::PLACES;
 use arrays::half_at;
 use lines::walk::next_line;
+use symbols::SYMBOLS;
 use symbols::Symbol;
 use symbols::find;
+use tables::MOST_ROWS;
 use tables::TABLES;
 use tables::table_at;
 use units::RowNumber;
@@ -12,30 +15,28 @@ ghost use Prim.Native.Nat.{_+_, _≤_, _<_};
 ghost use lib.ListN.{length, getD, drop};
 ghost use lib.Seq.{sets};
 ghost use Rattle.lines.specs.Lines.{lineFrom};
-ghost use Rattle.database.specs.Arrays.{rowAt, keyed, placesFrom, holderColumn, firstColumn, nextColumn};
-
-// A column of keys has this many places.
-const KEYS: usize = 28672;
+ghost use Rattle.database.specs.Arrays.{rowAt, keyed, placesFrom, holderColumn, firstColumn, nextColumn, allColumns};
 
 // A group has at most so many rows, as a table has.
-pub const MOST_MEMBERS: usize = 1024;
+pub const MOST_MEMBERS: usize = MOST_ROWS;
 
+// A column of keys has a place for each symbol, and a column of rows one for each row.
 // Where the columns of keys start: one more than the good row that holds a key, and than the first of the group that goes by it.
 pub const HOLDER: usize = 0;
 
-pub const FIRST: usize = 28672;
+pub const FIRST: usize = HOLDER + SYMBOLS;
 
 // And those of rows: one more than the next row of the group, the row's number, its table, and where its line starts.
-pub const NEXT: usize = 57344;
+pub const NEXT: usize = FIRST + SYMBOLS;
 
-pub const NUMBER: usize = 71680;
+pub const NUMBER: usize = NEXT + PLACES;
 
-pub const TABLE: usize = 86016;
+pub const TABLE: usize = NUMBER + PLACES;
 
-pub const START: usize = 100352;
+pub const START: usize = TABLE + PLACES;
 
 // All columns.
-pub const COLUMNS: usize = 114688;
+pub const COLUMNS: usize = START + PLACES;
 
 fn wide(x: u16) -> usize
     ensures { λ r. ⌜ (r ≡ x) × (r < 65536) ⌝ }
@@ -45,7 +46,7 @@ fn wide(x: u16) -> usize
 
 // What a column has at place i.
 fn column_at(columns: &[u16], column: usize, i: usize) -> usize
-    requires { ⌜ column < 114688 ⌝ }
+    requires { ⌜ column < allColumns ⌝ }
     ensures { λ r. ⌜ (r ≡ getD (now (columns .entry)) (column + i) 0) × (r < 65536) ⌝ }
 {
     if columns.len() <= i {
@@ -56,11 +57,11 @@ fn column_at(columns: &[u16], column: usize, i: usize) -> usize
 
 // What a column of keys says of a key; 0 of one that isn't there.
 fn keyed_at(words: &[u64], links: &[u16], columns: &[u16], column: usize, key: Symbol) -> usize
-    requires { ⌜ column < 114688 ⌝ }
+    requires { ⌜ column < allColumns ⌝ }
     ensures { λ r. ⌜ (r ≡ keyed (now (words .entry)) (now (links .entry)) (now (columns .entry)) column key) × (r < 65536) ⌝ }
 {
     let id = wide(find(words, links, key));
-    if id < KEYS {
+    if id < SYMBOLS {
         return column_at(columns, column, id);
     }
     0

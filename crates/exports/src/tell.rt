@@ -11,7 +11,6 @@ use import::Imported;
 use outcomes::Refusal;
 use outcomes::Value;
 use readings::Reading;
-use units::TableNumber;
 ghost use Rattle.import.specs.Judged as import;
 ghost use Rattle.outcomes.specs.Outcome as outcome;
 ghost use Rattle.outcomes.specs.Values.{valueOf};
@@ -33,8 +32,8 @@ pub(crate) fn tell_imported(imported: Imported, answer: &mut [i64; 8]) -> u64
             write(answer, [all, fine, 0, 0, 0, 0, 0, 0], 2);
             0
         }
-        Imported::TooLong(table) => refuse(Refusal::TableTooLong(TableNumber(table))),
-        Imported::TooManyRows(table) => refuse(Refusal::TooManyRows(TableNumber(table))),
+        Imported::TooLong(table) => refuse(Refusal::TableTooLong(table)),
+        Imported::TooManyRows(table) => refuse(Refusal::TooManyRows(table)),
         Imported::TooFewCells => refuse(Refusal::TooFewCells),
     }
 }

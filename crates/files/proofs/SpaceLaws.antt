@@ -11,6 +11,8 @@ use lib.Seq.{getD-take, getD-drop}
 use borrow.Author.Tests.{ltb-true, ltb-false, lt-ltb, le-leb}
 use borrow.Rule.Slice.PartMut.{midOf, putMid, mid-len, put-same, take-put, drop-put}
 use Rattle.laws.proofs.Cases.{bool-cases, and-both, false≢true}
+use Rattle.verdicts.specs.Entries.{tableCount}
+use Rattle.tables.specs.Parts.{partSize}
 use Rattle.files.specs.declared.source.Got.{Got}
 use Rattle.files.specs.declared.source.Got.the-variants.{Bytes, Missing, Failed}
 use Rattle.files.specs.Reads.{Within, ReadInto}
@@ -30,42 +32,42 @@ as-it-was (Failed k) before after r e = cc
 pub into-none : (t : ℕ) (space : List ℕ) → TableInto t Missing space space
 into-none t space = record { within = tt; room = λ _. refl; missing = λ _. refl; front = refl; rest = refl }
 
-module _ (t : ℕ) (got : Got) (space part : List ℕ) (below : t < 10) (fits : t * 65537 + 65537 ≤ length space) where
+module _ (t : ℕ) (got : Got) (space part : List ℕ) (below : t < tableCount) (fits : t * partSize + partSize ≤ length space) where
   has-room : hasRoom space t ≡ true
   unfolding hasRoom
-  has-room = and-both (lt-ltb t 10 below) (le-leb (t * 65537 + 65537) (length space) fits)
+  has-room = and-both (lt-ltb t tableCount below) (le-leb (t * partSize + partSize) (length space) fits)
 
-  pub into-part : ReadInto got (midOf (t * 65537) (t * 65537 + 65537 - t * 65537) space) part
-      → length part ≡ length (midOf (t * 65537) (t * 65537 + 65537 - t * 65537) space)
-      → TableInto t got space (putMid (t * 65537) (t * 65537 + 65537 - t * 65537) space part)
+  pub into-part : ReadInto got (midOf (t * partSize) (t * partSize + partSize - t * partSize) space) part
+      → length part ≡ length (midOf (t * partSize) (t * partSize + partSize - t * partSize) space)
+      → TableInto t got space (putMid (t * partSize) (t * partSize + partSize - t * partSize) space part)
   into-part r e =
-      let a = t * 65537 in
-      let size : length part ≡ t * 65537 + 65537 - t * 65537 = e ∙ mid-len a (a + 65537) space fits in
+      let a = t * partSize in
+      let size : length part ≡ t * partSize + partSize - t * partSize = e ∙ mid-len a (a + partSize) space fits in
       record {
-        within = within-part got (midOf a (a + 65537 - a) space) part 65537 (omega arith) r;
+        within = within-part got (midOf a (a + partSize - a) space) part partSize (omega arith) r;
         room = λ no. absurd (false≢true (sym no ∙ has-room));
         missing =
-            λ m. ap (λ (l : List ℕ). putMid (t * 65537) (t * 65537 + 65537 - t * 65537) space l) (as-it-was got (midOf a (a + 65537 - a) space) part r m)
-            ∙ put-same a (a + 65537 - a) space;
-        front = take-put a (a + 65537 - a) space part (omega arith);
-        rest = drop-put a (a + 65537) space part (omega arith) fits size;
+            λ m. ap (λ (l : List ℕ). putMid (t * partSize) (t * partSize + partSize - t * partSize) space l) (as-it-was got (midOf a (a + partSize - a) space) part r m)
+            ∙ put-same a (a + partSize - a) space;
+        front = take-put a (a + partSize - a) space part (omega arith);
+        rest = drop-put a (a + partSize) space part (omega arith) fits size;
       }
 
 -- the parts of other tables are as they were
 module _ (t : ℕ) {got : Got} {before after : List ℕ} (into : TableInto t got before after) (u : ℕ) where
   ahead : u < t → SamePart before after u
   ahead h k l =
-      let i = u * 65537 + k in
-      let below : u * 65537 + k < t * 65537 = omega arith in
-      sym (getD-take (t * 65537) after i 0 below) ∙ ap (λ (s : List ℕ). getD s (u * 65537 + k) 0) (into .front) ∙ getD-take (t * 65537) before i 0 below
+      let i = u * partSize + k in
+      let below : u * partSize + k < t * partSize = omega arith in
+      sym (getD-take (t * partSize) after i 0 below) ∙ ap (λ (s : List ℕ). getD s (u * partSize + k) 0) (into .front) ∙ getD-take (t * partSize) before i 0 below
 
   behind : t < u → SamePart before after u
   behind h k l =
-      let e = t * 65537 + 65537 in
-      let j = u * 65537 + k - (t * 65537 + 65537) in
-      let is : u * 65537 + k ≡ t * 65537 + 65537 + (u * 65537 + k - (t * 65537 + 65537)) = omega arith in
+      let e = t * partSize + partSize in
+      let j = u * partSize + k - (t * partSize + partSize) in
+      let is : u * partSize + k ≡ t * partSize + partSize + (u * partSize + k - (t * partSize + partSize)) = omega arith in
       ap (λ (i : ℕ). getD after i 0) is ∙ sym (getD-drop e after j 0)
-      ∙ ap (λ (s : List ℕ). getD s (u * 65537 + k - (t * 65537 + 65537)) 0) (into .rest)
+      ∙ ap (λ (s : List ℕ). getD s (u * partSize + k - (t * partSize + partSize)) 0) (into .rest)
       ∙ getD-drop e before j 0 ∙ ap (λ (i : ℕ). getD before i 0) (sym is)
 
   pub beside : (u ≡ t → ⊥) → SamePart before after u

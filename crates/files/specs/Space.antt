@@ -1,13 +1,14 @@
--- The tables in the space that they are read into: 65,537 bytes for each, one more than a table may have.
+-- The tables in the space that they are read into, each in its own part.
 use Prim.Native.Nat.{ℕ, suc, _+_, _*_, _≤_, _<_}
 use mathlib.Core.Path.{_≡_, refl}
 use mathlib.Core.Logic.{_⊎_}
-use mathlib.Core.List.{List, [], _∷_, map}
+use mathlib.Core.List.{List, [], _∷_}
 use mathlib.Core.Bool.{Bool, true, false, cond, _&&_}
 use lib.Dec.{ltb, leb}
 use lib.IntN.{pos}
 use lib.ListN.{length, getD, take, drop, set, replicate}
-use Rattle.lines.specs.Columns.{partOf}
+use Rattle.verdicts.specs.Entries.{tableCount}
+use Rattle.tables.specs.Parts.{partSize}
 use Rattle.files.specs.declared.source.Got.{Got}
 use Rattle.files.specs.declared.source.Got.the-variants.{Bytes, Missing, Failed}
 use Rattle.files.specs.declared.directory.Loaded.{Loaded}
@@ -15,36 +16,29 @@ use Rattle.files.specs.Reads.{Within}
 
 -- where a table of so many bytes ends; 0 for what is no table, or more than its room
 unfoldable pub endOf : ℕ → ℕ → ℕ
-endOf t count = cond (ltb t 10) (cond (leb count 65537) (t * 65537 + count) 0) 0
-
--- the table with this number, from 0, by where each ends
-unfoldable pub tableIn : List ℕ → List ℕ → ℕ → List ℕ
-tableIn space ends t = cond (ltb t 10) (partOf space (t * 65537) (getD ends t 0)) []
-
-unfoldable pub tablesIn : List ℕ → List ℕ → List (List ℕ)
-tablesIn space ends = map (tableIn space ends) (0 ∷ 1 ∷ 2 ∷ 3 ∷ 4 ∷ 5 ∷ 6 ∷ 7 ∷ 8 ∷ 9 ∷ [])
+endOf t count = cond (ltb t tableCount) (cond (leb count partSize) (t * partSize + count) 0) 0
 
 -- each table ends in its own part of the space, or isn't there
 pub record Apart (ends : List ℕ) : Type 0 where
-  pub own : (t : ℕ) → (getD ends t 0 ≡ 0) ⊎ ((t * 65537 ≤ getD ends t 0) × (getD ends t 0 ≤ t * 65537 + 65537))
+  pub own : (t : ℕ) → (getD ends t 0 ≡ 0) ⊎ ((t * partSize ≤ getD ends t 0) × (getD ends t 0 ≤ t * partSize + partSize))
 
 -- One table
 
 -- t is a table's number, from 0, and the space has its part
 unfoldable pub hasRoom : List ℕ → ℕ → Bool
-hasRoom space t = ltb t 10 && leb (t * 65537 + 65537) (length space)
+hasRoom space t = ltb t tableCount && leb (t * partSize + partSize) (length space)
 
 -- the space before and after table t is read, and what the system answered
 pub record TableInto (t : ℕ) (got : Got) (before after : List ℕ) : Type 0 where
   -- no more than its part was read
-  pub within : Within got 65537
+  pub within : Within got partSize
   -- and nothing where there is no such part
   pub room : hasRoom before t ≡ false → got ≡ Missing
   -- a table that is missing leaves the space as it was
   pub missing : got ≡ Missing → after ≡ before
   -- any other leaves it so before and behind its part
-  pub front : take (t * 65537) after ≡ take (t * 65537) before
-  pub rest : drop (t * 65537 + 65537) after ≡ drop (t * 65537 + 65537) before
+  pub front : take (t * partSize) after ≡ take (t * partSize) before
+  pub rest : drop (t * partSize + partSize) after ≡ drop (t * partSize + partSize) before
 
 -- where a table ends by what the system answered; one that isn't there, or can't be read, ends at 0
 abbrev pub endBy : ℕ → Got → ℕ
@@ -91,21 +85,21 @@ answerFor gots t = getD gots t Missing
 
 -- the part of table t holds what it held
 abbrev pub SamePart : (before after : List ℕ) → ℕ → Type 0
-SamePart before after t = (k : ℕ) → k < 65537 → getD after (t * 65537 + k) 0 ≡ getD before (t * 65537 + k) 0
+SamePart before after t = (k : ℕ) → k < partSize → getD after (t * partSize + k) 0 ≡ getD before (t * partSize + k) 0
 
--- the space before and after the tables are loaded, and what is answered: all by ten answers of the system
+-- the space before and after the tables are loaded, and what is answered: all by one answer of the system for each table
 pub record LoadedInto (loaded : Loaded) (before after : List ℕ) : Type 0 where
   pub answers : List Got
-  pub ten : length answers ≡ 10
+  pub count : length answers ≡ tableCount
   pub answered : loaded ≡ loadedBy answers
-  pub within : (t : ℕ) → Within (answerFor answers t) 65537
+  pub within : (t : ℕ) → Within (answerFor answers t) partSize
   pub room : (t : ℕ) → hasRoom before t ≡ false → answerFor answers t ≡ Missing
-  -- what is missing leaves its part as it was, and so are all bytes behind the tenth part
+  -- what is missing leaves its part as it was, and so are all bytes behind the last part
   pub untouched : (t : ℕ) → answerFor answers t ≡ Missing → SamePart before after t
 
 -- nothing is loaded
 abbrev pub notLoaded : Loaded
-notLoaded = record { ends = replicate 10 0; whole = false }
+notLoaded = record { ends = replicate tableCount 0; whole = false }
 
 -- the tables of a directory, or nothing where there is no such directory
 abbrev pub DirectoryInto : Loaded → (before after : List ℕ) → Type 0

@@ -1,4 +1,4 @@
-// The ten tables of a directory: pid.dat to ocp.dat, each read into its own part of one space.
+// The tables of a directory: pid.dat and so on, each read into its own part of one space.
 use crate::errors::say_error;
 use crate::path::MOST_PATH;
 use crate::path::table_path;
@@ -7,8 +7,8 @@ use crate::source::read_file;
 use libc::EISDIR;
 use libc::ENOTDIR;
 use lines::columns::keep_at;
-use lines::columns::part;
 use std::num::wrapping_add_usize;
+use tables::ROOM;
 use tables::TABLES;
 use units::TableNumber;
 use words::names::table_name;
@@ -17,7 +17,8 @@ use words::say::words;
 ghost use mathlib.Core.Path.{_≡_};
 ghost use mathlib.Core.List.{map};
 ghost use mathlib.Core.Bool.{_&&_};
-ghost use Rattle.files.specs.Space.{endOf, tableIn, tablesIn};
+ghost use Rattle.tables.specs.Parts.{tablesIn};
+ghost use Rattle.files.specs.Space.{endOf};
 ghost use Rattle.files.specs.Space.{DirectoryInto, LoadedInto, TableInto, TableLoaded};
 
 // 0 where there is such a directory, else the number of the system's error. Reading a directory fails, by which it is told from a file.
@@ -39,10 +40,8 @@ pub fn directory_error(directory: &[u8]) -> i32 {
     error
 }
 
-// A byte more than a table may have, so that one that is too long is refused and not cut.
-pub const ROOM: usize = 65537;
-
-pub const SPACE: usize = 655370;
+// A part for each table.
+pub const SPACE: usize = TABLES * ROOM;
 
 // Where each table ends in the space, and whether all were read. A table that isn't there ends at 0.
 pub struct Loaded {
@@ -125,7 +124,7 @@ fn both(a: bool, b: bool) -> bool
     false
 }
 
-// Reads the ten tables. A table for which the space has no room counts as missing.
+// Reads the tables. A table for which the space has no room counts as missing.
 pub fn load(directory: &[u8], space: &mut [u8]) -> Loaded
     ensures { λ r. ⌜ LoadedInto r (now (space .entry)) (now (space .exit)) ⌝ }
 {
@@ -160,30 +159,9 @@ pub fn load_directory(directory: &[u8], space: &mut [u8]) -> Loaded
     loaded
 }
 
-// The table with this number, from 0, as it was read.
-pub fn table_in<'a>(space: &'a [u8], ends: [usize; TABLES], t: usize) -> &'a [u8]
-    ensures { λ r. ⌜ now r ≡ tableIn (now (space .entry)) ends t ⌝ }
-{
-    if t < TABLES {
-        return part(space, t * ROOM, ends[t]);
-    }
-    &space[..0]
-}
-
-// The ten tables as they were read.
+// The tables as they were read.
 pub fn tables_in<'a>(space: &'a [u8], ends: [usize; TABLES]) -> [&'a [u8]; TABLES]
     ensures { λ r. ⌜ map now r ≡ tablesIn (now (space .entry)) ends ⌝ }
 {
-    [
-        table_in(space, ends, 0),
-        table_in(space, ends, 1),
-        table_in(space, ends, 2),
-        table_in(space, ends, 3),
-        table_in(space, ends, 4),
-        table_in(space, ends, 5),
-        table_in(space, ends, 6),
-        table_in(space, ends, 7),
-        table_in(space, ends, 8),
-        table_in(space, ends, 9),
-    ]
+    tables::tables_in(space, &ends)
 }

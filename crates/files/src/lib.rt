@@ -1,4 +1,4 @@
-// The files that the programs read: any file as far as a buffer holds it, and the ten tables of a directory.
+// The files that the programs read: any file as far as a buffer holds it, and the tables of a directory.
 pub mod arguments;
 pub mod directory;
 pub mod errors;

@@ -9,6 +9,8 @@ use Rattle.laws.proofs.Cases.{false≢true}
 use Rattle.units.specs.declared.TableNumber.{TableNumber}
 use Rattle.outcomes.specs.Refusals.{numberOf, placeOf}
 use Rattle.outcomes.specs.declared.Refusal.the-variants.{TableTooLong, TooManyRows}
+use Rattle.symbols.specs.Arrays.{allWords, allLinks}
+use Rattle.database.specs.Arrays.{allColumns}
 use Rattle.loading.specs.Loaded.{Lent, hasRoom, Loads}
 use Rattle.loading.specs.declared.Loading.{Loading}
 use Rattle.loading.specs.declared.Loading.the-variants as loading
@@ -28,10 +30,10 @@ module _ (texts : List (List ℕ)) (before after : Lent) {r : Loading} (l : Load
   unfolding Loads FullLoads numberOf placeOf
   full-many table e = subst (Loads texts before after) e l
 
-  pub never-short : 114688 ≤ length (before .words) → 73728 ≤ length (before .links) → 114688 ≤ length (before .columns) → r ≡ loading.NoRoom → ⊥
+  pub never-short : allWords ≤ length (before .words) → allLinks ≤ length (before .links) → allColumns ≤ length (before .columns) → r ≡ loading.NoRoom → ⊥
   unfolding Loads
   never-short w k c e =
       let short : hasRoom before ≡ false = subst (Loads texts before after) e l .1 in
       let room : hasRoom before ≡ true =
-      rw (le-leb 114688 (length (before .words)) w, le-leb 73728 (length (before .links)) k, le-leb 114688 (length (before .columns)) c) in
+      rw (le-leb allWords (length (before .words)) w, le-leb allLinks (length (before .links)) k, le-leb allColumns (length (before .columns)) c) in
       false≢true (sym short ∙ room)

@@ -7,12 +7,14 @@ use native.Mathlib.Omega.{arith}
 use lib.Dec.{leb}
 use lib.ListN.{length, take, replicate, length-replicate}
 use borrow.Author.Tests.{le-leb}
+use Rattle.symbols.specs.Arrays.{allWords, allLinks}
 use Rattle.verdicts.specs.Entries.{allRows}
 use Rattle.verdicts.specs.Verdicts.{verdicts}
 use Rattle.verdicts.specs.Answer.{taken, zeros, importOf, cellsAfter}
 use Rattle.kept.specs.FirstPass.{Arrays, arrays}
 use Rattle.kept.specs.Keeping.{hasPlaces, KeepsRows}
 use Rattle.kept.proofs.KeepingLaws.{sizes-taken}
+use Rattle.kept.specs.Puts.{allHalves, allBytes}
 use Rattle.judged.specs.Passes.{JudgedInto}
 use Rattle.judged.proofs.TableLaws as tables
 use Rattle.import.specs.Judged.{judgedCells, said, DoneBy, AnswersBy}
@@ -54,5 +56,5 @@ enough : (n : ℕ) → leb n (length (replicate {A = ℕ} n 0)) ≡ true
 enough n = le-leb n _ (omega (arith, length-replicate {A = ℕ} n 0))
 
 -- the arrays of an import
-pub has-places : hasPlaces (arrays (replicate 114688 0) (replicate 73728 0) 0 (replicate 114688 0) (replicate 71680 0)) ≡ true
-has-places = rw (enough 114688, enough 73728, enough 71680)
+pub has-places : hasPlaces (arrays (replicate allWords 0) (replicate allLinks 0) 0 (replicate allHalves 0) (replicate allBytes 0)) ≡ true
+has-places = rw (enough allWords, enough allLinks, enough allBytes)

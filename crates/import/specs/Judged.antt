@@ -20,8 +20,8 @@ judgedCells texts cells = cond (ltb (length cells) (length (allRows texts))) cel
 -- 01: the number of a refusal and its place; the counts of rows and of good rows
 unfoldable pub said : Imported → answer.Imported
 said (Done rows good) = answer.taken rows good
-said (TooLong table) = answer.refused 1 table
-said (TooManyRows table) = answer.refused 2 table
+said (TooLong table) = answer.refused 1 (table .0)
+said (TooManyRows table) = answer.refused 2 (table .0)
 said TooFewCells = answer.refused 3 0
 
 -- of rows that are kept

@@ -8,6 +8,7 @@ use kept::LINKS;
 use kept::WORDS;
 use kept::keep;
 use tables::TABLES;
+use units::TableNumber;
 ghost use mathlib.Core.Path.{_≡_};
 ghost use mathlib.Core.List.{map};
 ghost use lib.ListN.{length};
@@ -16,11 +17,11 @@ ghost use Rattle.import.specs.Judged.{said, AnswersBy};
 
 mod good;
 
-// The counts of rows and of good rows; or refused: the first table that is too large, from 1, or too few cells.
+// The counts of rows and of good rows; or refused: the first table that is too large, or too few cells.
 pub enum Imported {
     Done(usize, usize),
-    TooLong(usize),
-    TooManyRows(usize),
+    TooLong(TableNumber),
+    TooManyRows(TableNumber),
     TooFewCells,
 }
 

@@ -4,17 +4,19 @@ use mathlib.Core.List.{List}
 use Prim.Native.Nat.{ℕ, _+_, _≤_, _<_}
 use native.Mathlib.Omega.{arith}
 use lib.ListN.{length, getD}
-use Rattle.database.specs.Arrays.{mostKeys, holderColumn, firstColumn, nextColumn, numberColumn, tableColumn, startColumn, allColumns}
+use Rattle.arrays.specs.Room.{mostPlaces}
+use Rattle.symbols.specs.Arrays.{mostSymbols}
+use Rattle.database.specs.Arrays.{holderColumn, firstColumn, nextColumn, numberColumn, tableColumn, startColumn, allColumns}
 use Rattle.indexing.specs.Indexing.{numberOf, putFrom, indexColumns}
 use Rattle.indexing.proofs.PutLaws.{put-size, put-at, put-before, put-after}
 
-module _ (halves tables holders firsts nexts : List ℕ) (n : ℕ) (few : n ≤ 14336) (room : allColumns ≤ length halves) where
+module _ (halves tables holders firsts nexts : List ℕ) (n : ℕ) (few : n ≤ mostPlaces) (room : allColumns ≤ length halves) where
   -- the columns as they are put, one after the other
   abbrev withHolders : List ℕ
-  withHolders = putFrom halves holderColumn (λ id. getD holders id 0) mostKeys
+  withHolders = putFrom halves holderColumn (λ id. getD holders id 0) mostSymbols
 
   abbrev withFirsts : List ℕ
-  withFirsts = putFrom withHolders firstColumn (λ id. getD firsts id 0) mostKeys
+  withFirsts = putFrom withHolders firstColumn (λ id. getD firsts id 0) mostSymbols
 
   abbrev withNexts : List ℕ
   withNexts = putFrom withFirsts nextColumn (λ i. getD nexts i 0) n
@@ -26,10 +28,10 @@ module _ (halves tables holders firsts nexts : List ℕ) (n : ℕ) (few : n ≤ 
   columns = indexColumns halves tables holders firsts nexts n
 
   holders-room : allColumns ≤ length withHolders
-  holders-room = omega (arith, room, put-size halves holderColumn (λ id. getD holders id 0) mostKeys)
+  holders-room = omega (arith, room, put-size halves holderColumn (λ id. getD holders id 0) mostSymbols)
 
   firsts-room : allColumns ≤ length withFirsts
-  firsts-room = omega (arith, holders-room, put-size withHolders firstColumn (λ id. getD firsts id 0) mostKeys)
+  firsts-room = omega (arith, holders-room, put-size withHolders firstColumn (λ id. getD firsts id 0) mostSymbols)
 
   nexts-room : allColumns ≤ length withNexts
   nexts-room = omega (arith, firsts-room, put-size withFirsts nextColumn (λ i. getD nexts i 0) n)
@@ -48,16 +50,16 @@ module _ (halves tables holders firsts nexts : List ℕ) (n : ℕ) (few : n ≤ 
   before-nexts : (j : ℕ) → j < nextColumn → getD columns j 0 ≡ getD withFirsts j 0
   before-nexts j h = before-numbers j (omega arith) ∙ put-before withFirsts nextColumn (λ i. getD nexts i 0) n j h
 
-  pub holder-at : (id : ℕ) → id < mostKeys → getD columns (holderColumn + id) 0 ≡ getD holders id 0
+  pub holder-at : (id : ℕ) → id < mostSymbols → getD columns (holderColumn + id) 0 ≡ getD holders id 0
   holder-at id h =
       before-nexts (holderColumn + id) (omega arith)
-      ∙ put-before withHolders firstColumn (λ id. getD firsts id 0) mostKeys (holderColumn + id) (omega arith)
-      ∙ put-at halves holderColumn (λ id. getD holders id 0) mostKeys id h (omega (arith, room))
+      ∙ put-before withHolders firstColumn (λ id. getD firsts id 0) mostSymbols (holderColumn + id) (omega arith)
+      ∙ put-at halves holderColumn (λ id. getD holders id 0) mostSymbols id h (omega (arith, room))
 
-  pub first-at : (id : ℕ) → id < mostKeys → getD columns (firstColumn + id) 0 ≡ getD firsts id 0
+  pub first-at : (id : ℕ) → id < mostSymbols → getD columns (firstColumn + id) 0 ≡ getD firsts id 0
   first-at id h =
       before-nexts (firstColumn + id) (omega arith)
-      ∙ put-at withHolders firstColumn (λ id. getD firsts id 0) mostKeys id h (omega (arith, holders-room))
+      ∙ put-at withHolders firstColumn (λ id. getD firsts id 0) mostSymbols id h (omega (arith, holders-room))
 
   pub next-at : (i : ℕ) → i < n → getD columns (nextColumn + i) 0 ≡ getD nexts i 0
   next-at i h =
@@ -78,5 +80,5 @@ module _ (halves tables holders firsts nexts : List ℕ) (n : ℕ) (few : n ≤ 
       put-after withNumbers tableColumn (λ i. getD tables i 0) n j (omega arith)
       ∙ put-after withNexts numberColumn (numberOf tables) n j (omega arith)
       ∙ put-after withFirsts nextColumn (λ i. getD nexts i 0) n j (omega arith)
-      ∙ put-after withHolders firstColumn (λ id. getD firsts id 0) mostKeys j (omega arith)
-      ∙ put-after halves holderColumn (λ id. getD holders id 0) mostKeys j (omega arith)
+      ∙ put-after withHolders firstColumn (λ id. getD firsts id 0) mostSymbols j (omega arith)
+      ∙ put-after halves holderColumn (λ id. getD holders id 0) mostSymbols j (omega arith)

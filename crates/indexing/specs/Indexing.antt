@@ -8,14 +8,16 @@ use lib.ListN.{getD, replicate}
 use lib.Seq.{sets}
 use Rattle.laws.specs.Prefix.{flag}
 use Rattle.laws.specs.Values.{tabulate}
+use Rattle.arrays.specs.Room.{mostPlaces}
+use Rattle.symbols.specs.Arrays.{mostSymbols}
 use Rattle.passes.specs.Groups.{Chained}
 use Rattle.kept.specs.Stored as kept
 use Rattle.judged.specs.Passes.{columnOf, HoldersBy}
-use Rattle.database.specs.Arrays.{places, mostKeys, holderColumn, firstColumn, nextColumn, numberColumn, tableColumn}
+use Rattle.database.specs.Arrays.{holderColumn, firstColumn, nextColumn, numberColumn, tableColumn}
 
 -- 01: "Good is 0": the first n rows are marked by 1 where they are good
 abbrev pub goodMarks : List ℕ → ℕ → List ℕ
-goodMarks cells n = sets (replicate places 0) 0 (tabulate (λ i. flag (eqb (getD cells i 0) 0)) 0 n)
+goodMarks cells n = sets (replicate mostPlaces 0) 0 (tabulate (λ i. flag (eqb (getD cells i 0) 0)) 0 n)
 
 -- the number of the row after one, by the tables of both: rows are numbered from 1 in each table
 unfoldable pub following : (number table next : ℕ) → ℕ
@@ -33,8 +35,8 @@ putFrom columns place f n = sets columns place (tabulate f 0 n)
 -- the columns of the database, put over those of what is kept. Where lines start stays
 unfoldable pub indexColumns : (columns tables holders firsts nexts : List ℕ) → ℕ → List ℕ
 indexColumns columns tables holders firsts nexts n =
-    let withHolders : List ℕ = putFrom columns holderColumn (λ id. getD holders id 0) mostKeys in
-    let withFirsts : List ℕ = putFrom withHolders firstColumn (λ id. getD firsts id 0) mostKeys in
+    let withHolders : List ℕ = putFrom columns holderColumn (λ id. getD holders id 0) mostSymbols in
+    let withFirsts : List ℕ = putFrom withHolders firstColumn (λ id. getD firsts id 0) mostSymbols in
     let withNexts : List ℕ = putFrom withFirsts nextColumn (λ i. getD nexts i 0) n in
     let withNumbers : List ℕ = putFrom withNexts numberColumn (numberOf tables) n in
     putFrom withNumbers tableColumn (λ i. getD tables i 0) n
@@ -44,8 +46,8 @@ pub record IndexedBy (halves bytes cells columns : List ℕ) (n : ℕ) : Type 0 
   pub holders : List ℕ
   pub firsts : List ℕ
   pub nexts : List ℕ
-  pub held : HoldersBy (goodMarks cells n) halves (replicate mostKeys 0) holders n
-  pub groups : Chained (goodMarks cells n) (columnOf halves kept.groupColumn) (replicate mostKeys 0) (replicate places 0) firsts nexts 0 n
+  pub held : HoldersBy (goodMarks cells n) halves (replicate mostSymbols 0) holders n
+  pub groups : Chained (goodMarks cells n) (columnOf halves kept.groupColumn) (replicate mostSymbols 0) (replicate mostPlaces 0) firsts nexts 0 n
   pub put : columns ≡ indexColumns halves (columnOf bytes kept.tableColumn) holders firsts nexts n
 
 pub record Examples : Type 0 where

@@ -7,16 +7,17 @@ use database::HOLDER;
 use database::NEXT;
 use database::NUMBER;
 use database::TABLE;
-use judged::parts::IDS;
+use symbols::SYMBOLS;
 ghost use mathlib.Core.Path.{_≡_};
 ghost use Prim.Native.Nat.{_+_, _≤_, _<_};
 ghost use lib.ListN.{getD};
-ghost use Rattle.database.specs.Arrays.{numberColumn, tableColumn};
+ghost use Rattle.arrays.specs.Room.{mostPlaces};
+ghost use Rattle.database.specs.Arrays.{numberColumn, tableColumn, allColumns};
 ghost use Rattle.indexing.specs.Indexing.{putFrom, following, numberOf, indexColumns};
 
 // The first n numbers of an array, put from a place on.
 fn put_halves(from: &[u16], columns: &mut [u16], place: usize, n: usize)
-    requires { ⌜ place + n ≤ 114688 ⌝ }
+    requires { ⌜ place + n ≤ allColumns ⌝ }
     ensures { λ _. ⌜ now (columns .exit) ≡ putFrom (now (columns .entry)) place (λ i. getD (now (from .entry)) i 0) n ⌝ }
 {
     let mut i: usize = 0;
@@ -34,7 +35,7 @@ fn wide(x: u8) -> u16
 
 // The tables of the first n rows.
 fn put_tables(tables: &[u8], columns: &mut [u16], n: usize)
-    requires { ⌜ n ≤ 14336 ⌝ }
+    requires { ⌜ n ≤ mostPlaces ⌝ }
     ensures { λ _. ⌜ now (columns .exit) ≡ putFrom (now (columns .entry)) tableColumn (λ i. getD (now (tables .entry)) i 0) n ⌝ }
 {
     let mut i: usize = 0;
@@ -54,7 +55,7 @@ fn next_number(number: u16, table: u8, next: u8) -> u16
 
 // The numbers of the first n rows, each in its table.
 fn put_numbers(tables: &[u8], columns: &mut [u16], n: usize)
-    requires { ⌜ n ≤ 14336 ⌝ }
+    requires { ⌜ n ≤ mostPlaces ⌝ }
     ensures { λ _. ⌜ now (columns .exit) ≡ putFrom (now (columns .entry)) numberColumn (numberOf (now (tables .entry))) n ⌝ }
 {
     let mut number: u16 = 1;
@@ -75,12 +76,12 @@ pub(crate) fn put_index(
     nexts: &[u16],
     n: usize,
 )
-    requires { ⌜ n ≤ 14336 ⌝ }
+    requires { ⌜ n ≤ mostPlaces ⌝ }
     ensures { λ _. ⌜ now (columns .exit) ≡ indexColumns (now (columns .entry)) (now (tables .entry))
         (now (holders .entry)) (now (firsts .entry)) (now (nexts .entry)) n ⌝ }
 {
-    put_halves(holders, columns, HOLDER, IDS);
-    put_halves(firsts, columns, FIRST, IDS);
+    put_halves(holders, columns, HOLDER, SYMBOLS);
+    put_halves(firsts, columns, FIRST, SYMBOLS);
     put_halves(nexts, columns, NEXT, n);
     put_numbers(tables, columns, n);
     put_tables(tables, columns, n);

@@ -9,6 +9,7 @@ use lib.ListN.{length, take, drop, length-drop, drop-of-length-le}
 use lib.Seq.{take-all}
 use borrow.Author.Tests.{leb-true, leb-false}
 use Rattle.laws.proofs.Cases.{bool-cases}
+use Rattle.arrays.specs.Room.{mostPlaces}
 use Rattle.judged.specs.Passes.{columnOf}
 
 -- taking more than there is takes all
@@ -26,7 +27,7 @@ drop-least k m l e =
     let q : length l ≤ k = omega (arith, leb-false k (length l) t) in
     drop-of-length-le l p ∙ sym (drop-of-length-le l q))
 
-pub column-part : (xs : List ℕ) (c from to : ℕ) → from ≡ min (c * 14336) (length xs) → to ≡ min (from + 14336) (length xs)
+pub column-part : (xs : List ℕ) (c from to : ℕ) → from ≡ min (c * mostPlaces) (length xs) → to ≡ min (from + mostPlaces) (length xs)
     → take (to - from) (drop from xs) ≡ columnOf xs c
 column-part xs c from to f t =
-    take-least 14336 (to - from) (drop from xs) (rw length-drop (omega arith)) ∙ ap (take 14336) (drop-least (c * 14336) from xs f)
+    take-least mostPlaces (to - from) (drop from xs) (rw length-drop (omega arith)) ∙ ap (take mostPlaces) (drop-least (c * mostPlaces) from xs f)

@@ -7,6 +7,7 @@ use native.Mathlib.Omega.{arith}
 use lib.Dec.{eqb}
 use lib.ListN.{length, getD, drop}
 use lib.Seq.{getD-take, getD-drop}
+use Rattle.arrays.specs.Room.{mostPlaces}
 use Rattle.symbols.specs.Arrays.{symbols}
 use Rattle.verdicts.specs.Entries.{Entry, own, facts}
 use Rattle.key_symbols.specs.Keyed.{symbolOf}
@@ -14,7 +15,7 @@ use Rattle.key_symbols.specs.Bounded.{Bounded}
 use Rattle.key_symbols.proofs.ExactLaws.{symbol-exact}
 use Rattle.keys.proofs.Fitting.{Fits}
 use Rattle.meaning.specs.Kept.{Coding, rowAt, Rows}
-use Rattle.kept.specs.Stored.{places, at, Stored}
+use Rattle.kept.specs.Stored.{at, Stored}
 use Rattle.judged.specs.Passes.{columnOf}
 
 -- keys as their symbols
@@ -27,5 +28,5 @@ pub record Held (rows : List Entry) (words links : List ℕ) (count : ℕ) (halv
   pub tables : Rows rows
 
 -- a place of a column
-pub column-at : (columns : List ℕ) (c i : ℕ) → i < places → getD (columnOf columns c) i 0 ≡ at columns c i
-column-at columns c i h = getD-take places (drop (c * places) columns) i 0 h ∙ getD-drop (c * places) columns i 0
+pub column-at : (columns : List ℕ) (c i : ℕ) → i < mostPlaces → getD (columnOf columns c) i 0 ≡ at columns c i
+column-at columns c i h = getD-take mostPlaces (drop (c * mostPlaces) columns) i 0 h ∙ getD-drop (c * mostPlaces) columns i 0

@@ -9,8 +9,9 @@ use lib.Seq.{sets, length-sets}
 use Rattle.laws.specs.Prefix.{flag}
 use Rattle.laws.specs.Values.{tabulate}
 use Rattle.laws.proofs.Values.{written-at, any-default}
+use Rattle.arrays.specs.Room.{mostPlaces}
 use Rattle.symbols.specs.declared.Symbol.{Symbol}
-use Rattle.symbols.specs.Arrays.{symbols}
+use Rattle.symbols.specs.Arrays.{symbols, mostSymbols}
 use Rattle.symbols.proofs.FindLaws.{symbols-length}
 use Rattle.passes.specs.Marked.{under}
 use Rattle.verdicts.specs.Entries.{Entry, own}
@@ -35,10 +36,10 @@ zero-at (suc n) zero = refl
 zero-at (suc n) (suc j) = zero-at n j
 
 -- an array filled from the front
-filled-at : (fill : ℕ) (f : ℕ → ℕ) (n i d : ℕ) → n ≤ 14336 → i < n → getD (sets (replicate 14336 fill) 0 (tabulate f 0 n)) i d ≡ f i
+filled-at : (fill : ℕ) (f : ℕ → ℕ) (n i d : ℕ) → n ≤ mostPlaces → i < n → getD (sets (replicate mostPlaces fill) 0 (tabulate f 0 n)) i d ≡ f i
 filled-at fill f n i d few h =
-    any-default (sets (replicate 14336 fill) 0 (tabulate f 0 n)) i d 0 (rw (length-sets, length-replicate) (omega arith))
-    ∙ written-at f (replicate 14336 fill) n (rw length-replicate few) i h
+    any-default (sets (replicate mostPlaces fill) 0 (tabulate f 0 n)) i d 0 (rw (length-sets, length-replicate) (omega arith))
+    ∙ written-at f (replicate mostPlaces fill) n (rw length-replicate few) i h
 
 module _ (rows : List Entry) (words links : List ℕ) (count : ℕ) (halves bytes : List ℕ) (h : Held rows words links count halves bytes)
     (before after : List ℕ) (v : JudgedInto halves bytes before after (length rows)) where
@@ -48,24 +49,24 @@ module _ (rows : List Entry) (words links : List ℕ) (count : ℕ) (halves byte
   abbrev ls : List Symbol
   ls = symbols words count
 
-  few : n ≤ 14336
+  few : n ≤ mostPlaces
   few = h .stored .few
 
   formed-are : (i : ℕ) → i < n → getD (formedBy halves n) i 0 ≡ flag (eqb (own (rowAt rows i .reading)) 0)
   formed-are i p = filled-at 0 _ n i 0 few p ∙ ap (λ (k : ℕ). flag (eqb k 0)) (own-kept rows words links count halves bytes h i p)
 
-  zeros : Fresh ls (replicate 28672 0)
+  zeros : Fresh ls (replicate mostSymbols 0)
   zeros =
-      let e : length (replicate {A = ℕ} 28672 0) ≡ 28672 = length-replicate {A = ℕ} 28672 0 in
-      record { wide = omega (arith, symbols-length words count, h .stored .small); narrow = omega arith; clear = zero-at 28672 }
+      let e : length (replicate {A = ℕ} mostSymbols 0) ≡ mostSymbols = length-replicate {A = ℕ} mostSymbols 0 in
+      record { wide = omega (arith, symbols-length words count, h .stored .small); narrow = omega arith; clear = zero-at mostSymbols }
 
   facts-judged : Judged coding ls rows (v .sounds) (v .counted .tallies) (v .holders)
   facts-judged =
       judged coding ls rows (formedBy halves n) (columnOf halves key1Column) (columnOf halves key2Column) (columnOf halves groupColumn)
       (kept rows words links count halves bytes h (formedBy halves n) formed-are) (omega (arith, few))
-      (replicate 28672 0) (v .sound .once) (v .sound .twice) (replicate 14336 0) (v .sounds)
-      (replicate 28672 0) (v .counted .tallies) (replicate 28672 0) (v .held .once) (v .holders)
-      zeros (v .sound .first) (v .sound .second) (omega (arith, few, length-replicate {A = ℕ} 14336 0)) (v .sound .marked)
+      (replicate mostSymbols 0) (v .sound .once) (v .sound .twice) (replicate mostPlaces 0) (v .sounds)
+      (replicate mostSymbols 0) (v .counted .tallies) (replicate mostSymbols 0) (v .held .once) (v .holders)
+      zeros (v .sound .first) (v .sound .second) (omega (arith, few, length-replicate {A = ℕ} mostPlaces 0)) (v .sound .marked)
       zeros (v .counted .counted) zeros (v .held .first) (v .held .second)
 
   here : (xs : List ℕ) (c i : ℕ) → i < n → getD (columnOf xs c) i 0 ≡ at xs c i
@@ -74,7 +75,7 @@ module _ (rows : List Entry) (words links : List ℕ) (count : ℕ) (halves byte
   abbrev Finding : (found : List ℕ) → (column : ℕ) → Type 0
   Finding found column = (i : ℕ) → i < n → getD found i noRow ≡ rowOf (getD (v .holders) (at halves column i) 0)
 
-  found-at : (found : List ℕ) (column : ℕ) → FoundBy halves (v .holders) column (replicate 14336 noRow) found n → Finding found column
+  found-at : (found : List ℕ) (column : ℕ) → FoundBy halves (v .holders) column (replicate mostPlaces noRow) found n → Finding found column
   found-at found column e i p =
       ap (λ (l : List ℕ). getD l i noRow) e
       ∙ filled-at noRow _ n i noRow few p
@@ -93,7 +94,7 @@ module _ (rows : List Entry) (words links : List ℕ) (count : ℕ) (halves byte
   passed =
       record {
         soundAt = facts-judged .soundAt;
-        short = omega (arith, v .sound .marked .size, length-replicate {A = ℕ} 14336 0);
+        short = omega (arith, v .sound .marked .size, length-replicate {A = ℕ} mostPlaces 0);
         finds = facts-judged .finds;
         tallyAt = facts-judged .tallyAt;
         one = found-at (v .found1) name1Column (v .one);

@@ -7,6 +7,7 @@ use native.Mathlib.Omega.{arith}
 use lib.Dec.{eqb}
 use lib.ListN.{length, getD, drop}
 use Rattle.laws.specs.Prefix.{flag}
+use Rattle.arrays.specs.Room.{mostPlaces}
 use Rattle.symbols.specs.declared.Symbol.{Symbol}
 use Rattle.symbols.specs.Symbols.{noId, idOf}
 use Rattle.symbols.specs.Arrays.{symbols}
@@ -18,7 +19,7 @@ use Rattle.key_symbols.specs.Bounded.{Bounded}
 use Rattle.keys.specs.Held.{slotOf, namedOf, keysOf}
 use Rattle.keys.proofs.Fitting.{Fits, KeysFit, GroupsFit}
 use Rattle.meaning.specs.Kept.{Coding, firstId, Known, AllKnown, none, more, rowAt, KeptRow, Kept}
-use Rattle.kept.specs.Stored.{places, at, ownColumn, key1Column, key2Column, groupColumn, slotId, StoredRow, KnownRow, Stored}
+use Rattle.kept.specs.Stored.{at, ownColumn, key1Column, key2Column, groupColumn, slotId, StoredRow, KnownRow, Stored}
 use Rattle.judged.specs.Passes.{columnOf}
 use Rattle.judged.proofs.Held.{coding, Held, column-at}
 
@@ -63,7 +64,7 @@ module _ (rows : List Entry) (words links : List ℕ) (count : ℕ) (halves byte
       let s = h .stored .row i p in
       let k = h .stored .known i p in
       let f = h .fits i p in
-      let q : i < places = omega (arith, h .stored .few) in
+      let q : i < mostPlaces = omega (arith, h .stored .few) in
       record {
         formed = are i p;
         key1 = column-at halves key1Column i q ∙ s .key1 ∙ slot-first ls (facts (rowAt rows i) .keys);

@@ -8,6 +8,7 @@ use lib.Dec.{eqb}
 use lib.ListN.{length, drop}
 use borrow.Author.Tests.{eqb-false}
 use Rattle.laws.proofs.Cases.{false≢true}
+use Rattle.arrays.specs.Room.{mostPlaces}
 use Rattle.verdicts.specs.Key.{Key}
 use Rattle.verdicts.specs.Facts.{Naming, Facts}
 use Rattle.verdicts.specs.Entries.{Entry}
@@ -22,7 +23,7 @@ use Rattle.judging.proofs.CircleMeaning.{no-code}
 use Rattle.judging.proofs.Resolved.{Answers, Named, absent, present, namesIn, Names}
 use Rattle.findings.specs.Found.{rowOf}
 
-module _ (rows : List Entry) (few : length rows ≤ 14336) where
+module _ (rows : List Entry) (few : length rows ≤ mostPlaces) where
   -- the row that was found
   module _ (n : Naming) (x : ℕ) (finds : Finds rows (n .key) x) where
     row-there : (y : ℕ) → x ≡ y → (rowOf y ≡ noRow → ⊥) → (rowOf y < length rows) × (holds (rowAt rows (rowOf y)) (n .key) ≡ true)

@@ -7,6 +7,8 @@ use lib.ListN.{getD, replicate}
 use lib.Seq.{sets}
 use Rattle.laws.specs.Prefix.{flag}
 use Rattle.laws.specs.Values.{tabulate}
+use Rattle.arrays.specs.Room.{mostPlaces}
+use Rattle.symbols.specs.Arrays.{mostSymbols}
 use Rattle.judging.specs.Judged.{cellRows}
 use Rattle.passes.specs.Marked.{under}
 use Rattle.passes.specs.Counts.{Counted}
@@ -17,12 +19,12 @@ use Rattle.findings.specs.Found.{rowOf, countOf}
 use Rattle.judged.specs.Passes.{columnOf, formedBy, SoundBy, HoldersBy, CountsBy, FoundBy, judgedBy}
 
 pub formed-is : (halves : List ℕ) (n : ℕ) (own formed : List ℕ) → own ≡ columnOf halves ownColumn
-    → formed ≡ sets (replicate 14336 0) 0 (tabulate (λ i. flag (eqb (getD own i 0) 0)) 0 n) → formed ≡ formedBy halves n
+    → formed ≡ sets (replicate mostPlaces 0) 0 (tabulate (λ i. flag (eqb (getD own i 0) 0)) 0 n) → formed ≡ formedBy halves n
 formed-is halves n own formed e f = rw (← e) f
 
 module _ (halves : List ℕ) (n : ℕ) (formed key1 key2 : List ℕ) (is : formed ≡ formedBy halves n)
     (one : key1 ≡ columnOf halves key1Column) (two : key2 ≡ columnOf halves key2Column) where
-  pub sound-by : (before after once twice : List ℕ) → Counted formed key1 (replicate 28672 0) once n → Counted formed key2 once twice n
+  pub sound-by : (before after once twice : List ℕ) → Counted formed key1 (replicate mostSymbols 0) once n → Counted formed key2 once twice n
       → Filled (soundAt formed key1 key2 twice) before after n → SoundBy halves before after n
   sound-by before after once twice a b c =
       record { once = once; twice = twice; first = rw (← is, ← one) a; second = rw (← is, ← two) b; marked = rw (← is, ← one, ← two) c }
@@ -46,7 +48,7 @@ same-counts column₀ column key₀ key number₀ number tallies before n p q r 
 module _ (halves bytes : List ℕ) (n : ℕ) (group column key1 number : List ℕ)
     (a : group ≡ columnOf halves groupColumn) (b : column ≡ columnOf bytes countColumn)
     (c : key1 ≡ columnOf halves key1Column) (d : number ≡ columnOf halves numberColumn) where
-  pub counts-by : (sound before after tallies : List ℕ) → Counted sound group (replicate 28672 0) tallies n
+  pub counts-by : (sound before after tallies : List ℕ) → Counted sound group (replicate mostSymbols 0) tallies n
       → after ≡ sets before 0 (tabulate (λ i. countOf (getD column i 0) (getD number i 0) (under tallies key1 i)) 0 n)
       → CountsBy halves bytes sound before after n
   counts-by sound before after tallies t e =

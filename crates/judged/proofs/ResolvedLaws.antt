@@ -4,14 +4,15 @@ use mathlib.Core.Bool.{Bool, true, false, cond, _&&_, _||_}
 use mathlib.Core.List.{List, [], _∷_, _++_, map, List·Memᴰ, List·Memᴰ·head, List·Memᴰ·tail}
 use Prim.Native.Nat.{ℕ, zero, suc, _+_, _*_, _≤_, _<_, min}
 use native.Mathlib.Omega.{arith}
-use lib.Dec.{eqb, ltb}
+use lib.Dec.{eqb, ltb, leb}
 use lib.ListN.{length, getD, drop, List·getD-eq-default}
-use borrow.Author.Tests.{eq-eqb, ne-eqb, eqb-true, eqb-false, ltb-true, ltb-false}
+use borrow.Author.Tests.{eq-eqb, ne-eqb, eqb-true, eqb-false, ltb-true, ltb-false, leb-true}
 use Rattle.laws.specs.Lists.{orElse, first}
 use Rattle.laws.specs.Prefix.{flag}
-use Rattle.laws.proofs.Cases.{bool-cases, false≢true}
+use Rattle.laws.proofs.Cases.{bool-cases, false≢true, and-left, and-right}
 use Rattle.laws.proofs.Tests.{keep-length}
 use Rattle.laws.proofs.Values.{any-default}
+use Rattle.arrays.specs.Room.{mostPlaces}
 use Rattle.schemas.specs.Reasons.{verdict}
 use Rattle.symbols.specs.declared.Symbol.{Symbol}
 use Rattle.symbols.specs.Symbols.{noId, idOf}
@@ -38,7 +39,6 @@ use Rattle.meaning.specs.Found.{Finds}
 use Rattle.judging.proofs.Resolved.{Answers, Named, absent, present, namesIn, Names, Arrays, Layers, Resolved}
 use Rattle.judging.proofs.CircleMeaning.{no-code}
 use Rattle.kept.specs.Stored.{
-  places,
   at,
   ownColumn,
   key1Column,
@@ -62,21 +62,20 @@ use Rattle.judged.proofs.Held.{coding, Held, column-at}
 use Rattle.judged.proofs.KeptLaws.{own-kept}
 use Rattle.judged.proofs.NamedLaws.{names-are}
 
+-- every number of a list is at most m
+abbrev most : ℕ → List ℕ → Bool
+most m [] = true
+most m (x ∷ l) = leb x m && most m l
+
+most-at : (m : ℕ) (l : List ℕ) (i : ℕ) → most m l ≡ true → getD l i 0 ≤ m
+most-at m [] i e = omega arith
+most-at m (x ∷ l) zero e = leb-true x m (and-left (leb x m) (most m l) e)
+most-at m (x ∷ l) (suc i) e = most-at m l i (and-right (leb x m) (most m l) e)
+
 -- a rank is at most 3
 rank-most : (s : ℕ) → rank s ≤ 3
 unfolding rank ranks
-rank-most zero = omega arith
-rank-most (suc zero) = omega arith
-rank-most (suc (suc zero)) = omega arith
-rank-most (suc (suc (suc zero))) = omega arith
-rank-most (suc (suc (suc (suc zero)))) = omega arith
-rank-most (suc (suc (suc (suc (suc zero))))) = omega arith
-rank-most (suc (suc (suc (suc (suc (suc zero)))))) = omega arith
-rank-most (suc (suc (suc (suc (suc (suc (suc zero))))))) = omega arith
-rank-most (suc (suc (suc (suc (suc (suc (suc (suc zero)))))))) = omega arith
-rank-most (suc (suc (suc (suc (suc (suc (suc (suc (suc zero))))))))) = omega arith
-rank-most (suc (suc (suc (suc (suc (suc (suc (suc (suc (suc zero)))))))))) = omega arith
-rank-most (suc (suc (suc (suc (suc (suc (suc (suc (suc (suc (suc s))))))))))) = omega arith
+rank-most s = most-at 3 ranks s refl
 
 parameters-rank : rank parameters ≡ 1
 unfolding rank ranks
@@ -85,7 +84,7 @@ parameters-rank = refl
 -- what the passes leave
 pub record Passed (rows : List Entry) (ls : List Symbol) (halves bytes sounds holders tallies found1 found2 counts : List ℕ) : Type 0 where
   pub soundAt : (i : ℕ) → i < length rows → getD sounds i 0 ≡ flag (sound rows (rowAt rows i))
-  pub short : length sounds ≤ 14336
+  pub short : length sounds ≤ mostPlaces
   pub finds : (k : Key) → Bounded k → Finds rows k (getD holders (idOf (symbolOf k) ls) 0)
   pub tallyAt : (g : Key) → Known coding ls g → getD tallies (idOf (symbolOf g) ls) 0 ≡ tally rows g
   pub one : (i : ℕ) → i < length rows → getD found1 i noRow ≡ rowOf (getD holders (at halves name1Column i) 0)
@@ -116,7 +115,7 @@ module _ (rows : List Entry) (words links : List ℕ) (count : ℕ) (halves byte
       }
 
   module _ (i : ℕ) (p : i < length rows) where
-    inside : i < places
+    inside : i < mostPlaces
     inside = omega (arith, h .stored .few)
 
     marks-is : getD (columnOf bytes marksColumn) i 0 ≡ marksOf (factsAt i .meets)
@@ -193,12 +192,12 @@ module _ (rows : List Entry) (words links : List ℕ) (count : ℕ) (halves byte
     unfolding keysOf
     number-is = h .stored .row i p .number
 
-    few-members : (g : Key) → tally rows g ≤ 14336
+    few-members : (g : Key) → tally rows g ≤ mostPlaces
     unfolding tally
     few-members g = omega (arith, keep-length (λ o. belongs o g && sound rows o) rows, h .stored .few)
 
     -- a number that no tally reaches may be cut
-    cut : (t m : ℕ) → t ≤ 14336 → eqb t (min m 65535) ≡ eqb t m
+    cut : (t m : ℕ) → t ≤ mostPlaces → eqb t (min m 65535) ≡ eqb t m
     cut t m l =
         bool-cases (ltb m 65535) (λ q. let e : min m 65535 ≡ m = omega (arith, ltb-true m 65535 q) in rw e)
         (λ q. ne-eqb t (min m 65535) (λ z. omega (arith, ltb-false m 65535 q, z)) ∙ sym (ne-eqb t m (λ z. omega (arith, ltb-false m 65535 q, z))))

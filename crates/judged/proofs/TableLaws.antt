@@ -5,8 +5,7 @@ use Prim.Native.Nat.{ℕ, _<_}
 use native.Mathlib.Omega.{arith}
 use lib.ListN.{length, getD}
 use lib.Seq.{sets}
-use Rattle.schemas.specs.declared.Table.the-variants.{Ocp}
-use Rattle.verdicts.specs.Entries.{Entry, facts, carried, allRows}
+use Rattle.verdicts.specs.Entries.{Entry, facts, allRows, carriedAt}
 use Rattle.verdicts.specs.Verdicts.{verdicts}
 use Rattle.verdicts.specs.Places.{textAt, noLine}
 use Rattle.keys.proofs.Fitting.{Fits}
@@ -29,7 +28,7 @@ module _ (texts : List (List ℕ)) (s₀ s : Arrays) (rows symbols : ℕ) (k : K
       let w = k .situated i (omega (arith, k .count)) in
       let t : ℕ = at (s .bytes) tableColumn i in
       subst (λ (e : Entry). Fits (facts e)) (sym (row-again texts t (at (s .halves) startColumn i) i w noEntry))
-      (row-fits (getD carried t Ocp) _ (λ j. lines-below (textAt texts t) noLine (λ i. omega arith) (λ i. k .below t i (w .below)) _ j))
+      (row-fits (carriedAt t) _ (λ j. lines-below (textAt texts t) noLine (λ i. omega arith) (λ i. k .below t i (w .below)) _ j))
 
   pub held : Held (allRows texts) (s .words) (s .links) symbols (s .halves) (s .bytes)
   held = record { stored = k .stored; fits = fits; tables = table-rows texts }

@@ -7,13 +7,14 @@ use lib.ListN.{length, getD, take, drop, replicate}
 use lib.Seq.{sets}
 use Rattle.laws.specs.Prefix.{flag}
 use Rattle.laws.specs.Values.{tabulate}
+use Rattle.arrays.specs.Room.{mostPlaces}
+use Rattle.symbols.specs.Arrays.{mostSymbols}
 use Rattle.passes.specs.Marked.{under}
 use Rattle.passes.specs.Counts.{Counted}
 use Rattle.passes.specs.Holders.{Noted, Filled}
 use Rattle.passes.specs.Sound.{soundAt}
 use Rattle.judging.specs.Judged.{cellRows}
 use Rattle.kept.specs.Stored.{
-  places,
   ownColumn,
   key1Column,
   key2Column,
@@ -30,17 +31,17 @@ use Rattle.findings.specs.Found.{rowOf, countOf}
 
 -- column c by itself
 abbrev pub columnOf : List ℕ → ℕ → List ℕ
-columnOf columns c = take places (drop (c * places) columns)
+columnOf columns c = take mostPlaces (drop (c * mostPlaces) columns)
 
 -- the rows without reasons 1 to 8
 abbrev pub formedBy : List ℕ → ℕ → List ℕ
-formedBy halves n = sets (replicate 14336 0) 0 (tabulate (λ i. flag (eqb (getD (columnOf halves ownColumn) i 0) 0)) 0 n)
+formedBy halves n = sets (replicate mostPlaces 0) 0 (tabulate (λ i. flag (eqb (getD (columnOf halves ownColumn) i 0) 0)) 0 n)
 
 -- the holders of each key are counted, and the rows marked that are alone in holding theirs
 pub record SoundBy (halves before after : List ℕ) (n : ℕ) : Type 0 where
   pub once : List ℕ
   pub twice : List ℕ
-  pub first : Counted (formedBy halves n) (columnOf halves key1Column) (replicate 28672 0) once n
+  pub first : Counted (formedBy halves n) (columnOf halves key1Column) (replicate mostSymbols 0) once n
   pub second : Counted (formedBy halves n) (columnOf halves key2Column) once twice n
   pub marked : Filled (soundAt (formedBy halves n) (columnOf halves key1Column) (columnOf halves key2Column) twice) before after n
 
@@ -53,7 +54,7 @@ pub record HoldersBy (marks halves before after : List ℕ) (n : ℕ) : Type 0 w
 -- the sound rows of each group are counted, and compared with the numbers that rows say
 pub record CountsBy (halves bytes sound before after : List ℕ) (n : ℕ) : Type 0 where
   pub tallies : List ℕ
-  pub counted : Counted sound (columnOf halves groupColumn) (replicate 28672 0) tallies n
+  pub counted : Counted sound (columnOf halves groupColumn) (replicate mostSymbols 0) tallies n
   pub compared : after
       ≡ sets before 0 (tabulate (λ i. countOf
       (getD (columnOf bytes countColumn) i 0) (getD (columnOf halves numberColumn) i 0) (under tallies (columnOf halves key1Column) i)) 0 n)
@@ -74,9 +75,9 @@ pub record JudgedInto (halves bytes before after : List ℕ) (n : ℕ) : Type 0 
   pub counts : List ℕ
   pub found1 : List ℕ
   pub found2 : List ℕ
-  pub sound : SoundBy halves (replicate 14336 0) sounds n
-  pub held : HoldersBy (formedBy halves n) halves (replicate 28672 0) holders n
-  pub counted : CountsBy halves bytes sounds (replicate 14336 0) counts n
-  pub one : FoundBy halves holders name1Column (replicate 14336 65535) found1 n
-  pub two : FoundBy halves holders name2Column (replicate 14336 65535) found2 n
+  pub sound : SoundBy halves (replicate mostPlaces 0) sounds n
+  pub held : HoldersBy (formedBy halves n) halves (replicate mostSymbols 0) holders n
+  pub counted : CountsBy halves bytes sounds (replicate mostPlaces 0) counts n
+  pub one : FoundBy halves holders name1Column (replicate mostPlaces 65535) found1 n
+  pub two : FoundBy halves holders name2Column (replicate mostPlaces 65535) found2 n
   pub judged : after ≡ sets before 0 (judgedBy halves bytes sounds counts found1 found2 n)

@@ -3,7 +3,6 @@ use crate::parts::CODE1;
 use crate::parts::CODE2;
 use crate::parts::COUNT;
 use crate::parts::GROUP;
-use crate::parts::IDS;
 use crate::parts::KEY1;
 use crate::parts::KEY2;
 use crate::parts::MARKS;
@@ -11,9 +10,9 @@ use crate::parts::NAME1;
 use crate::parts::NAME2;
 use crate::parts::NUMBER;
 use crate::parts::OWN;
-use crate::parts::PLACES;
 use crate::parts::byte_column;
 use crate::parts::half_column;
+use arrays::PLACES;
 use chains::rows::NO_ROW;
 use findings::count_rows;
 use findings::find_rows;
@@ -22,6 +21,7 @@ use judging::judge_rows;
 use passes::counts::count_ids;
 use passes::holders::note_rows;
 use passes::sound::mark_sound;
+use symbols::SYMBOLS;
 ghost use mathlib.Core.Path.{_≡_};
 ghost use lib.Seq.{sets};
 ghost use Rattle.kept.specs.Stored.{name1Column, name2Column};
@@ -34,7 +34,7 @@ fn sound_rows(halves: &[u16], sound: &mut [u8], n: usize)
     ensures { λ _. ⌜ SoundBy (now (halves .entry)) (now (sound .entry)) (now (sound .exit)) n ⌝ }
 {
     let mut formed = [0u8; PLACES];
-    let mut holders = [0u16; IDS];
+    let mut holders = [0u16; SYMBOLS];
     mark_formed(half_column(halves, OWN), &mut formed, n);
     let key1 = half_column(halves, KEY1);
     let key2 = half_column(halves, KEY2);
@@ -64,7 +64,7 @@ fn holder_rows(halves: &[u16], holders: &mut [u16], n: usize)
 fn count_cells(halves: &[u16], bytes: &[u8], sound: &[u8], counts: &mut [u16], n: usize)
     ensures { λ _. ⌜ CountsBy (now (halves .entry)) (now (bytes .entry)) (now (sound .entry)) (now (counts .entry)) (now (counts .exit)) n ⌝ }
 {
-    let mut tallies = [0u16; IDS];
+    let mut tallies = [0u16; SYMBOLS];
     count_ids(sound, half_column(halves, GROUP), &mut tallies, n);
     count_rows(
         byte_column(bytes, COUNT),
@@ -118,7 +118,7 @@ pub fn judge_kept(halves: &[u16], bytes: &[u8], cells: &mut [u16], n: usize)
     ensures { λ _. ⌜ JudgedInto (now (halves .entry)) (now (bytes .entry)) (now (cells .entry)) (now (cells .exit)) n ⌝ }
 {
     let mut sound = [0u8; PLACES];
-    let mut holders = [0u16; IDS];
+    let mut holders = [0u16; SYMBOLS];
     let mut counts = [0u16; PLACES];
     let mut found1 = [NO_ROW; PLACES];
     let mut found2 = [NO_ROW; PLACES];

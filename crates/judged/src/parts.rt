@@ -1,12 +1,8 @@
 // The columns of what is kept of the rows, each a part of one array.
+use arrays::PLACES;
 ghost use mathlib.Core.Path.{_≡_};
 ghost use Prim.Native.Nat.{min};
 ghost use Rattle.judged.specs.Passes.{columnOf};
-
-// A column has this many places, and keys have as many ids.
-pub const PLACES: usize = 14336;
-
-pub const IDS: usize = 28672;
 
 pub const OWN: u8 = 0;
 

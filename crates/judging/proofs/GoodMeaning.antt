@@ -22,7 +22,7 @@ use Rattle.manners.specs.Manners.{mannerAt}
 use Rattle.chains.specs.Chains.{noRow, firmFrom}
 use Rattle.chains.proofs.DepthLaws.{firm-within}
 use Rattle.names.specs.Names.{askedAt, metAt, nameAt, finalOf, firmOf}
-use Rattle.judging.specs.Judged.{nextOf}
+use Rattle.judging.specs.Judged.{nextOf, longest}
 use Rattle.judging.proofs.Resolved.{rowAt, Answers, Named, absent, present, Arrays, code1, row1, code2, row2, Resolved, isGood, good-sound}
 use Rattle.judging.proofs.KindMeaning.{kindsIn, met-is}
 use Rattle.judging.proofs.CircleMeaning.{flag-one, no-code, mark-is, no-mark}
@@ -289,26 +289,26 @@ module _ (rows : List Entry) (w : Arrays) (layer : ℕ → ℕ) (v : Resolved ro
         and-true true = refl
         and-true false = refl
 
-    quiet-firm : (i : ℕ) → i < length rows → layer i ≡ 0 → firmFrom next firm 14337 i ≡ isGood rows (rowAt rows i)
+    quiet-firm : (i : ℕ) → i < length rows → layer i ≡ 0 → firmFrom next firm longest i ≡ isGood rows (rowAt rows i)
     unfolding firmOf nextOf metAt
     quiet-firm i p e =
         let c = v .layers .quiet i p e in
         let u : mannerAt (code1 w i) .chained ≡ false = no-code (code1 w i) (c .0) in
         let q : getD next i noRow ≡ noRow = nexts i p ∙ rw u in
-        alone-firm 14337 i (omega arith) q ∙ firm-says i p ∙ rw (u, eq-eqb (code1 w i) 0 (c .0), eq-eqb (code2 w i) 0 (c .1)) (and-all (eqb (baseIn rows (rowAt rows i)) 0)) ∙ quiet-good i p (c .0) (c .1)
+        alone-firm longest i (omega arith) q ∙ firm-says i p ∙ rw (u, eq-eqb (code1 w i) 0 (c .0), eq-eqb (code2 w i) 0 (c .1)) (and-all (eqb (baseIn rows (rowAt rows i)) 0)) ∙ quiet-good i p (c .0) (c .1)
       where
         and-all : (b : Bool) → (b && true) ≡ b
         and-all true = refl
         and-all false = refl
 
     -- so chains say which rows of layers 0 and 1 are good
-    pub chained-says : (g : List ℕ) → ((j : ℕ) → j < length rows → getD g j 0 ≡ flag (firmFrom next firm 14337 j)) → Says 1 g
+    pub chained-says : (g : List ℕ) → ((j : ℕ) → j < length rows → getD g j 0 ≡ flag (firmFrom next firm longest j)) → Says 1 g
     unfolding verdict
     chained-says g h j q l = h j q ∙ ap flag (go (layer j) refl l)
       where
-        go : (k : ℕ) → layer j ≡ k → k ≤ 1 → firmFrom next firm 14337 j ≡ isGood rows (rowAt rows j)
+        go : (k : ℕ) → layer j ≡ k → k ≤ 1 → firmFrom next firm longest j ≡ isGood rows (rowAt rows j)
         go zero e m = quiet-firm j q e
         go (suc zero) e m =
-            same-test _ _ (λ t. eq-eqb _ 0 (chain-good 14337 j q e t))
-            (λ t. firm-within next firm (suc (length rows)) 14337 j (omega (arith, v .few)) (good-chain (suc (length rows)) j q e (omega arith) t))
+            same-test _ _ (λ t. eq-eqb _ 0 (chain-good longest j q e t))
+            (λ t. firm-within next firm (suc (length rows)) longest j (omega (arith, v .few)) (good-chain (suc (length rows)) j q e (omega arith) t))
         go (suc (suc k)) e m = absurd (omega arith)

@@ -8,9 +8,10 @@ use lib.Seq.{sets, length-sets}
 use Rattle.laws.specs.Prefix.{flag}
 use Rattle.laws.specs.Values.{tabulate}
 use Rattle.laws.proofs.Values.{written-at, any-default}
+use Rattle.arrays.specs.Room.{mostPlaces}
 use Rattle.chains.specs.Chains.{noRow, firmFrom}
 use Rattle.names.specs.Names.{finalAt, firmAt}
-use Rattle.judging.specs.Judged.{filled, zeroAt, circlesOf, nextOf, baseOf, chainedAt, goodAt, cellAt, kindRows, cellsBy, cellRows}
+use Rattle.judging.specs.Judged.{filled, zeroAt, circlesOf, nextOf, baseOf, chainedAt, goodAt, cellAt, kindRows, cellsBy, cellRows, longest}
 
 pub bases-law : (own sound counts next before : List ℕ) (n : ℕ) (circles base : List ℕ) → circles ≡ circlesOf next n
     → base ≡ sets before 0 (tabulate (λ i. baseOf (getD own i 0) (getD sound i 0) (getD counts i 0) (getD circles i 0)) 0 n)
@@ -18,19 +19,19 @@ pub bases-law : (own sound counts next before : List ℕ) (n : ℕ) (circles bas
 bases-law own sound counts next before n circles base c b = rw (← c) b
 
 -- an array filled from the front
-pub filled-at : (fill : ℕ) (f : ℕ → ℕ) (n i d : ℕ) → n ≤ 14336 → i < n → getD (filled fill f n) i d ≡ f i
+pub filled-at : (fill : ℕ) (f : ℕ → ℕ) (n i d : ℕ) → n ≤ mostPlaces → i < n → getD (filled fill f n) i d ≡ f i
 filled-at fill f n i d few h =
-    any-default (filled fill f n) i d 0 (rw (length-sets, length-replicate) (omega arith)) ∙ written-at f (replicate 14336 fill) n (rw length-replicate few) i h
+    any-default (filled fill f n) i d 0 (rw (length-sets, length-replicate) (omega arith)) ∙ written-at f (replicate mostPlaces fill) n (rw length-replicate few) i h
 
 module _ (kinds base codes1 found1 codes2 found2 next : List ℕ) (n : ℕ) (before : List ℕ) where
   pub chained-law : (clean firm chained : List ℕ)
       → clean ≡ filled 0 (zeroAt base) n
       → firm ≡ filled 0 (firmAt kinds base codes1 found1 codes2 found2 clean next) n
-      → chained ≡ sets before 0 (tabulate (λ i. flag (firmFrom next firm 14337 i)) 0 n)
+      → chained ≡ sets before 0 (tabulate (λ i. flag (firmFrom next firm longest i)) 0 n)
       → chained ≡ sets before 0 (tabulate (chainedAt kinds base codes1 found1 codes2 found2 next n) 0 n)
   chained-law clean firm chained c f h =
       let are = f ∙ ap (λ (l : List ℕ). filled 0 (firmAt kinds base codes1 found1 codes2 found2 l next) n) c in
-      h ∙ ap (λ (l : List ℕ). sets before 0 (tabulate (λ i. flag (firmFrom next l 14337 i)) 0 n)) are
+      h ∙ ap (λ (l : List ℕ). sets before 0 (tabulate (λ i. flag (firmFrom next l longest i)) 0 n)) are
 
   pub good-law : (chained cells good : List ℕ)
       → chained ≡ filled 0 (chainedAt kinds base codes1 found1 codes2 found2 next n) n

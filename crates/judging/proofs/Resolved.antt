@@ -9,6 +9,7 @@ use borrow.Author.Tests.{eq-eqb, eqb-true}
 use Rattle.laws.specs.Lists.{first}
 use Rattle.laws.specs.Prefix.{flag}
 use Rattle.laws.proofs.Lists.{at-mem}
+use Rattle.arrays.specs.Room.{mostPlaces}
 use Rattle.verdicts.specs.Facts.{Condition, Naming}
 use Rattle.verdicts.specs.Entries.{Entry, bad, own, facts}
 use Rattle.verdicts.specs.Steps.{twin, holds}
@@ -83,11 +84,11 @@ pub record Layers (w : Arrays) (n : ℕ) (layer : ℕ → ℕ) : Type 0 where
   pub below2 : (i : ℕ) → i < n → (code2 w i ≡ 0 → ⊥) → (row2 w i ≡ noRow → ⊥) → layer (row2 w i) < layer i
 
 pub record Resolved (rows : List Entry) (w : Arrays) (layer : ℕ → ℕ) : Type 0 where
-  pub few : length rows ≤ 14336
+  pub few : length rows ≤ mostPlaces
   pub twins : (i j : ℕ) → i < length rows → j < length rows → twin (rowAt rows i) (rowAt rows j) ≡ true → i ≡ j
   pub owns : (i : ℕ) → i < length rows → getD (w .own) i 0 ≡ own (rowAt rows i .reading)
   pub sounds : (i : ℕ) → i < length rows → getD (w .sound) i 0 ≡ flag (sound rows (rowAt rows i))
-  pub short : length (w .sound) ≤ 14336
+  pub short : length (w .sound) ≤ mostPlaces
   pub counted : (i : ℕ) → i < length rows → own (rowAt rows i .reading) ≡ 0
       → getD (w .counts) i 0 ≡ first (map (countCell rows) (facts (rowAt rows i) .counts))
   pub named : (i : ℕ) → i < length rows → own (rowAt rows i .reading) ≡ 0

@@ -1,6 +1,6 @@
 -- The verdicts of rows from what their namings found, over arrays by row. These definitions are for the code: what they mean for the
 -- tables is `judged-are`.
-use Prim.Native.Nat.{ℕ}
+use Prim.Native.Nat.{ℕ, suc}
 use mathlib.Core.Path.{_≡_, refl}
 use mathlib.Core.Bool.{cond, _&&_}
 use mathlib.Core.List.{List, [], _∷_}
@@ -10,6 +10,7 @@ use lib.Seq.{sets}
 use Rattle.laws.specs.Lists.{orElse}
 use Rattle.laws.specs.Prefix.{flag}
 use Rattle.laws.specs.Values.{tabulate}
+use Rattle.arrays.specs.Room.{mostPlaces}
 use Rattle.schemas.specs.Reasons.{verdict}
 use Rattle.manners.specs.Manners.{manners, mannerAt}
 use Rattle.chains.specs.Chains.{noRow, comesTo, firmFrom}
@@ -30,7 +31,11 @@ baseOf own sound count circle =
 -- ---- the arrays that the passes fill, from the front
 
 abbrev pub filled : (fill : ℕ) → (ℕ → ℕ) → (n : ℕ) → List ℕ
-filled fill f n = sets (replicate 14336 fill) 0 (tabulate f 0 n)
+filled fill f n = sets (replicate mostPlaces fill) 0 (tabulate f 0 n)
+
+-- a chain that ends has fewer rows than this
+abbrev pub longest : ℕ
+longest = suc mostPlaces
 
 -- rows with a verdict of 0
 abbrev pub zeroAt : List ℕ → ℕ → ℕ
@@ -52,7 +57,7 @@ module _ (kinds base codes1 found1 codes2 found2 next : List ℕ) (n : ℕ) wher
 
   -- good along VALID chains
   abbrev pub chainedAt : ℕ → ℕ
-  chainedAt i = flag (firmFrom next firmRows 14337 i)
+  chainedAt i = flag (firmFrom next firmRows longest i)
 
   -- good by rows that are good along chains
   abbrev pub goodAt : ℕ → ℕ

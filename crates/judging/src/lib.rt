@@ -1,6 +1,7 @@
 // The verdicts of rows from what their keys and namings were found to be, over arrays by row.
 use crate::base::base_rows;
 use crate::base::next_rows;
+use arrays::PLACES;
 use chains::mark_circles;
 use chains::mark_firm;
 use chains::rows::NO_ROW;
@@ -16,17 +17,14 @@ ghost use Rattle.judging.specs.Judged.{circlesOf, baseOf, chainedAt, goo
 
 mod base;
 
-// The most rows that are judged.
-const ROWS: usize = 14336;
-
 // A chain that ends has fewer rows than this.
-const LONGEST: usize = 14337;
+const LONGEST: usize = PLACES + 1;
 
 // Reasons 1 to 10 and 12 of the first n rows, by the next row of each.
 fn judge_bases(own: &[u16], sound: &[u8], counts: &[u16], next: &[u16], base: &mut [u16], n: usize)
     ensures { λ _. ⌜ now (base .exit) ≡ sets (now (base .entry)) 0 (tabulate (λ i. baseOf (getD (now (own .entry)) i 0) (getD (now (sound .entry)) i 0) (getD (now (counts .entry)) i 0) (getD (circlesOf (now (next .entry)) n) i 0)) 0 n) ⌝ }
 {
-    let mut circles = [0u8; ROWS];
+    let mut circles = [0u8; PLACES];
     mark_circles(next, &mut circles, n);
     base_rows(own, sound, counts, &circles, base, n);
 }
@@ -45,8 +43,8 @@ fn chained_rows(
 )
     ensures { λ _. ⌜ now (chained .exit) ≡ sets (now (chained .entry)) 0 (tabulate (chainedAt (now (kinds .entry)) (now (base .entry)) (now (codes1 .entry)) (now (found1 .entry)) (now (codes2 .entry)) (now (found2 .entry)) (now (next .entry)) n) 0 n) ⌝ }
 {
-    let mut clean = [0u8; ROWS];
-    let mut firm = [0u8; ROWS];
+    let mut clean = [0u8; PLACES];
+    let mut firm = [0u8; PLACES];
     mark_zeros(base, &mut clean, n);
     firm_rows(
         kinds,
@@ -77,8 +75,8 @@ fn good_rows(
 )
     ensures { λ _. ⌜ now (good .exit) ≡ sets (now (good .entry)) 0 (tabulate (goodAt (now (kinds .entry)) (now (base .entry)) (now (codes1 .entry)) (now (found1 .entry)) (now (codes2 .entry)) (now (found2 .entry)) (now (next .entry)) n) 0 n) ⌝ }
 {
-    let mut chained = [0u8; ROWS];
-    let mut cells = [0u16; ROWS];
+    let mut chained = [0u8; PLACES];
+    let mut cells = [0u16; PLACES];
     chained_rows(
         kinds,
         base,
@@ -118,7 +116,7 @@ fn judge_names(
 )
     ensures { λ _. ⌜ now (cells .exit) ≡ sets (now (cells .entry)) 0 (tabulate (cellAt (now (kinds .entry)) (now (base .entry)) (now (codes1 .entry)) (now (found1 .entry)) (now (codes2 .entry)) (now (found2 .entry)) (now (next .entry)) n) 0 n) ⌝ }
 {
-    let mut good = [0u8; ROWS];
+    let mut good = [0u8; PLACES];
     good_rows(
         kinds,
         base,
@@ -148,8 +146,8 @@ fn judge_kinds(
 )
     ensures { λ _. ⌜ now (cells .exit) ≡ sets (now (cells .entry)) 0 (cellsBy (now (own .entry)) (now (sound .entry)) (now (counts .entry)) (now (codes1 .entry)) (now (found1 .entry)) (now (codes2 .entry)) (now (found2 .entry)) n (now (kinds .entry))) ⌝ }
 {
-    let mut next = [NO_ROW; ROWS];
-    let mut base = [0u16; ROWS];
+    let mut next = [NO_ROW; PLACES];
+    let mut base = [0u16; PLACES];
     next_rows(sound, codes1, found1, &mut next, n);
     judge_bases(own, sound, counts, &next, &mut base, n);
     judge_names(
@@ -181,7 +179,7 @@ pub fn judge_rows(
 )
     ensures { λ _. ⌜ now (cells .exit) ≡ sets (now (cells .entry)) 0 (cellRows (now (own .entry)) (now (sound .entry)) (now (counts .entry)) (now (codes1 .entry)) (now (found1 .entry)) (now (codes2 .entry)) (now (found2 .entry)) (now (marks .entry)) n) ⌝ }
 {
-    let mut kinds = [0u8; ROWS];
+    let mut kinds = [0u8; PLACES];
     kind_rows(marks, codes1, found1, codes2, found2, &mut kinds, n);
     judge_kinds(
         own,

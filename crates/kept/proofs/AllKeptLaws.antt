@@ -10,18 +10,20 @@ use lib.ListN.{length, getD, drop}
 use borrow.Author.Tests.{ltb-true, ltb-false}
 use Rattle.laws.proofs.Cases.{bool-cases}
 use Rattle.laws.proofs.Lists.{split}
+use Rattle.arrays.specs.Room.{mostPlaces}
+use Rattle.symbols.specs.Arrays.{mostSymbols}
 use Rattle.lines.specs.Lines.{linesOf}
 use Rattle.schemas.specs.declared.Table.{Table}
 use Rattle.schemas.specs.declared.Table.the-variants.{Ocp}
-use Rattle.verdicts.specs.Entries.{bad, Entry, own, facts, carried, allRows}
-use Rattle.verdicts.specs.Answer.{tooLong, tooManyRows}
+use Rattle.verdicts.specs.Entries.{bad, Entry, own, facts, carried, allRows, tableCount, carriedAt}
+use Rattle.verdicts.specs.Answer.{tooLong, tooManyRows, mostRows}
 use Rattle.verdicts.specs.Places.{textAt, entryAt, rowsBefore, place}
 use Rattle.verdicts.proofs.EntryLaws.{rows-before-next, length-rows, row-at}
 use Rattle.keys.specs.declared.records.RowKeys.{RowKeys}
 use Rattle.keys.specs.Held.{keysOf, rowKeysOf}
 use Rattle.tables.proofs.SizeLaws.{short, few}
+use Rattle.kept.proofs.RoomLaws.{roomy}
 use Rattle.kept.specs.Stored.{at, startColumn, tableColumn, keysAt, Stored}
-use Rattle.kept.specs.Ids.{mostSymbols}
 use Rattle.kept.specs.Asked.{asks, asksOf}
 use Rattle.kept.specs.FirstPass.{Arrays, Ready, Onward, RowAt, lineAt, StartsAt, TableKept, Situated, Situations, SameSizes}
 use Rattle.kept.proofs.FirstPassLaws.{row-stays, ready-on}
@@ -32,8 +34,8 @@ noEntry = record { table = 0; row = 0; reading = bad 1 }
 -- ---- rows by their tables and lines
 
 -- the keys of row j of table t
-pub keys-at : (texts : List (List ℕ)) (t j : ℕ) → t < 10 → j < length (linesOf (textAt texts t))
-    → keysAt (allRows texts) (rowsBefore texts t + j) ≡ rowKeysOf (getD carried t Ocp) (lineAt (textAt texts t) j)
+pub keys-at : (texts : List (List ℕ)) (t j : ℕ) → t < tableCount → j < length (linesOf (textAt texts t))
+    → keysAt (allRows texts) (rowsBefore texts t + j) ≡ rowKeysOf (carriedAt t) (lineAt (textAt texts t) j)
 unfolding rowKeysOf entryAt place
 keys-at texts t j h l =
     let s : suc j - 1 ≡ j = omega arith in
@@ -42,7 +44,7 @@ keys-at texts t j h l =
 
 -- ---- what the columns tell of a row's place
 
-situated-new : (texts : List (List ℕ)) (t j start i : ℕ) → t < 10 → j < length (linesOf (textAt texts t)) → i ≡ rowsBefore texts t + j
+situated-new : (texts : List (List ℕ)) (t j start i : ℕ) → t < tableCount → j < length (linesOf (textAt texts t)) → i ≡ rowsBefore texts t + j
     → StartsAt (textAt texts t) j start → Situated texts t start i
 situated-new texts t j start i h l e w =
     let z : i - rowsBefore texts t ≡ j = omega arith in
@@ -62,29 +64,29 @@ situated-stays texts i o h w = rw (o .bytes tableColumn i h, o .halves startColu
 
 -- the rows of the tables before t are stored, and there is room for the symbols of the others
 pub record Passed (texts : List (List ℕ)) (s₀ s : Arrays) (rows t : ℕ) : Type 0 where
-  pub within : t ≤ 10
+  pub within : t ≤ tableCount
   pub count : rows ≡ rowsBefore texts t
-  pub most : rows ≤ 1024 * t
-  pub room : s .count + 1024 * asksOf (drop t carried) ≤ mostSymbols
+  pub most : rows ≤ mostRows * t
+  pub room : s .count + mostRows * asksOf (drop t carried) ≤ mostSymbols
   pub ready : Ready s
   pub sizes : SameSizes s₀ s
   pub row : (i : ℕ) → i < rows → RowAt s (keysAt (allRows texts) i) i
   pub situated : Situations texts (s .halves) (s .bytes) rows
   pub below : (u i : ℕ) → u < t → getD (textAt texts u) i 0 < 256
 
-asks-next : (t : ℕ) → t < 10 → asksOf (drop t carried) ≡ asks (getD carried t Ocp) + asksOf (drop (t + 1) carried)
+asks-next : (t : ℕ) → t < tableCount → asksOf (drop t carried) ≡ asks (carriedAt t) + asksOf (drop (t + 1) carried)
 unfolding asksOf
 asks-next t h = rw (split carried t Ocp h)
 
-module _ (texts : List (List ℕ)) (ten : length texts ≡ 10) (s₀ : Arrays) where
+module _ (texts : List (List ℕ)) (all : length texts ≡ tableCount) (s₀ : Arrays) where
   pub pass-start : Ready s₀ → s₀ .count ≡ 0 → Passed texts s₀ s₀ 0 0
-  unfolding rowsBefore asksOf asks
+  unfolding rowsBefore
   pass-start z e =
       record {
         within = omega arith;
         count = refl;
         most = omega arith;
-        room = omega arith;
+        room = omega (arith, roomy .symbols);
         ready = z;
         sizes = record { words = refl; links = refl; halves = refl; bytes = refl };
         row = λ i h. absurd (omega arith);
@@ -92,25 +94,25 @@ module _ (texts : List (List ℕ)) (ten : length texts ≡ 10) (s₀ : Arrays) w
         below = λ u i l. absurd (omega arith);
       }
 
-  module _ (s : Arrays) (rows t : ℕ) (p : Passed texts s₀ s rows t) (m : tooManyRows texts ≡ 0) (h : t < 10) where
+  module _ (s : Arrays) (rows t : ℕ) (p : Passed texts s₀ s rows t) (m : tooManyRows texts ≡ 0) (h : t < tableCount) where
     abbrev table : Table
-    table = getD carried t Ocp
+    table = carriedAt t
 
     abbrev text : List ℕ
     text = getD texts t []
 
-    lines : length (linesOf text) ≤ 1024
+    lines : length (linesOf text) ≤ mostRows
     lines = few texts t (omega arith) m
 
     -- there is a place for each row of the next table, and for its symbols
-    pass-places : rows + length (linesOf text) ≤ 14336
-    pass-places = omega (arith, p .most, lines)
+    pass-places : rows + length (linesOf text) ≤ mostPlaces
+    pass-places = omega (arith, p .most, lines, roomy .rows)
 
-    fewer : length (linesOf text) * asks table ≤ 1024 * asks table
+    fewer : length (linesOf text) * asks table ≤ mostRows * asks table
     fewer = mul-le-mul-right (asks table) lines
 
     pass-room : s .count + length (linesOf text) * asks table ≤ mostSymbols
-    pass-room = omega (arith, p .room, asks-next t h, fewer, mul-add 1024 (asks table) (asksOf (drop (t + 1) carried)))
+    pass-room = omega (arith, p .room, asks-next t h, fewer, mul-add mostRows (asks table) (asksOf (drop (t + 1) carried)))
 
     module _ (s′ : Arrays) (k : TableKept s s′ table t text rows (length (linesOf text))) where
       -- a row of the tables before, or of the next
@@ -146,7 +148,7 @@ module _ (texts : List (List ℕ)) (ten : length texts ≡ 10) (s₀ : Arrays) w
             within = omega arith;
             count = e ∙ rw (add-one t, rows-before-next texts t, p .count);
             most = omega (arith, p .most, lines);
-            room = omega (arith, p .room, asks-next t h, fewer, mul-add 1024 (asks table) (asksOf (drop (t + 1) carried)), o .grown .few);
+            room = omega (arith, p .room, asks-next t h, fewer, mul-add mostRows (asks table) (asksOf (drop (t + 1) carried)), o .grown .few);
             ready = ready-on o (p .ready);
             sizes = record {
               words = o .grown .words ∙ p .sizes .words;
@@ -165,7 +167,7 @@ module _ (texts : List (List ℕ)) (ten : length texts ≡ 10) (s₀ : Arrays) w
       pub next-short : tooLong texts ≡ 0 → length u ≤ 65536
       next-short l = rw is (short texts t (omega arith) l)
 
-      pub next-places : rows + length (linesOf u) ≤ 14336
+      pub next-places : rows + length (linesOf u) ≤ mostPlaces
       next-places = rw is pass-places
 
       pub next-room : s .count + length (linesOf u) * asks table ≤ mostSymbols
@@ -175,15 +177,15 @@ module _ (texts : List (List ℕ)) (ten : length texts ≡ 10) (s₀ : Arrays) w
           → ((i : ℕ) → getD u i 0 < 256) → Passed texts s₀ s′ rows′ (t + 1)
       pass-next s′ rows′ k e b = pass-more s′ (rw is at k) rows′ (rw is at e) (λ i. rw is at (b i))
 
-  module _ (s : Arrays) (rows t : ℕ) (p : Passed texts s₀ s rows t) (h : 10 ≤ t) where
+  module _ (s : Arrays) (rows t : ℕ) (p : Passed texts s₀ s rows t) (h : tableCount ≤ t) where
     pub pass-count : rows ≡ length (allRows texts)
-    pass-count = let z : t ≡ 10 = omega (arith, p .within) in p .count ∙ rw z (sym (length-rows texts))
+    pass-count = let z : t ≡ tableCount = omega (arith, p .within) in p .count ∙ rw z (sym (length-rows texts))
 
     pub pass-stored : Stored (allRows texts) (s .words) (s .links) (s .count) (s .halves) (s .bytes)
     pass-stored =
         let n = pass-count in
         record {
-          few = omega (arith, p .most, p .within);
+          few = omega (arith, p .most, p .within, roomy .rows);
           small = omega (arith, p .room);
           table = p .ready .table;
           row = λ i l. p .row i (omega arith) .row;

@@ -3,6 +3,7 @@ use mathlib.Core.Path.{_≡_, subst}
 use mathlib.Core.Bool.{false}
 use mathlib.Core.List.{List}
 use Prim.Native.Nat.{ℕ}
+use Rattle.units.specs.declared.TableNumber.{TableNumber}
 use Rattle.tables.specs.Sizes.{fit, refusedBy, sizesOf}
 use Rattle.kept.specs.FirstPass.{Arrays}
 use Rattle.kept.specs.Keeping.{hasPlaces, KeepsRows, Keeps}
@@ -10,11 +11,11 @@ use Rattle.kept.specs.declared.Keeping.{Keeping}
 use Rattle.kept.specs.declared.Keeping.the-variants.{Done, TooLong, TooManyRows, NoRoom}
 
 module _ (texts : List (List ℕ)) (s₀ s₁ : Arrays) (r : Keeping) (k : Keeps texts s₀ s₁ r) where
-  pub kept-long : (table : ℕ) → r ≡ TooLong table → (sizesOf texts ≡ refusedBy 1 table) × (s₁ ≡ s₀)
+  pub kept-long : (table : TableNumber) → r ≡ TooLong table → (sizesOf texts ≡ refusedBy 1 (table .0)) × (s₁ ≡ s₀)
   unfolding Keeps
   kept-long table e = subst (Keeps texts s₀ s₁) e k
 
-  pub kept-many : (table : ℕ) → r ≡ TooManyRows table → (sizesOf texts ≡ refusedBy 2 table) × (s₁ ≡ s₀)
+  pub kept-many : (table : TableNumber) → r ≡ TooManyRows table → (sizesOf texts ≡ refusedBy 2 (table .0)) × (s₁ ≡ s₀)
   unfolding Keeps
   kept-many table e = subst (Keeps texts s₀ s₁) e k
 

@@ -7,6 +7,8 @@ use native.Mathlib.Decide.{ℕ-discrete}
 use native.Mathlib.Nat.{add-mul, mul-le-mul-right}
 use native.Mathlib.Numerals.{add-one}
 use lib.ListN.{length, getD, take, drop, length-drop}
+use Rattle.arrays.specs.Room.{mostPlaces}
+use Rattle.symbols.specs.Arrays.{mostSymbols}
 use Rattle.kept.proofs.PlaceLaws.{at-below, at-is, at-next}
 use Rattle.lines.specs.Lines.{linesOf, lineLength, nextLine, lineFrom}
 use Rattle.lines.proofs.LineLaws.{lines-next, lines-none, next-bounds}
@@ -16,8 +18,8 @@ use Rattle.symbols.specs.declared.Symbol.{Symbol}
 use Rattle.keys.specs.declared.records.RowKeys.{RowKeys}
 use Rattle.kept.specs.declared.interning.RowIds.{RowIds}
 use Rattle.keys.specs.Held.{rowKeysOf}
-use Rattle.kept.specs.Stored.{places, at, startColumn, tableColumn, KnownRow}
-use Rattle.kept.specs.Ids.{mostSymbols, Keeps, wanted, RowEntered}
+use Rattle.kept.specs.Stored.{at, startColumn, tableColumn, KnownRow}
+use Rattle.kept.specs.Ids.{Keeps, wanted, RowEntered}
 use Rattle.kept.specs.Puts.{putColumns, halvesOf, bytesOf, Wide}
 use Rattle.kept.specs.Asked.{asks}
 use Rattle.kept.specs.FirstPass.{Arrays, arrays, Ready, Onward, RowAt, RowKept, lineAt, StartsAt, LineKept, TableKept}
@@ -83,7 +85,7 @@ onward-on v w h =
 -- ---- one row more
 
 module _ (w₀ l₀ w₁ l₁ : List ℕ) (n : ℕ) (h₀ b₀ h₁ b₁ : List ℕ) (r : RowKeys) (ids : RowIds) (i start table : ℕ) where
-  pub row-kept : i < places → Wide h₀ b₀ → RowEntered w₀ l₀ w₁ l₁ n r ids → h₁ ≡ putColumns 0 h₀ i (halvesOf r ids start)
+  pub row-kept : i < mostPlaces → Wide h₀ b₀ → RowEntered w₀ l₀ w₁ l₁ n r ids → h₁ ≡ putColumns 0 h₀ i (halvesOf r ids start)
       → b₁ ≡ putColumns 0 b₀ i (bytesOf r table)
       → RowKept (arrays w₀ l₀ n h₀ b₀) (arrays w₁ l₁ (ids .count) h₁ b₁) r i start table
   row-kept h z e p q =

@@ -11,7 +11,7 @@ use Rattle.laws.proofs.Cases.{bool-cases, false≢true, and-left, and-right}
 use Rattle.symbols.specs.declared.Symbol.{Symbol}
 use Rattle.symbols.specs.declared.Interned.{Interned}
 use Rattle.symbols.specs.Symbols.{idOf, noId}
-use Rattle.symbols.specs.Arrays.{symbols, hasRoom}
+use Rattle.symbols.specs.Arrays.{symbols, hasRoom, mostSymbols}
 use Rattle.symbols.specs.Searches.{Table}
 use Rattle.symbols.specs.Interning.{Interns}
 use Rattle.symbols.proofs.SameLaws.{same-is}
@@ -26,7 +26,7 @@ use Rattle.manners.specs.Manners.{bit}
 use Rattle.keys.specs.Says.{isNamed}
 use Rattle.kept.specs.declared.interning.FirstIds.{FirstIds}
 use Rattle.kept.specs.Stored.{slotId, namedId}
-use Rattle.kept.specs.Ids.{mostSymbols, Spacious, Keeps, Fits, Grown, Entered, names, besides, firstWanted, wanted, FirstEntered, RowEntered}
+use Rattle.kept.specs.Ids.{Spacious, Keeps, Fits, Grown, Entered, names, besides, firstWanted, wanted, FirstEntered, RowEntered}
 
 -- ---- one key
 

@@ -7,9 +7,11 @@ use native.Mathlib.Omega.{arith}
 use lib.Dec.{eqb, leb}
 use lib.ListN.{length, replicate, length-replicate}
 use borrow.Author.Tests.{le-leb, lt-leb, eqb-true}
+use Rattle.symbols.specs.Arrays.{allWords, allLinks}
 use Rattle.verdicts.specs.Answer.{tooLong, tooManyRows}
 use Rattle.verdicts.specs.Entries.{allRows}
 use Rattle.tables.specs.Sizes.{fit, refusedBy, sizesOf}
+use Rattle.kept.specs.Puts.{allHalves, allBytes}
 use Rattle.kept.specs.Stored.{Stored}
 use Rattle.kept.specs.FirstPass.{Arrays, arrays, Situations, SameSizes, Bytes}
 use Rattle.kept.specs.Keeping.{hasPlaces, KeepsRows}
@@ -25,21 +27,21 @@ sizes-taken texts e = go (eqb (tooLong texts) 0) (eqb (tooManyRows texts) 0) ref
     go false b p q e = absurd (let z : _≡_ {A = ℕ} 0 1 = cc in omega arith)
 
 module _ (s : Arrays) where
-  pub short-words : length (s .words) < 114688 → hasPlaces s ≡ false
+  pub short-words : length (s .words) < allWords → hasPlaces s ≡ false
   short-words h = rw (lt-leb _ _ h)
 
-  module _ (w : 114688 ≤ length (s .words)) where
-    pub short-links : length (s .links) < 73728 → hasPlaces s ≡ false
+  module _ (w : allWords ≤ length (s .words)) where
+    pub short-links : length (s .links) < allLinks → hasPlaces s ≡ false
     short-links h = rw (le-leb _ _ w, lt-leb _ _ h)
 
-    module _ (l : 73728 ≤ length (s .links)) where
-      pub short-halves : length (s .halves) < 114688 → hasPlaces s ≡ false
+    module _ (l : allLinks ≤ length (s .links)) where
+      pub short-halves : length (s .halves) < allHalves → hasPlaces s ≡ false
       short-halves h = rw (le-leb _ _ w, le-leb _ _ l, lt-leb _ _ h)
 
-      pub short-bytes : 114688 ≤ length (s .halves) → length (s .bytes) < 71680 → hasPlaces s ≡ false
+      pub short-bytes : allHalves ≤ length (s .halves) → length (s .bytes) < allBytes → hasPlaces s ≡ false
       short-bytes g h = rw (le-leb _ _ w, le-leb _ _ l, le-leb _ _ g, lt-leb _ _ h)
 
-      pub all-long : 114688 ≤ length (s .halves) → 71680 ≤ length (s .bytes) → hasPlaces s ≡ true
+      pub all-long : allHalves ≤ length (s .halves) → allBytes ≤ length (s .bytes) → hasPlaces s ≡ true
       all-long g h = rw (le-leb _ _ w, le-leb _ _ l, le-leb _ _ g, le-leb _ _ h)
 
 -- the rows are kept, after the links were cleared

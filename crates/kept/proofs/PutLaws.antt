@@ -11,7 +11,8 @@ use lib.Seq.{getD-set-same, getD-set-other}
 use borrow.Author.Tests.{ltb-true, ltb-false}
 use Rattle.laws.proofs.Cases.{bool-cases}
 use Rattle.laws.proofs.Lists.{split}
-use Rattle.kept.specs.Stored.{places, at}
+use Rattle.arrays.specs.Room.{mostPlaces}
+use Rattle.kept.specs.Stored.{at}
 use Rattle.keys.specs.declared.records.RowKeys.{RowKeys}
 use Rattle.kept.specs.declared.interning.RowIds.{RowIds}
 use Rattle.kept.specs.Puts.{putColumns, halvesOf}
@@ -20,10 +21,10 @@ use Rattle.kept.specs.Puts.{putColumns, halvesOf}
 pub put-length : (vs : List ℕ) (c : ℕ) (columns : List ℕ) (i : ℕ) → length (putColumns c columns i vs) ≡ length columns
 unfolding putColumns
 put-length [] c columns i = refl
-put-length (v ∷ vs) c columns i = put-length vs (suc c) (set columns (c * places + i) v) i ∙ length-set columns (c * places + i) v
+put-length (v ∷ vs) c columns i = put-length vs (suc c) (set columns (c * mostPlaces + i) v) i ∙ length-set columns (c * mostPlaces + i) v
 
 -- places of two columns, or two places, differ
-places-differ : (c d i j : ℕ) → i < places → j < places → (c ≡ d → i ≡ j → ⊥) → d * places + j ≡ c * places + i → ⊥
+places-differ : (c d i j : ℕ) → i < mostPlaces → j < mostPlaces → (c ≡ d → i ≡ j → ⊥) → d * mostPlaces + j ≡ c * mostPlaces + i → ⊥
 places-differ c d i j h k o e =
     bool-cases (ltb c d)
     (λ q. let l = ltb-true c d q in omega arith)
@@ -34,38 +35,38 @@ places-differ c d i j h k o e =
     let z : c ≡ d = omega arith in
     o z (omega arith)))
 
-module _ (i : ℕ) (h : i < places) where
+module _ (i : ℕ) (h : i < mostPlaces) where
   -- the places of other rows stay
-  pub put-there : (vs : List ℕ) (c : ℕ) (columns : List ℕ) (d j : ℕ) → j < places → (j ≡ i → ⊥) → at (putColumns c columns i vs) d j ≡ at columns d j
+  pub put-there : (vs : List ℕ) (c : ℕ) (columns : List ℕ) (d j : ℕ) → j < mostPlaces → (j ≡ i → ⊥) → at (putColumns c columns i vs) d j ≡ at columns d j
   unfolding putColumns
   put-there [] c columns d j k o = refl
   put-there (v ∷ vs) c columns d j k o =
-      put-there vs (suc c) (set columns (c * places + i) v) d j k o
-      ∙ getD-set-other columns (c * places + i) (d * places + j) v 0 (places-differ c d i j h k (λ _ e. o (sym e)))
+      put-there vs (suc c) (set columns (c * mostPlaces + i) v) d j k o
+      ∙ getD-set-other columns (c * mostPlaces + i) (d * mostPlaces + j) v 0 (places-differ c d i j h k (λ _ e. o (sym e)))
 
   -- and the columns before
   put-before : (vs : List ℕ) (c : ℕ) (columns : List ℕ) (d : ℕ) → d < c → at (putColumns c columns i vs) d i ≡ at columns d i
   unfolding putColumns
   put-before [] c columns d l = refl
   put-before (v ∷ vs) c columns d l =
-      put-before vs (suc c) (set columns (c * places + i) v) d (omega arith)
-      ∙ getD-set-other columns (c * places + i) (d * places + i) v 0 (places-differ c d i i h h (λ e _. omega (arith, e)))
+      put-before vs (suc c) (set columns (c * mostPlaces + i) v) d (omega arith)
+      ∙ getD-set-other columns (c * mostPlaces + i) (d * mostPlaces + i) v 0 (places-differ c d i i h h (λ e _. omega (arith, e)))
 
   -- each value stands in its column
-  pub put-here : (vs : List ℕ) (c : ℕ) (columns : List ℕ) (k : ℕ) → k < length vs → (c + length vs) * places ≤ length columns
+  pub put-here : (vs : List ℕ) (c : ℕ) (columns : List ℕ) (k : ℕ) → k < length vs → (c + length vs) * mostPlaces ≤ length columns
       → at (putColumns c columns i vs) (c + k) i ≡ getD vs k 0
   unfolding putColumns
   put-here [] c columns k l m = absurd (omega arith)
   put-here (v ∷ vs) c columns zero l m =
       rw (add-zero c)
-      (put-before vs (suc c) (set columns (c * places + i) v) c (omega arith) ∙ getD-set-same columns (c * places + i) v 0 (omega arith))
+      (put-before vs (suc c) (set columns (c * mostPlaces + i) v) c (omega arith) ∙ getD-set-same columns (c * mostPlaces + i) v 0 (omega arith))
   put-here (v ∷ vs) c columns (suc k) l m =
       let e : c + suc k ≡ suc c + k = omega arith in
-      rw e (put-here vs (suc c) (set columns (c * places + i) v) k (omega arith) (omega (arith, length-set columns (c * places + i) v)))
+      rw e (put-here vs (suc c) (set columns (c * mostPlaces + i) v) k (omega arith) (omega (arith, length-set columns (c * mostPlaces + i) v)))
 
 -- the walk over the values: with those left, the columns are as they were with all
 module _ (vs : List ℕ) (i : ℕ) (before : List ℕ) where
-  pub put-more : (c : ℕ) (columns after : List ℕ) → c < length vs → after ≡ set columns (c * places + i) (getD vs c 0)
+  pub put-more : (c : ℕ) (columns after : List ℕ) → c < length vs → after ≡ set columns (c * mostPlaces + i) (getD vs c 0)
       → putColumns c columns i (drop c vs) ≡ putColumns 0 before i vs → putColumns (c + 1) after i (drop (c + 1) vs) ≡ putColumns 0 before i vs
   unfolding putColumns
   put-more c columns after h e w = rw (e, add-one c) (rw (split vs c 0 h, add-one c) at w)

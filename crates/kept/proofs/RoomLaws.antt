@@ -1,4 +1,4 @@
--- No row asks for more new symbols than its table's number.
+-- The arrays have room for the tables, since no row asks for more new symbols than its table's number.
 use mathlib.Core.Path.{_≡_, refl}
 use mathlib.Core.Bool.{Bool, true, false, not, cond, _&&_}
 use mathlib.Core.List.{List, [], _∷_}
@@ -26,7 +26,11 @@ use Rattle.manners.specs.Manners.{bit, manners, mannerAt, weight, sameManner, c
 use Rattle.keys.specs.Held.{slotOf, namedOf, keysOf, rowKeysOf}
 use Rattle.keys.specs.Says.{isNamed}
 use Rattle.kept.specs.Ids.{names, besides, firstWanted, wanted}
-use Rattle.kept.specs.Asked.{asks}
+use Rattle.kept.specs.Asked.{asks, asksOf, Roomy}
+
+pub roomy : Roomy
+unfolding asksOf asks
+roomy = record { rows = omega arith; symbols = omega arith; numbers = omega arith }
 
 bit-most : (b : Bool) → bit b ≤ 1
 bit-most true = omega arith

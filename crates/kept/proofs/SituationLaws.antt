@@ -7,24 +7,22 @@ use lib.Dec.{ltb}
 use lib.ListN.{length, getD, take, drop, replicate, length-drop, length-replicate}
 use borrow.Author.Tests.{ltb-true, ltb-false}
 use Rattle.laws.proofs.Cases.{bool-cases}
+use Rattle.kept.specs.Puts.{allHalves, allBytes}
 use Rattle.kept.proofs.PlaceLaws.{at-is}
 use Rattle.lines.specs.Lines.{linesOf, nextLine}
 use Rattle.lines.specs.declared.walk.NextLine.{NextLine}
 use Rattle.lines.proofs.LineLaws.{lines-next, lines-none}
-use Rattle.schemas.specs.declared.Table.the-variants.{Ocp}
 use Rattle.schemas.specs.Reasons.{lineOf}
-use Rattle.symbols.specs.Arrays.{heads}
+use Rattle.symbols.specs.Arrays.{allWords, allLinks}
 use Rattle.symbols.proofs.FindLaws.{table-zeros}
-use Rattle.verdicts.specs.Entries.{Entry, entry, carried, allRows}
+use Rattle.verdicts.specs.Entries.{Entry, carriedAt, entry, allRows}
 use Rattle.verdicts.specs.Places.{textAt, noLine, entryAt, rowsBefore, place}
 use Rattle.verdicts.proofs.EntryLaws.{rows-before-next, row-at}
-use Rattle.kept.specs.Stored.{places}
-use Rattle.kept.specs.Ids.{mostSymbols}
 use Rattle.kept.specs.FirstPass.{arrays, Ready, lineAt, Situated}
 
 -- arrays whose links are cleared
-pub ready-cleared : (words links₀ links halves bytes : List ℕ) → links ≡ replicate (length links₀) 0 → 4 * mostSymbols ≤ length words
-    → heads + 2 * mostSymbols ≤ length links₀ → 8 * places ≤ length halves → 5 * places ≤ length bytes → Ready (arrays words links 0 halves bytes)
+pub ready-cleared : (words links₀ links halves bytes : List ℕ) → links ≡ replicate (length links₀) 0 → allWords ≤ length words
+    → allLinks ≤ length links₀ → allHalves ≤ length halves → allBytes ≤ length bytes → Ready (arrays words links 0 halves bytes)
 ready-cleared words links₀ links halves bytes e w l h b =
     rw e
     (record {
@@ -57,7 +55,7 @@ module _ (texts : List (List ℕ)) (t start i : ℕ) (w : Situated texts t start
   line-again n e = at-is (linesOf text) j noLine (sym (w .start) ∙ lines-next text start n e start-below)
 
   -- the row is made of this line
-  pub row-again : (d : Entry) → getD (allRows texts) i d ≡ entry (getD carried t Ocp) t (suc j) (lineAt text j)
+  pub row-again : (d : Entry) → getD (allRows texts) i d ≡ entry (carriedAt t) t (suc j) (lineAt text j)
   unfolding entryAt place
   row-again d =
       let s : suc j - 1 ≡ j = omega arith in

@@ -9,6 +9,7 @@ use Rattle.symbols.specs.declared.Symbol.{Symbol}
 use Rattle.symbols.specs.Arrays.{symbols}
 use Rattle.symbols.specs.Searches as searches
 use Rattle.verdicts.specs.Places.{textAt, noLine, rowsBefore}
+use Rattle.verdicts.specs.Entries.{tableCount}
 use Rattle.keys.specs.declared.records.RowKeys.{RowKeys}
 use Rattle.keys.specs.Held.{rowKeysOf}
 use Rattle.kept.specs.Stored.{at, startColumn, tableColumn, StoredRow, KnownRow}
@@ -77,7 +78,7 @@ pub record TableKept (s₀ s₁ : Arrays) (table : Table) (t : ℕ) (text : List
 
 -- row i stands in table t, and its line starts at a place there
 pub record Situated (texts : List (List ℕ)) (t start′ i : ℕ) : Type 0 where
-  pub below : t < 10
+  pub below : t < tableCount
   pub low : rowsBefore texts t ≤ i
   pub high : i < rowsBefore texts (suc t)
   pub start : StartsAt (textAt texts t) (i - rowsBefore texts t) start′
@@ -95,4 +96,4 @@ pub record SameSizes (s₀ s₁ : Arrays) : Type 0 where
 
 -- tables hold bytes
 abbrev pub Bytes : List (List ℕ) → Type 0
-Bytes texts = (t i : ℕ) → t < 10 → getD (textAt texts t) i 0 < 256
+Bytes texts = (t i : ℕ) → t < tableCount → getD (textAt texts t) i 0 < 256

@@ -7,7 +7,7 @@ use lib.ListN.{length}
 use Rattle.symbols.specs.declared.Symbol.{Symbol}
 use Rattle.symbols.specs.declared.Interned.{Interned}
 use Rattle.symbols.specs.Symbols.{sameSymbol, idOf, noId}
-use Rattle.symbols.specs.Arrays.{symbols, heads}
+use Rattle.symbols.specs.Arrays.{symbols, mostSymbols, allWords, allLinks}
 use Rattle.symbols.specs.Searches.{Table}
 use Rattle.keys.specs.declared.records.Named.{Named}
 use Rattle.keys.specs.declared.records.RowKeys.{RowKeys}
@@ -17,14 +17,10 @@ use Rattle.kept.specs.declared.interning.FirstIds.{FirstIds}
 use Rattle.kept.specs.declared.interning.RowIds.{RowIds}
 use Rattle.kept.specs.Stored.{slotId, namedId, KnownRow}
 
--- there are at most so many symbols
-abbrev pub mostSymbols : ℕ
-mostSymbols = 28672
-
 -- the arrays of the symbols have places for as many
 pub record Spacious (ws ls : List ℕ) : Type 0 where
-  pub words : 4 * mostSymbols ≤ length ws
-  pub links : heads + 2 * mostSymbols ≤ length ls
+  pub words : allWords ≤ length ws
+  pub links : allLinks ≤ length ls
 
 -- keys keep the ids that they have
 pub record Keeps (ls ms : List Symbol) : Type 0 where

@@ -5,9 +5,10 @@ use mathlib.Core.Bool.{true, cond}
 use mathlib.Core.List.{List}
 use lib.Dec.{eqb}
 use lib.ListN.{length, getD}
+use Rattle.arrays.specs.Room.{mostPlaces}
 use Rattle.symbols.specs.declared.Symbol.{Symbol}
 use Rattle.symbols.specs.Symbols.{idOf, noId}
-use Rattle.symbols.specs.Arrays.{symbols}
+use Rattle.symbols.specs.Arrays.{symbols, mostSymbols}
 use Rattle.symbols.specs.Searches.{Table}
 use Rattle.verdicts.specs.Entries.{Entry, own, facts, bad}
 use Rattle.keys.specs.Held.{keysOf}
@@ -15,13 +16,9 @@ use Rattle.keys.specs.declared.records.Slot.{Slot}
 use Rattle.keys.specs.declared.records.Named.{Named}
 use Rattle.keys.specs.declared.records.RowKeys.{RowKeys}
 
--- a column has this many places
-abbrev pub places : ℕ
-places = 14336
-
 -- place i of column c
 abbrev pub at : List ℕ → (c i : ℕ) → ℕ
-at columns c i = getD columns (c * places + i) 0
+at columns c i = getD columns (c * mostPlaces + i) 0
 
 -- the columns of numbers below 65,536, and those of numbers below 256
 abbrev pub ownColumn : ℕ
@@ -98,8 +95,8 @@ keysAt rows i = let e = getD rows i (record { table = 0; row = 0; reading = bad 
 
 -- the arrays keep the rows
 pub record Stored (rows : List Entry) (words links : List ℕ) (count : ℕ) (halves bytes : List ℕ) : Type 0 where
-  pub few : length rows ≤ places
-  pub small : count ≤ 28672
+  pub few : length rows ≤ mostPlaces
+  pub small : count ≤ mostSymbols
   pub table : Table words links count
   pub row : (i : ℕ) → i < length rows → StoredRow (symbols words count) (keysAt rows i) halves bytes i
   pub known : (i : ℕ) → i < length rows → KnownRow (symbols words count) (keysAt rows i)

@@ -1,17 +1,16 @@
 // What is kept of a row, stored at its place in each column.
 use crate::interning::RowIds;
+use arrays::PLACES;
 use arrays::put_byte;
 use arrays::put_half;
 use keys::records::RowKeys;
 ghost use mathlib.Core.Path.{_≡_};
 ghost use Prim.Native.Nat.{_<_, min};
+ghost use Rattle.arrays.specs.Room.{mostPlaces};
 ghost use Rattle.kept.specs.Puts.{putColumns, halvesOf, bytesOf};
 
-// A column has a place for each row of fourteen tables.
-pub(crate) const PLACES: usize = 14336;
-
 fn put_halves(halves: &mut [u16], i: usize, values: [u16; 8])
-    requires { ⌜ i < 14336 ⌝ }
+    requires { ⌜ i < mostPlaces ⌝ }
     ensures { λ _. ⌜ now (halves .exit) ≡ putColumns 0 (now (halves .entry)) i values ⌝ }
 {
     let mut c: usize = 0;
@@ -22,7 +21,7 @@ fn put_halves(halves: &mut [u16], i: usize, values: [u16; 8])
 }
 
 fn put_bytes(bytes: &mut [u8], i: usize, values: [u8; 5])
-    requires { ⌜ i < 14336 ⌝ }
+    requires { ⌜ i < mostPlaces ⌝ }
     ensures { λ _. ⌜ now (bytes .exit) ≡ putColumns 0 (now (bytes .entry)) i values ⌝ }
 {
     let mut c: usize = 0;
@@ -49,7 +48,7 @@ pub(crate) fn put_row(
     start: u16,
     table: u8,
 )
-    requires { ⌜ i < 14336 ⌝ }
+    requires { ⌜ i < mostPlaces ⌝ }
     ensures { λ _. ⌜ now (halves .exit) ≡ putColumns 0 (now (halves .entry)) i (halvesOf keys ids start) ⌝ }
     ensures { λ _. ⌜ now (bytes .exit) ≡ putColumns 0 (now (bytes .entry)) i (bytesOf keys table) ⌝ }
 {

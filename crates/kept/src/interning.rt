@@ -8,7 +8,7 @@ use symbols::intern;
 ghost use mathlib.Core.Path.{_≡_};
 ghost use mathlib.Core.Bool.{true};
 ghost use Prim.Native.Nat.{_+_, _≤_};
-ghost use Rattle.symbols.specs.Arrays.{symbols};
+ghost use Rattle.symbols.specs.Arrays.{symbols, mostSymbols};
 ghost use Rattle.symbols.specs.Searches.{Table};
 ghost use Rattle.keys.specs.Says.{isNamed};
 ghost use Rattle.kept.specs.Ids.{Spacious, Fits, Entered, firstWanted, wanted, FirstEntered, RowEntered};
@@ -66,7 +66,7 @@ fn intern_named(words: &mut [u64], links: &mut [u16], n: usize, name: Named) -> 
 fn intern_first(words: &mut [u64], links: &mut [u16], n: usize, keys: RowKeys) -> FirstIds
     requires { ⌜ Table (now words) (now links) n ⌝ }
     requires { ⌜ Spacious (now words) (now links) ⌝ }
-    requires { ⌜ n + firstWanted keys ≤ 28672 ⌝ }
+    requires { ⌜ n + firstWanted keys ≤ mostSymbols ⌝ }
     ensures { λ r. ⌜ FirstEntered (now (words .entry)) (now (links .entry)) (now (words .exit)) (now (links .exit)) n keys r ⌝ }
 {
     let slot1 = keys.first;
@@ -87,7 +87,7 @@ fn intern_first(words: &mut [u64], links: &mut [u16], n: usize, keys: RowKeys) -
 pub(crate) fn intern_row(words: &mut [u64], links: &mut [u16], n: usize, keys: RowKeys) -> RowIds
     requires { ⌜ Table (now words) (now links) n ⌝ }
     requires { ⌜ Spacious (now words) (now links) ⌝ }
-    requires { ⌜ n + wanted keys ≤ 28672 ⌝ }
+    requires { ⌜ n + wanted keys ≤ mostSymbols ⌝ }
     ensures { λ r. ⌜ RowEntered (now (words .entry)) (now (links .entry)) (now (words .exit)) (now (links .exit)) n keys r ⌝ }
 {
     let name = keys.two;

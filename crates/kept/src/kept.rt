@@ -10,9 +10,10 @@ ghost use mathlib.Core.Path.{_≡_};
 ghost use mathlib.Core.List.{map};
 ghost use Prim.Native.Nat.{ℕ, _+_, _*_, _≤_, _<_};
 ghost use lib.ListN.{length, getD};
+ghost use Rattle.arrays.specs.Room.{mostPlaces};
+ghost use Rattle.symbols.specs.Arrays.{mostSymbols};
 ghost use Rattle.lines.specs.Lines.{linesOf};
-ghost use Rattle.schemas.specs.declared.Table.the-variants.{Ocp};
-ghost use Rattle.verdicts.specs.Entries.{carried, allRows};
+ghost use Rattle.verdicts.specs.Entries.{tableCount, carriedAt, allRows};
 ghost use Rattle.verdicts.specs.Answer.{tooLong, tooManyRows};
 ghost use Rattle.kept.specs.Stored.{Stored};
 ghost use Rattle.kept.specs.Ids.{wanted};
@@ -38,7 +39,7 @@ fn keep_row(
     table: u8,
 ) -> usize
     requires { ⌜ Ready (arrays (now words) (now links) n (now halves) (now bytes)) ⌝ }
-    requires { ⌜ (n + wanted keys ≤ 28672) × (i < 14336) ⌝ }
+    requires { ⌜ (n + wanted keys ≤ mostSymbols) × (i < mostPlaces) ⌝ }
     ensures { λ r. ⌜ RowKept (arrays (now (words .entry)) (now (links .entry)) n (now (halves .entry)) (now (bytes .entry)))
         (arrays (now (words .exit)) (now (links .exit)) r (now (halves .exit)) (now (bytes .exit))) keys i start table ⌝ }
 {
@@ -59,12 +60,12 @@ fn keep_table(
     bytes: &mut [u8],
 ) -> Kept
     requires { ⌜ Ready (arrays (now words) (now links) n (now halves) (now bytes)) ⌝ }
-    requires { ⌜ (t < 10) × (length (now table) ≤ 65536) ⌝ }
-    requires { ⌜ (from + length (linesOf (now table)) ≤ 14336) × (n + length (linesOf (now table)) * asks (getD carried t Ocp) ≤ 28672) ⌝ }
+    requires { ⌜ (t < tableCount) × (length (now table) ≤ 65536) ⌝ }
+    requires { ⌜ (from + length (linesOf (now table)) ≤ mostPlaces) × (n + length (linesOf (now table)) * asks (carriedAt t) ≤ mostSymbols) ⌝ }
     ensures { λ r. ⌜ r .rows ≡ from + length (linesOf (now (table .entry))) ⌝ }
     ensures { λ r. ⌜ TableKept (arrays (now (words .entry)) (now (links .entry)) n (now (halves .entry)) (now (bytes .entry)))
         (arrays (now (words .exit)) (now (links .exit)) (r .symbols) (now (halves .exit)) (now (bytes .exit)))
-        (getD carried t Ocp) t (now (table .entry)) from (length (linesOf (now (table .entry)))) ⌝ }
+        (carriedAt t) t (now (table .entry)) from (length (linesOf (now (table .entry)))) ⌝ }
     ensures { λ _. ⌜ ((i : ℕ) → getD (now (table .entry)) i 0 < 256) ⌝ }
 {
     let mut count = n;

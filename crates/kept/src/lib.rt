@@ -1,9 +1,11 @@
 // What is kept of the rows of the tables: each read once, its keys known by numbers, its columns stored.
 use crate::kept::keep_tables;
+use arrays::PLACES;
 use arrays::clear_halves;
 use tables::Sizes;
 use tables::TABLES;
 use tables::check_sizes;
+use units::TableNumber;
 ghost use mathlib.Core.Path.{_≡_};
 ghost use mathlib.Core.List.{map};
 ghost use Rattle.tables.specs.Sizes.{fit, sizesOf};
@@ -14,23 +16,20 @@ mod columns;
 mod interning;
 mod kept;
 
-// A column has this many places: fourteen tables of 1,024 rows.
-pub const PLACES: usize = 14336;
+// What is lent needs the words and the links of all symbols, eight columns of numbers below 65,536 and five of numbers below 256.
+pub const WORDS: usize = symbols::WORDS;
 
-// What is lent needs this many words, links, numbers below 65,536 and numbers below 256.
-pub const WORDS: usize = 114688;
+pub const LINKS: usize = symbols::LINKS;
 
-pub const LINKS: usize = 73728;
+pub const HALVES: usize = 8 * PLACES;
 
-pub const HALVES: usize = 114688;
+pub const BYTES: usize = 5 * PLACES;
 
-pub const BYTES: usize = 71680;
-
-// How many rows there are, and how many symbols; or the first table that is too large, from 1; or too short an array.
+// How many rows there are, and how many symbols; or the first table that is too large; or too short an array.
 pub enum Keeping {
     Done(usize, usize),
-    TooLong(usize),
-    TooManyRows(usize),
+    TooLong(TableNumber),
+    TooManyRows(TableNumber),
     NoRoom,
 }
 

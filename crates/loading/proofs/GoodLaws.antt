@@ -12,11 +12,10 @@ use Rattle.laws.proofs.Cases.{bool-cases, and-left, and-right}
 use Rattle.laws.proofs.Lists.{map-at}
 use Rattle.lines.specs.Lines.{Line}
 use Rattle.schemas.specs.declared.Table.{Table}
-use Rattle.schemas.specs.declared.Table.the-variants.{Ocp}
 use Rattle.formed.specs.Formed.{formed}
 use Rattle.verdicts.specs.Key.{Key, sameKey}
 use Rattle.verdicts.specs.Facts.{Facts, factsOf}
-use Rattle.verdicts.specs.Entries.{Entry, readingOf, own, said, facts, carried, allRows}
+use Rattle.verdicts.specs.Entries.{Entry, readingOf, own, said, facts, allRows, carriedAt}
 use Rattle.verdicts.specs.Verdicts.{shared, sound, verdict, verdicts}
 use Rattle.verdicts.specs.Places.{textAt, rowsBefore, place}
 use Rattle.verdicts.proofs.EntryLaws.{own-reading}
@@ -70,7 +69,7 @@ module _ {texts : List (List ℕ)} {t start i : ℕ} (w : Situated texts t start
   pub said-same : goodAt texts i ≡ true → facts (rowAt (allRows texts) i) ≡ factsOf (tableOf (rowIn texts i)) (rowIn texts i .bytes)
   said-same g =
       let a = row-again texts t start i w noEntry in
-      let o : own (readingOf (getD carried t Ocp) (lineAt (textAt texts t) j)) ≡ 0 =
+      let o : own (readingOf (carriedAt t) (lineAt (textAt texts t) j)) ≡ 0 =
       ap (λ (e : Entry). own (e .reading)) (sym a) ∙ good-own texts i below g in
       ap (λ (e : Entry). facts e) a ∙ said-fine _ _ o ∙ rw (row-there w, ← line-there w)
 

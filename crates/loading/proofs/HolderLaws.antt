@@ -12,7 +12,7 @@ use Rattle.laws.specs.Prefix.{lastWith}
 use Rattle.laws.proofs.At.{keep-none, keep-one}
 use Rattle.laws.proofs.Cases.{cond-cases₂, and-left, and-right, and-false}
 use Rattle.symbols.specs.declared.Symbol.{Symbol}
-use Rattle.symbols.specs.Arrays.{symbols}
+use Rattle.symbols.specs.Arrays.{symbols, mostSymbols}
 use Rattle.passes.specs.Marked.{hasId}
 use Rattle.passes.specs.Holders.{Noted}
 use Rattle.verdicts.specs.Key.{Key}
@@ -25,7 +25,7 @@ use Rattle.kept.specs.Stored.{key1Column, key2Column}
 use Rattle.judged.specs.Passes.{columnOf}
 use Rattle.judged.proofs.Held.{coding}
 use Rattle.database.specs.Rows.{Row}
-use Rattle.database.specs.Arrays.{mostKeys, holderColumn, rowAt, rowFor, keyedBy}
+use Rattle.database.specs.Arrays.{holderColumn, rowAt, rowFor, keyedBy}
 use Rattle.database.specs.GoodRows.{rowsIn, isGood, goodRows, holdsKey, find}
 use Rattle.loading.proofs.ListLaws.{keep-keep, Hit, hit-either, hit-same}
 use Rattle.loading.proofs.RowLaws.{noRow, rowIn, length-rows-in}
@@ -84,7 +84,7 @@ module _ {texts : List (List ℕ)} {words links : List ℕ} {count : ℕ} {halve
       let key2 : List ℕ = columnOf halves key2Column in
       let e : found ≡ orElse (lastWith (hasId marks key2 id) n) (lastWith (hasId marks key1 id) n) =
       keyed-known (r .held .stored .table) (r .held .stored .small) k q columns holderColumn ∙ r .index .holder id few
-      ∙ noted-twice mostKeys marks key1 key2 (r .index .once) (r .index .holders) n id (r .index .first-keys) (r .index .second-keys) few in
+      ∙ noted-twice mostSymbols marks key1 key2 (r .index .once) (r .index .holders) n id (r .index .first-keys) (r .index .second-keys) few in
       subst (Hit held n) (sym e)
       (hit-same held (λ i. hasId marks key1 id i || hasId marks key2 id i) n _
       (good-holds texts (r .held) marks (mark-at r) k q)

@@ -10,7 +10,7 @@ use borrow.Author.Tests.{lt-ltb, le-ltb, ltb-true, ltb-false}
 use Rattle.laws.proofs.Cases.{bool-cases, cond-cases, false≢true}
 use Rattle.symbols.specs.declared.Symbol.{Symbol}
 use Rattle.symbols.specs.Symbols.{noId}
-use Rattle.symbols.specs.Arrays.{symbols}
+use Rattle.symbols.specs.Arrays.{symbols, mostSymbols}
 use Rattle.symbols.specs.Searches.{Table}
 use Rattle.symbols.proofs.FindLaws.{symbols-length, found-id}
 use Rattle.symbols.proofs.PlaceLaws.{id-below}
@@ -20,9 +20,9 @@ use Rattle.key_symbols.specs.Bounded.{fits}
 use Rattle.key_symbols.proofs.FitLaws.{fits-bounded, bounded-fits}
 use Rattle.meaning.specs.Kept.{keyId, Known}
 use Rattle.judged.proofs.Held.{coding}
-use Rattle.database.specs.Arrays.{mostKeys, keyed, keyedBy}
+use Rattle.database.specs.Arrays.{keyed, keyedBy}
 
-module _ {words links : List ℕ} {count : ℕ} (table : Table words links count) (small : count ≤ mostKeys) (k : Key) where
+module _ {words links : List ℕ} {count : ℕ} (table : Table words links count) (small : count ≤ mostSymbols) (k : Key) where
   abbrev ls : List Symbol
   ls = symbols words count
 
@@ -40,21 +40,21 @@ module _ {words links : List ℕ} {count : ℕ} (table : Table words links count
 
   module _ (q : Known coding ls k) where
     -- there are at most as many ids as a column has places
-    pub id-few : id < mostKeys
+    pub id-few : id < mostSymbols
     id-few = omega (arith, id-below (symbolOf k) ls (q .numbered), symbols-length words count)
 
     pub keyed-known : (columns : List ℕ) (column : ℕ) → keyedBy words links columns column k ≡ getD columns (column + id) 0
     unfolding keyedBy keyed
-    keyed-known columns column = rw (bounded-fits k (q .fits), found-id words links count table (symbolOf k), lt-ltb id mostKeys id-few)
+    keyed-known columns column = rw (bounded-fits k (q .fits), found-id words links count table (symbolOf k), lt-ltb id mostSymbols id-few)
 
   pub keyed-none : (Known coding ls k → ⊥) → (columns : List ℕ) (column : ℕ) → keyedBy words links columns column k ≡ 0
   unfolding keyedBy keyed
   keyed-none n columns column =
       cond-cases (λ (x : ℕ). x ≡ 0) (fits k)
-      (λ a. rw (found-id words links count table (symbolOf k), le-ltb id mostKeys (none a)))
+      (λ a. rw (found-id words links count table (symbolOf k), le-ltb id mostSymbols (none a)))
       (λ _. refl)
     where
-      none : fits k ≡ true → mostKeys ≤ id
+      none : fits k ≡ true → mostSymbols ≤ id
       none a =
           bool-cases (ltb id noId)
           (λ b. absurd (n (record { fits = fits-bounded k a; numbered = ltb-true id noId b })))

@@ -12,8 +12,9 @@ use Rattle.laws.specs.Lists.{keep}
 use Rattle.laws.specs.Prefix.{firstFrom, allFrom}
 use Rattle.laws.proofs.Cases.{and-left, and-right, and-false}
 use Rattle.laws.proofs.Places.{keep-all, all-same, all-none}
+use Rattle.arrays.specs.Room.{mostPlaces}
 use Rattle.symbols.specs.declared.Symbol.{Symbol}
-use Rattle.symbols.specs.Arrays.{symbols}
+use Rattle.symbols.specs.Arrays.{symbols, mostSymbols}
 use Rattle.passes.specs.Marked.{hasId}
 use Rattle.passes.specs.Groups.{firstRow, chain}
 use Rattle.verdicts.specs.Key.{Key}
@@ -21,13 +22,14 @@ use Rattle.verdicts.specs.Entries.{allRows}
 use Rattle.verdicts.specs.Steps.{belongs}
 use Rattle.verdicts.specs.Places.{rowsBefore}
 use Rattle.verdicts.proofs.EntryLaws.{rows-before-next}
+use Rattle.verdicts.proofs.OwnerLaws.{tableIndex, groupTable}
 use Rattle.meaning.specs.Kept as meaning
 use Rattle.meaning.specs.Kept.{keyId, Known}
 use Rattle.kept.specs.Stored.{at, tableColumn, groupColumn}
 use Rattle.judged.specs.Passes.{columnOf}
 use Rattle.judged.proofs.Held.{coding}
 use Rattle.database.specs.Rows.{Row}
-use Rattle.database.specs.Arrays.{places, mostKeys, mostMembers, firstColumn, nextColumn, rowAt, keyedBy, placesFrom}
+use Rattle.database.specs.Arrays.{mostMembers, firstColumn, nextColumn, rowAt, keyedBy, placesFrom}
 use Rattle.database.specs.GoodRows.{rowsIn, isGood, goodRows, inGroup}
 use Rattle.loading.proofs.ListLaws.{keep-keep, map-all, all-few}
 use Rattle.loading.proofs.ChainLaws.{chain-takes, chain-none}
@@ -35,7 +37,7 @@ use Rattle.loading.proofs.RowLaws.{noRow, rowIn, row-there, length-rows
 use Rattle.loading.proofs.GoodLaws.{goodAt}
 use Rattle.loading.proofs.IdLaws.{known-cases, id-few, keyed-known, keyed-none}
 use Rattle.loading.proofs.KeyLaws.{good-belongs, none-belongs}
-use Rattle.loading.proofs.GroupTables.{numberOf, groupTable, group-table, few-lines}
+use Rattle.loading.proofs.GroupTables.{group-table, few-lines}
 use Rattle.loading.proofs.IndexedRows.{IndexedRows, row-is, mark-at, row-belongs}
 
 -- chained from nothing
@@ -73,7 +75,7 @@ module _ {texts : List (List ℕ)} {words links : List ℕ} {count : ℕ} {halve
   member-is i p = row-belongs r i p k
 
   -- all are of one table
-  in-table : (i : ℕ) → i < n → member i ≡ true → at bytes tableColumn i ≡ numberOf (groupTable k)
+  in-table : (i : ℕ) → i < n → member i ≡ true → at bytes tableColumn i ≡ tableIndex (groupTable k)
   unfolding inGroup
   in-table i p e =
       let w = r .situated i p in
@@ -82,7 +84,7 @@ module _ {texts : List (List ℕ)} {words links : List ℕ} {count : ℕ} {halve
 
   few-members : length (allFrom member 0 n) ≤ mostMembers
   few-members =
-      let t : ℕ = numberOf (groupTable k) in
+      let t : ℕ = tableIndex (groupTable k) in
       let h = all-few member (rowsBefore texts t) (rowsBefore texts (suc t)) 0 n
       (λ i _ p e. let q : i < n = omega arith in
       let w = r .situated i q in
@@ -94,7 +96,7 @@ module _ {texts : List (List ℕ)} {words links : List ℕ} {count : ℕ} {halve
     abbrev id : ℕ
     id = keyId coding ls k
 
-    few : id < mostKeys
+    few : id < mostSymbols
     few = id-few (r .held .stored .table) (r .held .stored .small) k q
 
     member-id : (i : ℕ) → i < n → member i ≡ hasId marks group id i
@@ -105,13 +107,13 @@ module _ {texts : List (List ℕ)} {words links : List ℕ} {count : ℕ} {halve
         → getD (drop nextColumn columns) j 0 ≡ firstFrom (hasId marks group id) 0 (j + 1) (n - (j + 1))
     unfolding hasId
     linked j p e =
-        let l : length {A = ℕ} (replicate places 0) ≡ places = length-replicate {A = ℕ} places 0 in
+        let l : length {A = ℕ} (replicate mostPlaces 0) ≡ mostPlaces = length-replicate {A = ℕ} mostPlaces 0 in
         let s : getD group j 0 ≡ id = eqb-true _ _ (and-left (eqb (getD group j 0) id) _ e) in
         getD-drop nextColumn columns j 0
         ∙ r .index .next j p
         ∙ r .index .groups .next j (omega arith) p (omega (arith, r .held .stored .few))
-        ∙ ap (λ (x : ℕ). firstRow marks group (replicate mostKeys 0) x (j + 1) n) s
-        ∙ first-row mostKeys marks group id (j + 1) n few
+        ∙ ap (λ (x : ℕ). firstRow marks group (replicate mostSymbols 0) x (j + 1) n) s
+        ∙ first-row mostSymbols marks group id (j + 1) n few
 
     places-known : placesFrom columns first ≡ allFrom member 0 n
     unfolding placesFrom
@@ -120,7 +122,7 @@ module _ {texts : List (List ℕ)} {words links : List ℕ} {count : ℕ} {halve
         let z : n - 0 ≡ n = omega arith in
         let e : first ≡ firstFrom f 0 0 n =
         keyed-known (r .held .stored .table) (r .held .stored .small) k q columns firstColumn ∙ r .index .first id few
-        ∙ r .index .groups .first id ∙ first-row mostKeys marks group id 0 n few ∙ ap (firstFrom f 0 0) z in
+        ∙ r .index .groups .first id ∙ first-row mostSymbols marks group id 0 n few ∙ ap (firstFrom f 0 0) z in
         let s : allFrom member 0 n ≡ allFrom f 0 n = all-same member f 0 n (λ i _ p. member-id i (omega arith)) in
         ap (chain (drop nextColumn columns) mostMembers) e
         ∙ chain-takes f (drop nextColumn columns) n linked n 0 mostMembers (omega arith)

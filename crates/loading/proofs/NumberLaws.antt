@@ -7,9 +7,10 @@ use lib.Dec.{eqb, ltb}
 use lib.ListN.{getD}
 use borrow.Author.Tests.{eqb-true, eqb-false, ltb-true, ltb-false}
 use Rattle.laws.proofs.Cases.{bool-cases}
+use Rattle.arrays.specs.Room.{mostPlaces}
 use Rattle.verdicts.specs.Places.{rowsBefore}
 use Rattle.verdicts.proofs.EntryLaws.{rows-before-next}
-use Rattle.kept.specs.Stored.{places, at, tableColumn}
+use Rattle.kept.specs.Stored.{at, tableColumn}
 use Rattle.kept.specs.FirstPass.{Situations}
 use Rattle.judged.specs.Passes.{columnOf}
 use Rattle.judged.proofs.Held.{column-at}
@@ -49,7 +50,7 @@ module _ (texts : List (List ℕ)) where
             (λ q. omega (arith, earlier t u (ltb-true t u q)))
             (λ q. absurd (omega (arith, earlier u t (omega (arith, ltb-false t u q, ne)))))
 
-module _ (texts : List (List ℕ)) (halves bytes : List ℕ) (n : ℕ) (few : n ≤ places) (w : Situations texts halves bytes n) where
+module _ (texts : List (List ℕ)) (halves bytes : List ℕ) (n : ℕ) (few : n ≤ mostPlaces) (w : Situations texts halves bytes n) where
   abbrev tables : List ℕ
   tables = columnOf bytes tableColumn
 

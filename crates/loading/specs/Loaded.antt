@@ -5,10 +5,12 @@ use mathlib.Core.Bool.{Bool, false, _&&_}
 use mathlib.Core.List.{List, []}
 use lib.Dec.{leb}
 use lib.ListN.{length, replicate}
+use Rattle.arrays.specs.Room.{mostPlaces}
+use Rattle.symbols.specs.Arrays.{allWords, allLinks}
 use Rattle.tables.specs.Sizes.{fit, refusedBy, sizesOf}
 use Rattle.judged.specs.Passes.{JudgedInto}
 use Rattle.indexing.specs.Indexing.{IndexedBy}
-use Rattle.database.specs.Arrays.{places, allColumns, database, answers}
+use Rattle.database.specs.Arrays.{allColumns, database, answers}
 use Rattle.database.specs.GoodRows.{ofTables}
 use Rattle.loading.specs.declared.Loading.{Loading}
 use Rattle.loading.specs.declared.Loading.the-variants.{Done, TooLong, TooManyRows, NoRoom}
@@ -22,9 +24,9 @@ pub record Lent : Type 0 where
 abbrev pub lent : (words links columns : List ℕ) → Lent
 lent words links columns = record { words = words; links = links; columns = columns }
 
--- they have places for fourteen tables and their symbols
+-- they have all their places
 abbrev pub hasRoom : Lent → Bool
-hasRoom l = leb 114688 (length (l .words)) && (leb 73728 (length (l .links)) && leb allColumns (length (l .columns)))
+hasRoom l = leb allWords (length (l .words)) && (leb allLinks (length (l .links)) && leb allColumns (length (l .columns)))
 
 -- none of them is there
 example : hasRoom (lent [] [] []) ≡ false
@@ -40,5 +42,5 @@ Loads texts before after NoRoom = (sizesOf texts ≡ fit) × (hasRoom before ≡
 -- the rows that are kept are judged, and the good ones indexed
 pub record IndexMade (halves bytes columns : List ℕ) (n : ℕ) : Type 0 where
   pub cells : List ℕ
-  pub judged : JudgedInto halves bytes (replicate places 0) cells n
-  pub indexed : IndexedBy halves bytes cells columns (min n places)
+  pub judged : JudgedInto halves bytes (replicate mostPlaces 0) cells n
+  pub indexed : IndexedBy halves bytes cells columns (min n mostPlaces)

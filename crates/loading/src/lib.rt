@@ -1,7 +1,7 @@
 // Loading: tables read and judged into the arrays of the database.
+use arrays::PLACES;
 use indexing::index_rows;
 use judged::judge_kept;
-use judged::parts::PLACES;
 use kept::BYTES;
 use kept::Keeping;
 use kept::keep;
@@ -10,7 +10,7 @@ use units::TableNumber;
 ghost use mathlib.Core.List.{map};
 ghost use Rattle.loading.specs.Loaded.{lent, IndexMade, Loads};
 
-// Done; or refused: the first table that is too large, from 1, or an array that is too short.
+// Done; or refused: the first table that is too large, or an array that is too short.
 pub enum Loading {
     Done,
     TooLong(TableNumber),
@@ -39,8 +39,8 @@ pub fn load(
 {
     let mut bytes = [0u8; BYTES];
     match keep(tables, words, links, columns, &mut bytes) {
-        Keeping::TooLong(table) => Loading::TooLong(TableNumber(table)),
-        Keeping::TooManyRows(table) => Loading::TooManyRows(TableNumber(table)),
+        Keeping::TooLong(table) => Loading::TooLong(table),
+        Keeping::TooManyRows(table) => Loading::TooManyRows(table),
         Keeping::NoRoom => Loading::NoRoom,
         Keeping::Done(rows, _) => {
             index_kept(columns, &bytes, rows);

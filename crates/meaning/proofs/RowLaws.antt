@@ -1,12 +1,12 @@
 -- The rows of the tables can be told apart, and hold at most two keys and belong to at most one group.
 use mathlib.Core.Path.{_≡_, refl, ap, sym, subst, _∙_}
 use mathlib.Core.Bool.{Bool, true, false, cond}
-use mathlib.Core.List.{List, [], _∷_, _++_, map, List·Memᴰ, List·Memᴰ·head, List·Memᴰ·not-nil, List·Memᴰ·eq-of-singleton}
+use mathlib.Core.List.{List, [], _∷_, _++_}
 use Prim.Native.Nat.{ℕ, zero, suc, _+_, _-_, _≤_, _<_}
 use native.Mathlib.Omega.{arith}
 use native.Mathlib.Decide.{ℕ-discrete}
 use lib.Dec.{eqb, ltb}
-use lib.ListN.{length, getD, take, length-append, List·getD-append}
+use lib.ListN.{length, getD, length-append, List·getD-append}
 use lib.Seq.{getD-append-add}
 use borrow.Author.Tests.{eqb-true, eq-eqb, ne-eqb, ltb-true, ltb-false}
 use Rattle.laws.proofs.Cases.{bool-cases, and-left, and-right}
@@ -20,7 +20,7 @@ use Rattle.formed.specs.Formed.{formed}
 use Rattle.rows.specs.declared.records.PidRow.{PidRow}
 use Rattle.rows.specs.declared.letters.Valid.{Valid}
 use Rattle.rows.specs.declared.letters.Valid.the-variants.{Yes, No}
-use Rattle.verdicts.specs.Key.{Key, keyWords, sameKey}
+use Rattle.verdicts.specs.Key.{keyWords, sameKey}
 use Rattle.verdicts.specs.Facts.{Facts, pidKeys, pidFacts, picFacts, plfFacts, pcfFacts, cafFacts, capFacts, txfFacts, txpFacts, ocfFacts, ocpFacts, factsOf}
 use Rattle.verdicts.specs.Entries.{Entry, bad, fine, readingOf, said, facts, entry, entriesOf, entriesFrom, allRows}
 use Rattle.verdicts.specs.Steps.{twin}
@@ -136,34 +136,6 @@ groups-single Txf line = no-group
 groups-single Txp line = one-group
 groups-single Ocf line = no-group
 groups-single Ocp line = one-group
-
--- a row is counted in a group whose key it names, so that its group asks for no further symbol
-pub groups-named : (t : Table) (line : List ℕ) {g : Key} → List·Memᴰ g (factsOf t line .groups) → List·Memᴰ g (map (λ n. n .key) (factsOf t line .names))
-unfolding factsOf pidFacts picFacts plfFacts pcfFacts cafFacts capFacts txfFacts txpFacts ocfFacts ocpFacts
-groups-named Pid line m = absurd (List·Memᴰ·not-nil m)
-groups-named Pic line m = absurd (List·Memᴰ·not-nil m)
-groups-named Plf line m = absurd (List·Memᴰ·not-nil m)
-groups-named Pcf line m = absurd (List·Memᴰ·not-nil m)
-groups-named Caf line m = absurd (List·Memᴰ·not-nil m)
-groups-named Cap line m = List·Memᴰ·head (List·Memᴰ·eq-of-singleton m)
-groups-named Txf line m = absurd (List·Memᴰ·not-nil m)
-groups-named Txp line m = List·Memᴰ·head (List·Memᴰ·eq-of-singleton m)
-groups-named Ocf line m = absurd (List·Memᴰ·not-nil m)
-groups-named Ocp line m = List·Memᴰ·head (List·Memᴰ·eq-of-singleton m)
-
--- and what it counts goes by its own key
-pub counts-own : (t : Table) (line : List ℕ) → map (λ n. n .group) (factsOf t line .counts) ≡ take (length (factsOf t line .counts)) (factsOf t line .keys)
-unfolding factsOf pidFacts picFacts plfFacts pcfFacts cafFacts capFacts txfFacts txpFacts ocfFacts ocpFacts
-counts-own Pid line = refl
-counts-own Pic line = refl
-counts-own Plf line = refl
-counts-own Pcf line = refl
-counts-own Caf line = refl
-counts-own Cap line = refl
-counts-own Txf line = refl
-counts-own Txp line = refl
-counts-own Ocf line = refl
-counts-own Ocp line = refl
 
 -- a row that isn't well-formed says nothing
 formed-part : {A : Type 0} (P : List A → Type 0) (part : Facts → List A) (fs : Facts) (v : ℕ) (z : Bool) → P (part fs) → P (part (said (bad v))) → P (part (said (cond z (fine fs) (bad v))))

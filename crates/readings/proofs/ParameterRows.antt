@@ -1,7 +1,7 @@
 -- The rows that hold parameters are of pcf, which has at most 1,024 where the tables aren't refused.
 use mathlib.Core.Path.{_≡_, refl, ap, sym, _∙_, subst}
 use mathlib.Core.Bool.{Bool, true, false, cond}
-use mathlib.Core.List.{List, [], _∷_, _++_, map, List·Memᴰ, List·Memᴰ·head, List·Memᴰ·tail, List·Memᴰ·not-nil, List·Memᴰ·eq-of-singleton}
+use mathlib.Core.List.{List, [], _∷_, _++_, List·Memᴰ, List·Memᴰ·head, List·Memᴰ·tail}
 use mathlib.Core.Option.{some}
 use Prim.Native.Nat.{ℕ, suc, _+_, _≤_, _<_}
 use native.Mathlib.Omega.{arith}
@@ -9,25 +9,19 @@ use lib.Dec.{eqb, ltb}
 use lib.ListN.{length, getD, length-append, List·getD-eq-default}
 use borrow.Author.Tests.{eq-eqb, ne-eqb, eqb-true, ltb-true, ltb-false}
 use Rattle.laws.specs.Lists.{keep}
-use Rattle.laws.specs.Values.{tabulate}
 use Rattle.laws.proofs.Cases.{bool-cases, cond-cases}
-use Rattle.laws.proofs.Lists.{map-at}
 use Rattle.laws.proofs.Tests.{any-witness, keep-mem, keep-length}
-use Rattle.laws.proofs.Values.{tabulate-at}
 use Rattle.lines.specs.Lines.{Line, linesOf}
 use Rattle.lines.specs.declared.names.Name.{Name}
 use Rattle.schemas.specs.declared.Table.{Table}
-use Rattle.schemas.specs.declared.Table.the-variants.{Pid, Pic, Plf, Pcf, Caf, Cap, Txf, Txp, Ocf, Ocp}
-use Rattle.rows.specs.Records.{pidRow}
-use Rattle.rows.specs.declared.records.PidRow.{PidRow}
+use Rattle.schemas.specs.declared.Table.the-variants.{Pcf, Ocp}
 use Rattle.rows.specs.declared.records.PcfRow.{PcfRow}
-use Rattle.rows.specs.declared.letters.Valid.{Valid}
-use Rattle.rows.specs.declared.letters.Valid.the-variants.{Yes, No}
-use Rattle.verdicts.specs.Key.{Key, structure, parameter, keyWords, sameKey}
-use Rattle.verdicts.specs.Facts.{pidKeys, pidFacts, picFacts, plfFacts, pcfFacts, cafFacts, capFacts, txfFacts, txpFacts, ocfFacts, ocpFacts, factsOf}
-use Rattle.verdicts.specs.Entries.{carried}
+use Rattle.verdicts.specs.Key.{Key, parameter, sameKey}
+use Rattle.verdicts.specs.Facts.{factsOf}
+use Rattle.verdicts.specs.Entries.{carried, tableCount, carriedAt}
 use Rattle.verdicts.specs.Answer.{tooManyRows}
 use Rattle.verdicts.proofs.KeyLaws.{same-key-is}
+use Rattle.verdicts.proofs.OwnerLaws.{tableIndex, index-is, ownerOf, of-table}
 use Rattle.tables.proofs.SizeLaws.{few}
 use Rattle.database.specs.Rows.{Row}
 use Rattle.database.specs.GoodRows.{rowsOf, rowsFrom, rowsIn, isGood, goodRows, tableOf, holdsKey, find, among, ofTables}
@@ -65,62 +59,20 @@ found-passes passes (x ∷ rows) r e = by (passes x) refl e (found-passes passes
 
 -- Rows that hold parameters
 
--- a key of another key space
-other-key : (name : Name) (k : Key) → (getD (keyWords k) 0 0 ≡ 4 → ⊥) → List·Memᴰ (parameter name) (k ∷ []) → ⊥
-unfolding keyWords
-other-key name k h m = h (ap (λ (x : Key). getD (keyWords x) 0 0) (sym (List·Memᴰ·eq-of-singleton m)))
-
-pid-none : (v : Valid) (r : PidRow) (name : Name) → List·Memᴰ (parameter name) (pidKeys v r) → ⊥
-unfolding pidKeys keyWords
-pid-none Yes r name (List·Memᴰ·head q) = let z : _≡_ {A = ℕ} 0 1 = cc in omega arith
-pid-none Yes r name (List·Memᴰ·tail m) = other-key name (structure (r .spid .0)) (λ e. omega arith) m
-pid-none No r name m = List·Memᴰ·not-nil m
-
-of-pcf : (t : Table) (line : List ℕ) (name : Name) → List·Memᴰ (parameter name) (factsOf t line .keys) → t ≡ Pcf
-unfolding keyWords factsOf pidFacts picFacts plfFacts pcfFacts cafFacts capFacts txfFacts txpFacts ocfFacts ocpFacts
-of-pcf Pid line name m = absurd (pid-none (pidRow line .valid) (pidRow line) name m)
-of-pcf Pic line name m = absurd (other-key name _ (λ e. omega arith) m)
-of-pcf Plf line name m = absurd (other-key name _ (λ e. omega arith) m)
-of-pcf Pcf line name m = refl
-of-pcf Caf line name m = absurd (other-key name _ (λ e. omega arith) m)
-of-pcf Cap line name m = absurd (other-key name _ (λ e. omega arith) m)
-of-pcf Txf line name m = absurd (other-key name _ (λ e. omega arith) m)
-of-pcf Txp line name m = absurd (other-key name _ (λ e. omega arith) m)
-of-pcf Ocf line name m = absurd (other-key name _ (λ e. omega arith) m)
-of-pcf Ocp line name m = absurd (other-key name _ (λ e. omega arith) m)
-
--- the number of a table, from 0
-numberOf : Table → ℕ
-numberOf Pid = 0
-numberOf Pic = 1
-numberOf Plf = 2
-numberOf Pcf = 3
-numberOf Caf = 4
-numberOf Cap = 5
-numberOf Txf = 6
-numberOf Txp = 7
-numberOf Ocf = 8
-numberOf Ocp = 9
-
-number-is : (u : ℕ) → u < 10 → numberOf (getD carried u Ocp) ≡ u
-unfolding numberOf tabulate
-number-is u h =
-    let e : map numberOf carried ≡ tabulate (λ (i : ℕ). i) 0 10 = refl in
-    sym (map-at numberOf carried u Ocp 0 h) ∙ ap (λ (l : List ℕ). getD l u 0) e ∙ tabulate-at (λ (i : ℕ). i) 0 10 u h ∙ omega arith
-
-pcf-number : (u : ℕ) → getD carried u Ocp ≡ Pcf → u ≡ 3
-unfolding numberOf
+-- pcf is the fourth table
+pcf-number : (u : ℕ) → carriedAt u ≡ Pcf → u ≡ 3
+unfolding tableIndex
 pcf-number u e =
-    bool-cases (ltb u 10)
-    (λ t. sym (number-is u (ltb-true u 10 t)) ∙ ap numberOf e)
-    (λ f. let q = List·getD-eq-default carried Ocp {n = u} (ltb-false u 10 f) in absurd (let z : _≡_ {A = ℕ} 0 1 = cc in omega arith))
+    bool-cases (ltb u tableCount)
+    (λ t. sym (index-is u (ltb-true u tableCount t)) ∙ ap tableIndex e)
+    (λ f. let q = List·getD-eq-default carried Ocp {n = u} (ltb-false u tableCount f) in absurd (let z : _≡_ {A = ℕ} 0 1 = cc in omega arith))
 
 holds-number : (name : Name) (row : Row) → holdsKey (parameter name) row ≡ true → row .table ≡ 3
-unfolding holdsKey
+unfolding holdsKey ownerOf
 holds-number name row e =
     let w = any-witness (sameKey (parameter name)) (factsOf (tableOf row) (row .bytes) .keys) e in
     let m = subst (λ (k : Key). List·Memᴰ k (factsOf (tableOf row) (row .bytes) .keys)) (sym (same-key-is (parameter name) (w .0) (w .2))) (w .1) in
-    pcf-number (row .table) (of-pcf (tableOf row) (row .bytes) name m)
+    pcf-number (row .table) (sym (of-table (tableOf row) (row .bytes) (parameter name) m))
 
 -- The rows of one table
 

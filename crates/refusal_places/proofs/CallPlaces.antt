@@ -11,6 +11,7 @@ use Rattle.lines.specs.declared.names.Name.{Name}
 use Rattle.rows.specs.Records.{pcfRow}
 use Rattle.verdicts.specs.Answer.{tooLong, tooManyRows}
 use Rattle.verdicts.specs.Key.{parameter}
+use Rattle.verdicts.specs.Entries.{tableCount}
 use Rattle.tables.specs.Sizes.{Sized, sizesOf}
 use Rattle.outcomes.specs.Outcome.{Outcome, refused}
 use Rattle.outcomes.specs.Values.{Value, number, part}
@@ -47,14 +48,14 @@ module _ (rows : Rows) (ranges : InRanges rows) (p name : List ℕ) (k : ℕ) wh
   unfolding engineerBy
   engineer-small = small-then (extractBy rows p name k) _ extract-small (λ r _. value-small rows (nameOf name) (r .value))
 
-module _ (texts : List (List ℕ)) (ten : length texts ≡ 10) where
+module _ (texts : List (List ℕ)) (all : length texts ≡ tableCount) where
   asking-small : {A : Type 0} (ask : Rows → Outcome A) → ((rows : Rows) → InRanges rows → Small (ask rows)) → Small (asking texts ask)
   unfolding asking afterSizes sizesOf
   asking-small ask h =
       cond-cases (λ (s : Sized). Small (afterSizes s (ask (ofTables texts)))) (eqb (tooLong texts) 0)
       (λ _. cond-cases (λ (s : Sized). Small (afterSizes s (ask (ofTables texts)))) (eqb (tooManyRows texts) 0)
-      (λ _. h (ofTables texts) (tables-in-ranges texts)) (λ _. small-place 2 (many-small texts ten)))
-      (λ _. small-place 1 (long-small texts ten))
+      (λ _. h (ofTables texts) (tables-in-ranges texts)) (λ _. small-place 2 (many-small texts all)))
+      (λ _. small-place 1 (long-small texts all))
 
   pub identify-of-small : (p : List ℕ) → Small (identifyOf texts p)
   unfolding identifyOf

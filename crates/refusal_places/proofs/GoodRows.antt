@@ -11,61 +11,21 @@ use Rattle.laws.proofs.Cases.{and-left}
 use Rattle.laws.proofs.Tests.{any-witness, keep-mem}
 use Rattle.lines.specs.Lines.{Line, linesOf}
 use Rattle.schemas.specs.declared.Table.{Table}
-use Rattle.schemas.specs.declared.Table.the-variants.{Pid, Pic, Plf, Pcf, Caf, Cap, Txf, Txp, Ocf, Ocp}
-use Rattle.rows.specs.Records.{pidRow}
-use Rattle.rows.specs.declared.records.PidRow.{PidRow}
-use Rattle.rows.specs.declared.letters.Valid.{Valid}
-use Rattle.rows.specs.declared.letters.Valid.the-variants.{Yes, No}
 use Rattle.formed.specs.Formed.{formed}
-use Rattle.verdicts.specs.Key.{Key, packet, structure, identification, location, parameter, curve, point, texts as textsKey, range, limits, check, sameKey}
-use Rattle.verdicts.specs.Facts.{pidKeys, pidFacts, picFacts, plfFacts, pcfFacts, cafFacts, capFacts, txfFacts, txpFacts, ocfFacts, ocpFacts, factsOf}
-use Rattle.verdicts.specs.Entries.{own, carried, allRows}
+use Rattle.verdicts.specs.Key.{Key, sameKey}
+use Rattle.verdicts.specs.Facts.{factsOf}
+use Rattle.verdicts.specs.Entries.{own, allRows, carriedAt, carried}
 use Rattle.verdicts.specs.Verdicts.{sound}
 use Rattle.verdicts.specs.Places.{textAt, noLine, entryAt, verdictAt}
 use Rattle.verdicts.proofs.EntryLaws.{own-reading}
 use Rattle.verdicts.proofs.GoodLaw.{good-law}
 use Rattle.verdicts.proofs.KeyLaws.{same-key-is}
+use Rattle.verdicts.proofs.OwnerLaws.{ownerOf, of-table}
 use Rattle.database.specs.Rows.{Row}
 use Rattle.database.specs.GoodRows.{rowsIn, isGood, goodRows, tableOf, holdsKey, among, ofTables}
 use Rattle.database.proofs.RowLaws.{found-passes, in-tables}
 
 -- The table of a key
-
--- the table whose rows hold keys of this key space
-unfoldable pub ownerOf : Key → Table
-ownerOf (packet ptype stype apid pi1 pi2) = Pid
-ownerOf (structure spid) = Pid
-ownerOf (identification ptype stype apid) = Pic
-ownerOf (location name spid) = Plf
-ownerOf (parameter name) = Pcf
-ownerOf (curve numbr) = Caf
-ownerOf (point numbr x) = Cap
-ownerOf (textsKey numbr) = Txf
-ownerOf (range numbr from) = Txp
-ownerOf (limits name) = Ocf
-ownerOf (check name position) = Ocp
-
-of-one : (t : Table) (k l : Key) → ownerOf l ≡ t → List·Memᴰ k (l ∷ []) → ownerOf k ≡ t
-of-one t k l e m = ap ownerOf (List·Memᴰ·eq-of-singleton m) ∙ e
-
-of-pid : (v : Valid) (r : PidRow) (k : Key) → List·Memᴰ k (pidKeys v r) → ownerOf k ≡ Pid
-unfolding pidKeys ownerOf
-of-pid Yes r k (List·Memᴰ·head q) = ap ownerOf q
-of-pid Yes r k (List·Memᴰ·tail m) = of-one Pid k (structure (r .spid .0)) refl m
-of-pid No r k m = absurd (List·Memᴰ·not-nil m)
-
-of-table : (t : Table) (line : List ℕ) (k : Key) → List·Memᴰ k (factsOf t line .keys) → ownerOf k ≡ t
-unfolding ownerOf factsOf pidFacts picFacts plfFacts pcfFacts cafFacts capFacts txfFacts txpFacts ocfFacts ocpFacts
-of-table Pid line k m = of-pid (pidRow line .valid) (pidRow line) k m
-of-table Pic line k m = of-one Pic k _ refl m
-of-table Plf line k m = of-one Plf k _ refl m
-of-table Pcf line k m = of-one Pcf k _ refl m
-of-table Caf line k m = of-one Caf k _ refl m
-of-table Cap line k m = of-one Cap k _ refl m
-of-table Txf line k m = of-one Txf k _ refl m
-of-table Txp line k m = of-one Txp k _ refl m
-of-table Ocf line k m = of-one Ocf k _ refl m
-of-table Ocp line k m = of-one Ocp k _ refl m
 
 pub holds-owner : (k : Key) (row : Row) → holdsKey k row ≡ true → ownerOf k ≡ tableOf row
 unfolding holdsKey
@@ -76,10 +36,10 @@ holds-owner k row e =
 -- A good row
 
 -- 01: "Good is 0": it is without reasons 1 to 8
-formed-line : (texts : List (List ℕ)) (u r : ℕ) → verdictAt texts u r ≡ 0 → formed (getD carried u Ocp) (getD (linesOf (textAt texts u)) (r - 1) noLine) ≡ 0
+formed-line : (texts : List (List ℕ)) (u r : ℕ) → verdictAt texts u r ≡ 0 → formed (carriedAt u) (getD (linesOf (textAt texts u)) (r - 1) noLine) ≡ 0
 unfolding verdictAt entryAt sound
 formed-line texts u r v =
-    sym (own-reading (getD carried u Ocp) (getD (linesOf (textAt texts u)) (r - 1) noLine))
+    sym (own-reading (carriedAt u) (getD (linesOf (textAt texts u)) (r - 1) noLine))
     ∙ eqb-true (own (entryAt texts u r .reading)) 0 (and-left _ _ (good-law (allRows texts) (entryAt texts u r) .0 v .isSound))
 
 -- a row has a line that passes its table's columns

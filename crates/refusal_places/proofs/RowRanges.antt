@@ -28,9 +28,10 @@ use Rattle.rows.specs.declared.records.PlfRow.{PlfRow}
 use Rattle.formed.proofs.Meaning.{column-passes, natural-column, integer-column}
 use Rattle.rows.specs.declared.records.OptionalApid.{OptionalApid}
 use Rattle.verdicts.specs.Key.{identification, location}
+use Rattle.verdicts.proofs.OwnerLaws.{ownerOf}
 use Rattle.database.specs.Rows.{Row, Rows}
 use Rattle.database.specs.GoodRows.{ofTables}
-use Rattle.refusal_places.proofs.GoodRows.{ownerOf, HasLine, holder-line}
+use Rattle.refusal_places.proofs.GoodRows.{HasLine, holder-line}
 
 -- A column
 

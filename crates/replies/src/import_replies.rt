@@ -23,8 +23,8 @@ pub fn say_imported(imported: Imported) -> Answer
             0,
             rows,
         ),
-        Imported::TooLong(table) => refused(1, table as u64),
-        Imported::TooManyRows(table) => refused(2, table as u64),
+        Imported::TooLong(table) => refused(1, table.0 as u64),
+        Imported::TooManyRows(table) => refused(2, table.0 as u64),
         Imported::TooFewCells => refused(3, 0),
     }
 }
@@ -44,8 +44,8 @@ pub fn say_only(imported: Imported, cell: u16) -> Answer
 {
     match imported {
         Imported::Done(_, _) => say_cell(cell),
-        Imported::TooLong(table) => refused(1, table as u64),
-        Imported::TooManyRows(table) => refused(2, table as u64),
+        Imported::TooLong(table) => refused(1, table.0 as u64),
+        Imported::TooManyRows(table) => refused(2, table.0 as u64),
         Imported::TooFewCells => refused(3, 0),
     }
 }

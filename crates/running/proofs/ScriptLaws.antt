@@ -20,8 +20,8 @@ use Rattle.questions.specs.declared.Judged.{Judged}
 use Rattle.answers.specs.declared.compare.Verdict.the-variants.{Unread}
 use Rattle.limit_state.specs.declared.state.LimitState.{LimitState}
 use Rattle.laws.proofs.Cases.{bool-cases, false≢true}
-use Rattle.areas.specs.Memory.{Kept, areaIn, tablesIn}
-use Rattle.settings.specs.Settings.{setArea, setState, textBytes}
+use Rattle.areas.specs.Memory.{Kept, areaIn, tablesIn, packetArea}
+use Rattle.settings.specs.Settings.{setArea, setState, textBytes, stateSetting, settingCount}
 use Rattle.questions.specs.Questions.{judged}
 use Rattle.running.specs.Script.{stood, firstStanding}
 use Rattle.tallies.specs.Totals.{counted, noTally}
@@ -62,19 +62,19 @@ module _ (s : Standing) where
   taken-question [] h n q = absurd (omega arith)
   taken-question (b ∷ bs) h n q = rw (ne-eqb b 35 n, lt-ltb (questionOf (wordOf (b ∷ bs))) 12 q)
 
-  pub taken-setting : (line : List ℕ) → 0 < length line → (getD line 0 0 ≡ 35 → ⊥) → 12 ≤ questionOf (wordOf line) → settingOf (wordOf line) < 15
+  pub taken-setting : (line : List ℕ) → 0 < length line → (getD line 0 0 ≡ 35 → ⊥) → 12 ≤ questionOf (wordOf line) → settingOf (wordOf line) < settingCount
       → setBy s (settingOf (wordOf line)) (textOf line) ≡ taken s line
   unfolding taken
   taken-setting [] h n q k = absurd (omega arith)
   taken-setting (b ∷ bs) h n q k =
-      rw (ne-eqb b 35 n, le-ltb (questionOf (wordOf (b ∷ bs))) 12 q, lt-ltb (settingOf (wordOf (b ∷ bs))) 15 k)
+      rw (ne-eqb b 35 n, le-ltb (questionOf (wordOf (b ∷ bs))) 12 q, lt-ltb (settingOf (wordOf (b ∷ bs))) settingCount k)
 
-  pub taken-unread : (line : List ℕ) → 0 < length line → (getD line 0 0 ≡ 35 → ⊥) → 12 ≤ questionOf (wordOf line) → 15 ≤ settingOf (wordOf line)
+  pub taken-unread : (line : List ℕ) → 0 < length line → (getD line 0 0 ≡ 35 → ⊥) → 12 ≤ questionOf (wordOf line) → settingCount ≤ settingOf (wordOf line)
       → unreadLine s ≡ taken s line
   unfolding taken
   taken-unread [] h n q k = absurd (omega arith)
   taken-unread (b ∷ bs) h n q k =
-      rw (ne-eqb b 35 n, le-ltb (questionOf (wordOf (b ∷ bs))) 12 q, le-ltb (settingOf (wordOf (b ∷ bs))) 15 k)
+      rw (ne-eqb b 35 n, le-ltb (questionOf (wordOf (b ∷ bs))) 12 q, le-ltb (settingOf (wordOf (b ∷ bs))) settingCount k)
 
 -- A standing as it is held
 
@@ -102,34 +102,34 @@ module _ (space ends : List ℕ) (state : LimitState) (tally : Tally) (r : held.
   after = record { space = space; ends = ends; state = r .state; waits = none; tally = r .tally }
 
   pub answered-is : (question line : List ℕ) (k : ℕ) (j : Judged) → k ≡ questionOf (wordOf question)
-      → j ≡ judged k (tablesIn (record { space = space; ends = ends })) (areaIn (record { space = space; ends = ends }) 10)
+      → j ≡ judged k (tablesIn (record { space = space; ends = ends })) (areaIn (record { space = space; ends = ends }) packetArea)
       (textOf question) state line
       → r ≡ stood (j .state) (counted tally k (j .verdict)) → after ≡ answered before question line
   unfolding answered stood
   answered-is question line k j ek ej er = rw (er, ej, ek)
 
-  pub state-read : (k : ℕ) (raw : List ℕ) (l : SetLine) → k ≡ 14 → l ≡ setState state (textBytes raw) → l .readable ≡ true
+  pub state-read : (k : ℕ) (raw : List ℕ) (l : SetLine) → k ≡ stateSetting → l ≡ setState state (textBytes raw) → l .readable ≡ true
       → r ≡ stood (l .state) tally → after ≡ setBy before k raw
   unfolding setBy stood
-  state-read k raw l ek el t er = rw (er, eq-eqb k 14 ek, ← el, t)
+  state-read k raw l ek el t er = rw (er, eq-eqb k stateSetting ek, ← el, t)
 
-  pub state-unread : (k : ℕ) (raw : List ℕ) (l : SetLine) → k ≡ 14 → l ≡ setState state (textBytes raw) → l .readable ≡ false
+  pub state-unread : (k : ℕ) (raw : List ℕ) (l : SetLine) → k ≡ stateSetting → l ≡ setState state (textBytes raw) → l .readable ≡ false
       → r ≡ stood (l .state) (counted tally 0 Unread)
       → after ≡ setBy before k raw
   unfolding setBy stood
-  state-unread k raw l ek el t er = rw (er, eq-eqb k 14 ek, ← el, t)
+  state-unread k raw l ek el t er = rw (er, eq-eqb k stateSetting ek, ← el, t)
 
-  pub area-read : (k : ℕ) (raw : List ℕ) (m : Kept) → (k ≡ 14 → ⊥) → m ≡ setArea k (record { space = space; ends = ends }) raw → m .readable ≡ true
+  pub area-read : (k : ℕ) (raw : List ℕ) (m : Kept) → (k ≡ stateSetting → ⊥) → m ≡ setArea k (record { space = space; ends = ends }) raw → m .readable ≡ true
       → r ≡ stood state tally
       → record { space = m .space; ends = m .ends; state = r .state; waits = none; tally = r .tally } ≡ setBy before k raw
   unfolding setBy stood
-  area-read k raw m nk em t er = rw (er, ne-eqb k 14 nk, ← em, t)
+  area-read k raw m nk em t er = rw (er, ne-eqb k stateSetting nk, ← em, t)
 
-  pub area-unread : (k : ℕ) (raw : List ℕ) (m : Kept) → (k ≡ 14 → ⊥) → m ≡ setArea k (record { space = space; ends = ends }) raw → m .readable ≡ false
+  pub area-unread : (k : ℕ) (raw : List ℕ) (m : Kept) → (k ≡ stateSetting → ⊥) → m ≡ setArea k (record { space = space; ends = ends }) raw → m .readable ≡ false
       → r ≡ stood state (counted tally 0 Unread)
       → record { space = m .space; ends = m .ends; state = r .state; waits = none; tally = r .tally } ≡ setBy before k raw
   unfolding setBy stood
-  area-unread k raw m nk em t er = rw (er, ne-eqb k 14 nk, ← em, t)
+  area-unread k raw m nk em t er = rw (er, ne-eqb k stateSetting nk, ← em, t)
 
 pub first-standing : (text space ends : List ℕ) (r : held.Standing)
     → r ≡ stood (record { fresh = true; apid = 0; count = 0; run = 0; announced = 0 })

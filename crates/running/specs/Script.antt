@@ -7,6 +7,7 @@ use mathlib.Core.Option.{Option, some, none}
 use lib.Dec.{eqb, ltb}
 use lib.ListN.{replicate}
 use Rattle.laws.specs.Text.{ascii, char}
+use Rattle.laws.specs.Values.{tabulate}
 use Rattle.numbers.specs.Number.{numberOf, meaning, spelt, after, digitOn, digitOf, answerOf}
 use Rattle.lines.specs.Lines.{Line, linesOf, lead, onFirst}
 use Rattle.lines.specs.Columns.{partOf, columnsOf, columnsFrom}
@@ -24,8 +25,9 @@ use Rattle.questions.specs.declared.Judged.{Judged}
 use Rattle.questions.specs.Questions.{judged, judgedBytes, judgedText, questionBytesIn, questionVerdict}
 use Rattle.packet_questions.specs.PacketReplies.{replyTo}
 use Rattle.settings.specs.declared.SetLine.{SetLine}
-use Rattle.areas.specs.Memory.{Memory, Kept, memory, areaIn, tablesIn, cleared, firstCleared, allCleared}
-use Rattle.settings.specs.Settings.{setArea, setState, textBytes}
+use Rattle.tables.specs.Parts as tables
+use Rattle.areas.specs.Memory.{Memory, Kept, memory, areaIn, tablesIn, cleared, firstCleared, allCleared, packetArea, areaCount}
+use Rattle.settings.specs.Settings.{setArea, setState, textBytes, stateSetting, settingCount}
 use Rattle.tallies.specs.declared.Tally.{Tally}
 use Rattle.running.specs.declared.Standing as held
 use Rattle.tallies.specs.Totals.{plus, counted, noTally}
@@ -45,7 +47,7 @@ standing space ends state waits tally = record { space = space; ends = ends; sta
 unfoldable pub answered : Standing → (question line : List ℕ) → Standing
 answered s question line =
     let m : Memory = memory (s .space) (s .ends) in
-    let j : Judged = judged (questionOf (wordOf question)) (tablesIn m) (areaIn m 10) (textOf question) (s .state) line in
+    let j : Judged = judged (questionOf (wordOf question)) (tablesIn m) (areaIn m packetArea) (textOf question) (s .state) line in
     record {
       space = s .space;
       ends = s .ends;
@@ -54,10 +56,10 @@ answered s question line =
       tally = counted (s .tally) (questionOf (wordOf question)) (j .verdict);
     }
 
--- a line that sets something, by its word's place in the list of settings; 15 is none of them
+-- a line that sets something, by its word's place in the list of settings
 unfoldable pub setBy : Standing → ℕ → List ℕ → Standing
 setBy s k raw =
-    cond (eqb k 14)
+    cond (eqb k stateSetting)
     (let l : SetLine = setState (s .state) (textBytes raw) in
     record { space = s .space; ends = s .ends; state = l .state; waits = none; tally = cond (l .readable) (s .tally) (counted (s .tally) 0 Unread) })
     (let m : Kept = setArea k (memory (s .space) (s .ends)) raw in
@@ -73,7 +75,7 @@ taken s (b ∷ bs) =
     cond (eqb b (char "#")) s
     (cond (ltb (questionOf (wordOf (b ∷ bs))) 12)
     (record { space = s .space; ends = s .ends; state = s .state; waits = some (b ∷ bs); tally = s .tally })
-    (cond (ltb (settingOf (wordOf (b ∷ bs))) 15) (setBy s (settingOf (wordOf (b ∷ bs))) (textOf (b ∷ bs))) (unreadLine s)))
+    (cond (ltb (settingOf (wordOf (b ∷ bs))) settingCount) (setBy s (settingOf (wordOf (b ∷ bs))) (textOf (b ∷ bs))) (unreadLine s)))
 
 -- under a question a line is its answer
 unfoldable pub nextBy : Standing → List ℕ → Option (List ℕ) → Standing
@@ -108,7 +110,7 @@ firstStanding space ends =
 
 -- all tables and the packet are empty, whatever the space holds
 unfoldable pub tallyOf : (space text : List ℕ) → Tally
-tallyOf space text = closing (afterLines (firstStanding space (allCleared (replicate 11 0))) (linesOf text))
+tallyOf space text = closing (afterLines (firstStanding space (allCleared (replicate areaCount 0))) (linesOf text))
 
 -- a standing as it is held: the question that waits is a part of the text
 unfoldable pub standingIn : (text space ends : List ℕ) → held.Standing → Standing
@@ -136,5 +138,5 @@ unfolding
     allCleared firstCleared cleared linesOf lead onFirst wordOf textOf upto placeOf settingOf questionOf columnsOf columnsFrom nameOf sameName sameBytes
     judged judgedBytes judgedText questionBytesIn within unescaped before beforeByte plain questionVerdict replyTo verdictOf
     numberAnswer integerAnswer wordsAnswer saying composed numberOf meaning spelt after digitOn digitOf answerOf
-    spoken signText spelled decimal places partAt cellsText tablesIn areaIn
+    spoken signText spelled decimal places partAt cellsText tablesIn areaIn tables.tablesIn tables.tableIn tabulate
 examples = record { four = refl }

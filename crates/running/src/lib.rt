@@ -15,6 +15,8 @@ use scripts::verb::question_of;
 use scripts::verb::setting_of;
 use scripts::verb::text_of;
 use scripts::verb::word_of;
+use settings::SETTINGS;
+use settings::STATE;
 use settings::set_area;
 use settings::set_state;
 use std::num::wrapping_sub_usize;
@@ -108,7 +110,7 @@ fn take_setting(
         ≡ setBy (standing (now (space .entry)) (now (ends .entry)) state none tally) k (textOf (now (line .entry))) ⌝ }
     ensures { λ r. ⌜ r ≡ stood (r .state) (r .tally) ⌝ }
 {
-    if k == 14 {
+    if k == STATE {
         let l = set_state(text_of(line), state);
         if l.readable {
             return stands(l.state, tally);
@@ -156,7 +158,7 @@ fn take_line(
         };
     }
     let k = setting_of(word);
-    if k < 15 {
+    if k < SETTINGS {
         return take_setting(name, number, k, line, space, ends, state, tally);
     }
     say_unread(name, number, line);

@@ -26,7 +26,7 @@ unfoldable pub placeOf : List ℕ → List (List ℕ) → ℕ
 placeOf word [] = 0
 placeOf word (w ∷ ws) = cond (sameName (nameOf w) (nameOf word)) 0 (suc (placeOf word ws))
 
--- the tables in 01's order, the packet, and the other words that set something; 15 is none of them
+-- the tables in 01's order, the packet, and the other words that set something; their number is none of them
 unfoldable pub settingOf : List ℕ → ℕ
 settingOf word = placeOf word (columnsOf (ascii "pid\tpic\tplf\tpcf\tcaf\tcap\ttxf\ttxp\tocf\tocp\tpacket\tpacket+\tfill\tclear\tstate"))
 

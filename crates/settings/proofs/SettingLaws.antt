@@ -15,9 +15,9 @@ use Rattle.scripts.specs.declared.operands.Natural.the-variants as natural
 use Rattle.scripts.specs.Escapes.{byteOf}
 use Rattle.scripts.specs.Words.{settingOf}
 use Rattle.scripts.specs.Numerals.{naturalIn, atMost}
-use Rattle.areas.specs.Memory.{Memory, Kept, added, cleared, allCleared}
+use Rattle.areas.specs.Memory.{Memory, Kept, added, cleared, allCleared, packetArea, areaCount}
 use Rattle.areas.specs.Memory.{unread}
-use Rattle.settings.specs.Settings.{byBytes, byteIn, runBytes, addRun, addFill, clearNamed}
+use Rattle.settings.specs.Settings.{byBytes, byteIn, runBytes, addRun, addFill, clearNamed, packetMore, filling, clearing}
 use Rattle.settings.specs.Settings.{setArea, setPacket, addPacket, fill, addRow, stateIn, setState}
 
 pub by-some : (m : Memory) (f : List ℕ → Kept) (o : Option (List ℕ)) (w : List ℕ) → o ≡ some w → f w ≡ byBytes m f o
@@ -64,35 +64,35 @@ module _ (m : Memory) (name : List ℕ) where
   unfolding clearNamed
   clear-every h = rw (eq-eqb (length name) 0 h)
 
-  pub clear-one : (length name ≡ 0 → ⊥) → settingOf name < 11
+  pub clear-one : (length name ≡ 0 → ⊥) → settingOf name < areaCount
       → record { readable = true; space = m .space; ends = cleared (m .ends) (settingOf name) } ≡ clearNamed m name
   unfolding clearNamed
-  clear-one h l = rw (ne-eqb (length name) 0 h, lt-ltb (settingOf name) 11 l)
+  clear-one h l = rw (ne-eqb (length name) 0 h, lt-ltb (settingOf name) areaCount l)
 
-  pub clear-none : (length name ≡ 0 → ⊥) → 11 ≤ settingOf name → unread m ≡ clearNamed m name
+  pub clear-none : (length name ≡ 0 → ⊥) → areaCount ≤ settingOf name → unread m ≡ clearNamed m name
   unfolding clearNamed
-  clear-none h l = rw (ne-eqb (length name) 0 h, le-ltb (settingOf name) 11 l)
+  clear-none h l = rw (ne-eqb (length name) 0 h, le-ltb (settingOf name) areaCount l)
 
 module _ (k : ℕ) (m : Memory) (raw : List ℕ) where
-  pub area-packet : k ≡ 10 → setPacket m raw ≡ setArea k m raw
+  pub area-packet : k ≡ packetArea → setPacket m raw ≡ setArea k m raw
   unfolding setArea
   area-packet e = rw e
 
-  pub area-more : k ≡ 11 → addPacket m raw ≡ setArea k m raw
+  pub area-more : k ≡ packetMore → addPacket m raw ≡ setArea k m raw
   unfolding setArea
   area-more e = rw e
 
-  pub area-fill : k ≡ 12 → fill m raw ≡ setArea k m raw
+  pub area-fill : k ≡ filling → fill m raw ≡ setArea k m raw
   unfolding setArea
   area-fill e = rw e
 
-  pub area-clear : k ≡ 13 → clearNamed m raw ≡ setArea k m raw
+  pub area-clear : k ≡ clearing → clearNamed m raw ≡ setArea k m raw
   unfolding setArea
   area-clear e = rw e
 
-  pub area-row : (k ≡ 10 → ⊥) → (k ≡ 11 → ⊥) → (k ≡ 12 → ⊥) → (k ≡ 13 → ⊥) → addRow m k raw ≡ setArea k m raw
+  pub area-row : (k ≡ packetArea → ⊥) → (k ≡ packetMore → ⊥) → (k ≡ filling → ⊥) → (k ≡ clearing → ⊥) → addRow m k raw ≡ setArea k m raw
   unfolding setArea
-  area-row a b c d = rw (ne-eqb k 10 a, ne-eqb k 11 b, ne-eqb k 12 c, ne-eqb k 13 d)
+  area-row a b c d = rw (ne-eqb k packetArea a, ne-eqb k packetMore b, ne-eqb k filling c, ne-eqb k clearing d)
 
 pub state-some : (s : LimitState) (o : Option (List ℕ)) (w : List ℕ) → o ≡ some w → stateIn s w ≡ setState s o
 unfolding setState
@@ -109,4 +109,4 @@ pub clear-any : (space ends ends′ name : List ℕ) (r : Bool)
 unfolding clearNamed unread
 clear-any space ends ends′ name r e =
     ap (λ (k : Kept). record { readable = k .readable; space = space; ends = k .ends }) e
-    ∙ bool-cases (eqb (length name) 0) (λ t. rw t) (λ t. bool-cases (ltb (settingOf name) 11) (λ u. rw (t, u)) (λ u. rw (t, u)))
+    ∙ bool-cases (eqb (length name) 0) (λ t. rw t) (λ t. bool-cases (ltb (settingOf name) areaCount) (λ u. rw (t, u)) (λ u. rw (t, u)))

@@ -1,5 +1,5 @@
 -- The lines that set tables, the packet and the limit state.
-use Prim.Native.Nat.{ℕ}
+use Prim.Native.Nat.{ℕ, _+_}
 use mathlib.Core.Path.{_≡_, refl}
 use mathlib.Core.Bool.{true, false, cond}
 use mathlib.Core.List.{List, [], _∷_, _++_}
@@ -16,7 +16,7 @@ use Rattle.settings.specs.declared.SetLine.{SetLine}
 use Rattle.scripts.specs.Escapes.{byteOf, unescaped, hexBytes, rowBytes, within, before, beforeByte, plain}
 use Rattle.scripts.specs.Words.{settingOf}
 use Rattle.scripts.specs.Numerals.{naturalIn, naturalOf, atMost}
-use Rattle.areas.specs.Memory.{Memory, Kept, memory, kept, added, cleared, allCleared}
+use Rattle.areas.specs.Memory.{Memory, Kept, memory, kept, added, cleared, allCleared, packetArea, areaCount}
 use Rattle.areas.specs.Memory.{unread}
 
 -- a part of a line has room in a buffer of 65,537 bytes, a row's line feed too
@@ -40,10 +40,10 @@ addRow m t raw = byBytes m (added m t) (lineBytes raw)
 
 -- `packet HEX` and `packet+ HEX`
 unfoldable pub setPacket : Memory → List ℕ → Kept
-setPacket m raw = byBytes m (added (record { space = m .space; ends = cleared (m .ends) 10 }) 10) (packetBytes raw)
+setPacket m raw = byBytes m (added (record { space = m .space; ends = cleared (m .ends) packetArea }) packetArea) (packetBytes raw)
 
 unfoldable pub addPacket : Memory → List ℕ → Kept
-addPacket m raw = byBytes m (added m 10) (packetBytes raw)
+addPacket m raw = byBytes m (added m packetArea) (packetBytes raw)
 
 -- the byte of two digits; 256 is none
 unfoldable pub byteIn : List ℕ → ℕ
@@ -73,15 +73,32 @@ fill m raw = byBytes m (addFill m) (textBytes raw)
 unfoldable pub clearNamed : Memory → List ℕ → Kept
 clearNamed m name =
     cond (eqb (length name) 0) (record { readable = true; space = m .space; ends = allCleared (m .ends) })
-    (cond (ltb (settingOf name) 11) (record { readable = true; space = m .space; ends = cleared (m .ends) (settingOf name) }) (unread m))
+    (cond (ltb (settingOf name) areaCount) (record { readable = true; space = m .space; ends = cleared (m .ends) (settingOf name) }) (unread m))
+
+-- the places of the words that follow `packet` in the list of settings
+abbrev pub packetMore : ℕ
+packetMore = packetArea + 1
+
+abbrev pub filling : ℕ
+filling = packetArea + 2
+
+abbrev pub clearing : ℕ
+clearing = packetArea + 3
+
+abbrev pub stateSetting : ℕ
+stateSetting = packetArea + 4
+
+-- and how many words there are
+abbrev pub settingCount : ℕ
+settingCount = packetArea + 5
 
 -- the memory after a line, by its word's place in the list of settings
 unfoldable pub setArea : ℕ → Memory → List ℕ → Kept
 setArea k m raw =
-    cond (eqb k 10) (setPacket m raw)
-    (cond (eqb k 11) (addPacket m raw)
-    (cond (eqb k 12) (fill m raw)
-    (cond (eqb k 13) (clearNamed m raw)
+    cond (eqb k packetArea) (setPacket m raw)
+    (cond (eqb k packetMore) (addPacket m raw)
+    (cond (eqb k filling) (fill m raw)
+    (cond (eqb k clearing) (clearNamed m raw)
     (addRow m k raw))))
 
 -- FRESH|APID|COUNT|RUN|ANNOUNCED
@@ -107,7 +124,7 @@ setState s none = record { readable = false; state = s }
 setState s (some text) = stateIn s text
 
 pub record Examples (s : LimitState) : Type 0 where
-  pub no-packet : setArea 10 (memory [] (1 ∷ 70000 ∷ [])) (ascii "080") ≡ kept false [] (1 ∷ 70000 ∷ [])
+  pub no-packet : setArea packetArea (memory [] (1 ∷ 70000 ∷ [])) (ascii "080") ≡ kept false [] (1 ∷ 70000 ∷ [])
   pub state : setState s (textBytes (ascii "0|10|9|2|1"))
       ≡ record { readable = true; state = record { fresh = false; apid = 10; count = 9; run = 2; announced = 1 } }
 

@@ -25,6 +25,17 @@ ghost use Rattle.settings.specs.Settings.{textBytes, addRow, setPacket, 
 ghost use Rattle.settings.specs.Settings.{stateIn, setState};
 ghost use Rattle.settings.specs.Settings.{fill as fillWith};
 
+// The places of the words that follow `packet` in the list of settings, and how many words there are.
+const PACKET_MORE: usize = PACKET + 1;
+
+const FILL: usize = PACKET + 2;
+
+const CLEAR: usize = PACKET + 3;
+
+pub const STATE: usize = PACKET + 4;
+
+pub const SETTINGS: usize = PACKET + 5;
+
 // The limit state after a line, and whether the line could be read.
 pub struct SetLine {
     pub readable: bool,
@@ -187,10 +198,10 @@ pub fn set_area(k: usize, raw: &[u8], space: &mut [u8], ends: &mut [usize]) -> b
     ensures { λ r. ⌜ kept r (now (space .exit)) (now (ends .exit)) ≡ setArea k (memory (now (space .entry)) (now (ends .entry))) (now (raw .entry)) ⌝ }
 {
     match k {
-        10 => set_packet(space, ends, raw),
-        11 => add_packet(space, ends, raw),
-        12 => fill(space, ends, raw),
-        13 => clear_named(ends, raw),
+        PACKET => set_packet(space, ends, raw),
+        PACKET_MORE => add_packet(space, ends, raw),
+        FILL => fill(space, ends, raw),
+        CLEAR => clear_named(ends, raw),
         _ => add_row(space, ends, k, raw),
     }
 }

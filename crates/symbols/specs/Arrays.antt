@@ -5,6 +5,7 @@ use mathlib.Core.Bool.{Bool, cond, _&&_}
 use mathlib.Core.List.{List, [], _∷_, _++_}
 use lib.Dec.{eqb, ltb}
 use lib.ListN.{length, getD, set}
+use Rattle.arrays.specs.Room.{mostPlaces}
 use Rattle.symbols.specs.declared.Symbol.{Symbol}
 
 -- what stands past the end of an array is 0
@@ -45,6 +46,17 @@ putLink links n place = set (set (set links (heads + 2 * n) 0) (heads + 2 * n + 
 -- there is a place for symbol n in both arrays, and for its id and one more in a link
 unfoldable pub hasRoom : List ℕ → List ℕ → ℕ → Bool
 hasRoom words links n = ltb n 65535 && (ltb (4 * n + 3) (length words) && ltb (heads + 2 * n + 1) (length links))
+
+-- the room of arrays by key: two keys for each row that arrays have a place for, as many as a row holds and names on the average
+abbrev pub mostSymbols : ℕ
+mostSymbols = 2 * mostPlaces
+
+-- the words and the links of so many symbols
+abbrev pub allWords : ℕ
+allWords = 4 * mostSymbols
+
+abbrev pub allLinks : ℕ
+allLinks = heads + 2 * mostSymbols
 
 pub record Examples : Type 0 where
   pub put : symbols (putSymbol (0 ∷ 7 ∷ 0 ∷ 0 ∷ 0 ∷ 0 ∷ 0 ∷ 0 ∷ []) 1 (record { space = 3; a = 1; b = 2; c = 4 })) 2

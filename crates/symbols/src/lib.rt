@@ -2,10 +2,12 @@
 mod paths;
 mod places;
 
+use arrays::PLACES;
 use arrays::half_at;
 use paths::bucket;
 use paths::link_from;
 use paths::turned;
+use places::HEADS;
 use places::has_room;
 use places::link;
 use places::put;
@@ -16,13 +18,13 @@ ghost use Rattle.symbols.specs.Symbols.{sameSymbol};
 ghost use Rattle.symbols.specs.Searches.{found, Traced};
 ghost use Rattle.symbols.specs.Interning.{Interns};
 
-// Keys of fourteen tables of 1,024 rows: each row holds and names two on the average.
-pub const SYMBOLS: usize = 28672;
+// Two keys for each row that arrays have a place for: as many does a row hold and name on the average.
+pub const SYMBOLS: usize = 2 * PLACES;
 
 // The words and the links of so many symbols.
-pub const WORDS: usize = 114688;
+pub const WORDS: usize = 4 * SYMBOLS;
 
-pub const LINKS: usize = 73728;
+pub const LINKS: usize = HEADS + 2 * SYMBOLS;
 
 // No key has this id.
 pub const NO_ID: u16 = 65535;

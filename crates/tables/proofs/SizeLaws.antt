@@ -12,7 +12,7 @@ use borrow.Author.Tests.{eq-eqb, ne-eqb, ltb-false}
 use Rattle.laws.proofs.Cases.{cond-cases}
 use Rattle.laws.proofs.Lists.{split}
 use Rattle.lines.specs.Lines.{Line, lineFeed, onFirst, lead, linesOf, whole}
-use Rattle.verdicts.specs.Answer.{firstTable, tooLong, tooManyRows}
+use Rattle.verdicts.specs.Answer.{firstTable, tooLong, tooManyRows, mostRows}
 use Rattle.tables.specs.Sizes.{fit, refusedBy, sizesOf, feeds}
 
 -- a search over the tables, from table t on
@@ -54,9 +54,9 @@ module _ (texts : List (List ℕ)) (t : ℕ) (h : t < length texts) where
   unfolding tooLong
   short e = ltb-false 65536 _ (table-all (λ text. ltb 65536 (length text)) 0 texts t e h)
 
-  pub few : tooManyRows texts ≡ 0 → length (linesOf (getD texts t [])) ≤ 1024
+  pub few : tooManyRows texts ≡ 0 → length (linesOf (getD texts t [])) ≤ mostRows
   unfolding tooManyRows
-  few e = ltb-false 1024 _ (table-all (λ text. ltb 1024 (length (linesOf text))) 0 texts t e h)
+  few e = ltb-false mostRows _ (table-all (λ text. ltb mostRows (length (linesOf text))) 0 texts t e h)
 
 -- refusals 1 and 2 by the searches
 module _ (texts : List (List ℕ)) where

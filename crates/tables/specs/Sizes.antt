@@ -16,8 +16,8 @@ pub data Sized : Type 0 where
 -- 01's number and place of each case
 abbrev pub saidSizes : Sizes → Sized
 saidSizes Fit = fit
-saidSizes (TooLong table) = refusedBy 1 table
-saidSizes (TooManyRows table) = refusedBy 2 table
+saidSizes (TooLong table) = refusedBy 1 (table .0)
+saidSizes (TooManyRows table) = refusedBy 2 (table .0)
 
 -- 01: "1, 2 … any call with tables, before all else: a table over 65,536 bytes; over 1,024 rows"; "for 1 and 2 the first such table, 1 to 10"
 unfoldable pub sizesOf : List (List ℕ) → Sized

@@ -1,34 +1,57 @@
-// Ten tables as one array of slices: a table by its number, its rows counted, and refusals 1 and 2.
+// The tables as one array of slices: a table by its number, its rows counted, and refusals 1 and 2.
+use lines::columns::part;
 use schemas::Table;
+use units::TableNumber;
 ghost use mathlib.Core.Path.{_≡_};
 ghost use mathlib.Core.Bool.{cond};
 ghost use mathlib.Core.List.{map, []};
 ghost use lib.Dec.{eqb};
-ghost use Prim.Native.Nat.{_≤_};
+ghost use Prim.Native.Nat.{_≤_, _<_};
 ghost use lib.ListN.{length, getD, take};
 ghost use Rattle.lines.specs.Lines.{lineFeed, linesOf, whole};
-ghost use Rattle.schemas.specs.declared.Table.the-variants.{Ocp};
-ghost use Rattle.verdicts.specs.Entries.{carried};
+ghost use Rattle.verdicts.specs.Entries.{tableCount, carriedAt};
 ghost use Rattle.verdicts.specs.Answer.{tooLong, tooManyRows};
 ghost use Rattle.tables.specs.Sizes.{saidSizes, sizesOf, feeds};
+ghost use Rattle.tables.specs.Parts.{tableIn, tablesIn};
 
+// How many tables there are.
 pub const TABLES: usize = 10;
+
+// Which they are, in their order.
+const CARRIED: [Table; TABLES] = [
+    Table::Pid,
+    Table::Pic,
+    Table::Plf,
+    Table::Pcf,
+    Table::Caf,
+    Table::Cap,
+    Table::Txf,
+    Table::Txp,
+    Table::Ocf,
+    Table::Ocp,
+];
 
 // A table has at most so many bytes and rows.
 pub const MOST_BYTES: usize = 65536;
 
 pub const MOST_ROWS: usize = 1024;
 
+// A part of a space for a table: a byte more than it may have, so that one that is too long is refused and not cut.
+pub const ROOM: usize = MOST_BYTES + 1;
+
+// An import writes at most so many cells, one for each row of all tables.
+pub const MOST_CELLS: usize = TABLES * MOST_ROWS;
+
 const LINE_FEED: u8 = 10;
 
 // Line feeds are counted in blocks of so many bytes.
 const BLOCK: usize = 128;
 
-// Whether the tables are of a size that any question takes; else the first that isn't, from 1.
+// Whether the tables are of a size that any question takes; else the first that isn't.
 pub enum Sizes {
     Fit,
-    TooLong(usize),
-    TooManyRows(usize),
+    TooLong(TableNumber),
+    TooManyRows(TableNumber),
 }
 
 // The bytes of the table with this number, from 0; there are none past the last.
@@ -42,22 +65,39 @@ pub fn table_at<'a>(tables: [&'a [u8]; TABLES], t: usize) -> &'a [u8]
     &first[..0]
 }
 
-// Which table has this number.
-pub fn kind_of(t: usize) -> Table
-    ensures { λ r. ⌜ r ≡ getD carried t Ocp ⌝ }
+fn end_at(ends: &[usize], t: usize) -> usize
+    ensures { λ r. ⌜ r ≡ getD (now (ends .entry)) t 0 ⌝ }
 {
-    match t {
-        0 => Table::Pid,
-        1 => Table::Pic,
-        2 => Table::Plf,
-        3 => Table::Pcf,
-        4 => Table::Caf,
-        5 => Table::Cap,
-        6 => Table::Txf,
-        7 => Table::Txp,
-        8 => Table::Ocf,
-        _ => Table::Ocp,
+    if t < ends.len() { ends[t] } else { 0 }
+}
+
+fn table_in<'a>(space: &'a [u8], ends: &[usize], t: usize) -> &'a [u8]
+    requires { ⌜ t < tableCount ⌝ }
+    ensures { λ r. ⌜ now r ≡ tableIn (now (space .entry)) (now (ends .entry)) t ⌝ }
+{
+    part(space, t * ROOM, end_at(ends, t))
+}
+
+// The tables of a space in which each has its own part, by where each ends.
+pub fn tables_in<'a>(space: &'a [u8], ends: &[usize]) -> [&'a [u8]; TABLES]
+    ensures { λ r. ⌜ map now r ≡ tablesIn (now (space .entry)) (now (ends .entry)) ⌝ }
+{
+    let mut tables = [space; TABLES];
+    for t in 0..TABLES {
+        tables[t] = table_in(space, ends, t);
     }
+    tables
+}
+
+// Which table has this number, from 0; past the last stands ocp.
+pub fn kind_of(t: usize) -> Table
+    ensures { λ r. ⌜ r ≡ carriedAt t ⌝ }
+{
+    if t < TABLES {
+        let carried = CARRIED;
+        return carried[t];
+    }
+    Table::Ocp
 }
 
 // 1 for a line feed.
@@ -109,6 +149,7 @@ pub fn row_count(table: &[u8]) -> usize
     n + 1
 }
 
+// The first table that is too long, from 1; 0 where none is.
 fn too_long(tables: [&[u8]; TABLES]) -> usize
     ensures { λ r. ⌜ r ≡ tooLong (map now (tables .entry)) ⌝ }
 {
@@ -123,6 +164,7 @@ fn too_long(tables: [&[u8]; TABLES]) -> usize
     0
 }
 
+// And the first that has too many rows.
 fn too_many_rows(tables: [&[u8]; TABLES]) -> usize
     ensures { λ r. ⌜ r ≡ tooManyRows (map now (tables .entry)) ⌝ }
 {
@@ -143,11 +185,11 @@ pub fn check_sizes(tables: [&[u8]; TABLES]) -> Sizes
 {
     let long = too_long(tables);
     if long != 0 {
-        return Sizes::TooLong(long);
+        return Sizes::TooLong(TableNumber(long));
     }
     let many = too_many_rows(tables);
     if many != 0 {
-        return Sizes::TooManyRows(many);
+        return Sizes::TooManyRows(TableNumber(many));
     }
     Sizes::Fit
 }

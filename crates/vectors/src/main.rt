@@ -15,6 +15,7 @@ use totals::say_totals;
 use words::say::words;
 ghost use mathlib.Core.Path.{_≡_};
 ghost use lib.ListN.{replicate};
+ghost use Rattle.areas.specs.Memory.{spaceSize};
 ghost use Rattle.running.specs.Script.{tallyOf};
 ghost use Rattle.vectors.specs.Files.{unreadFile, OfFile};
 
@@ -40,7 +41,7 @@ fn say_failed(name: &[u8], error: i32) {
 }
 
 fn ask_text(name: &[u8], text: &[u8]) -> Tally
-    ensures { λ r. ⌜ r ≡ tallyOf (replicate 720907 0) (now (text .entry)) ⌝ }
+    ensures { λ r. ⌜ r ≡ tallyOf (replicate spaceSize 0) (now (text .entry)) ⌝ }
 {
     let mut space = [0u8; SPACE];
     run(name, text, &mut space)

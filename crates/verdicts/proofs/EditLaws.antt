@@ -12,7 +12,7 @@ use Rattle.lines.specs.Lines.{Line, lineFeed, linesOf}
 use Rattle.lines.proofs.LineLaws.{lines-around}
 use Rattle.schemas.specs.declared.Table.{Table}
 use Rattle.schemas.specs.declared.Table.the-variants.{Ocp}
-use Rattle.verdicts.specs.Entries.{Entry, entry, carried, entriesOf, entriesFrom, allRows}
+use Rattle.verdicts.specs.Entries.{Entry, entry, carried, entriesOf, entriesFrom, allRows, carriedAt}
 use Rattle.verdicts.specs.Places.{textAt, noLine, IsRow, entryAt, rowsBefore, place, Edit, number, edited}
 use Rattle.verdicts.proofs.Isolation.{Like, none, like, here, like-self, like-append}
 
@@ -84,7 +84,7 @@ module _ (texts : List (List ℕ)) (edit : Edit texts) where
 
   -- the line itself, before and after
   abbrev lineEntry : List ℕ → Entry
-  lineEntry bytes = entry (getD carried (edit .table) Ocp) (edit .table) (number edit) (lineOf bytes)
+  lineEntry bytes = entry (carriedAt (edit .table)) (edit .table) (number edit) (lineOf bytes)
 
   line-old : entryAt texts (edit .table) (number edit) ≡ lineEntry (edit .old)
   unfolding entryAt

@@ -16,7 +16,7 @@ use Rattle.lines.specs.Lines.{Line, linesOf}
 use Rattle.schemas.specs.declared.Table.{Table}
 use Rattle.schemas.specs.declared.Table.the-variants.{Ocp}
 use Rattle.formed.specs.Formed.{formed}
-use Rattle.verdicts.specs.Entries.{Reading, readingOf, own, Entry, entry, carried, entriesOf, entriesFrom, allRows}
+use Rattle.verdicts.specs.Entries.{Reading, readingOf, own, Entry, entry, carried, entriesOf, entriesFrom, allRows, tableCount, carriedAt}
 use Rattle.verdicts.specs.Steps.{twin}
 use Rattle.verdicts.specs.Places.{textAt, noLine, IsRow, entryAt, rowsBefore, place}
 
@@ -58,8 +58,8 @@ length-from t [] texts = refl
 length-from t (table ∷ tables) [] = refl
 length-from t (table ∷ tables) (text ∷ texts) = simp (length-append, length-entries, length-from (suc t) tables texts)
 
--- there are as many rows as the ten tables have
-pub length-rows : (texts : List (List ℕ)) → length (allRows texts) ≡ rowsBefore texts (length carried)
+-- there are as many rows as all tables have
+pub length-rows : (texts : List (List ℕ)) → length (allRows texts) ≡ rowsBefore texts tableCount
 unfolding allRows
 length-rows texts = length-from 0 carried texts
 
@@ -94,7 +94,7 @@ module _ (texts : List (List ℕ)) (u r : ℕ) (is : IsRow texts u r) where
   -- a row's place is one of the places of rows
   pub place-there : place texts u r < length (allRows texts)
   unfolding place
-  place-there = omega (arith, length-rows texts, before-fits texts u (length carried) (is .table))
+  place-there = omega (arith, length-rows texts, before-fits texts u tableCount (is .table))
 
   -- and there it stands
   pub row-at : (d : Entry) → getD (allRows texts) (place texts u r) d ≡ entryAt texts u r
@@ -147,8 +147,8 @@ from-in n (table ∷ tables) y (text ∷ texts) z {e} m =
         (suc (w .0), w .1, omega (arith, w .2), w .3, rw p (w .4))
 
 -- what is so found is the row of its table and number
-row-made : (texts : List (List ℕ)) (u j : ℕ) (e : Entry) → u < length carried → j < length (linesOf (textAt texts u))
-    → e ≡ entry (getD carried u Ocp) (0 + u) (suc j) (getD (linesOf (textAt texts u)) j noLine)
+row-made : (texts : List (List ℕ)) (u j : ℕ) (e : Entry) → u < tableCount → j < length (linesOf (textAt texts u))
+    → e ≡ entry (carriedAt u) (0 + u) (suc j) (getD (linesOf (textAt texts u)) j noLine)
     → IsRow texts (e .table) (e .row) × (e ≡ entryAt texts (e .table) (e .row))
 unfolding entryAt
 row-made texts u j e h k q =

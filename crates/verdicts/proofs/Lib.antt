@@ -11,3 +11,4 @@ pub mod Isolation
 pub mod EditLaws
 pub mod BadRow
 pub mod LineEdits
+pub mod OwnerLaws

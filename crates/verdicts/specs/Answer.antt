@@ -1,12 +1,12 @@
 -- What an import answers, and what it leaves in the cells.
-use Prim.Native.Nat.{ℕ, suc}
+use Prim.Native.Nat.{ℕ, suc, _*_}
 use mathlib.Core.Bool.{Bool, cond}
 use mathlib.Core.List.{List, [], _∷_, _++_}
 use lib.Dec.{eqb, ltb}
 use lib.ListN.{length, drop}
 use Rattle.laws.specs.Lists.{keep}
 use Rattle.lines.specs.Lines.{linesOf}
-use Rattle.verdicts.specs.Entries.{allRows}
+use Rattle.verdicts.specs.Entries.{tableCount, allRows}
 use Rattle.verdicts.specs.Verdicts.{verdicts}
 
 -- the specification's number of a refusal and its place; or the counts of rows and of good rows
@@ -19,12 +19,20 @@ unfoldable pub firstTable : (List ℕ → Bool) → ℕ → List (List ℕ) → 
 firstTable test k [] = 0
 firstTable test k (text ∷ texts) = cond (test text) k (firstTable test (suc k) texts)
 
+-- 01: "over 1,024 rows": a table that is taken has at most so many
+abbrev pub mostRows : ℕ
+mostRows = 1024
+
+-- and an import writes at most so many cells, one for each row of all tables
+abbrev pub mostCells : ℕ
+mostCells = tableCount * mostRows
+
 -- 01: "a table over 65,536 bytes"; "over 1,024 rows"
 unfoldable pub tooLong : List (List ℕ) → ℕ
 tooLong texts = firstTable (λ text. ltb 65536 (length text)) 1 texts
 
 unfoldable pub tooManyRows : List (List ℕ) → ℕ
-tooManyRows texts = firstTable (λ text. ltb 1024 (length (linesOf text))) 1 texts
+tooManyRows texts = firstTable (λ text. ltb mostRows (length (linesOf text))) 1 texts
 
 -- 01: "The count of good rows is the number of zeros among the cells written"
 unfoldable pub zeros : List ℕ → ℕ

@@ -3,6 +3,7 @@ use Prim.Native.Nat.{ℕ, suc}
 use mathlib.Core.Bool.{false, cond}
 use mathlib.Core.List.{List, [], _∷_, _++_}
 use lib.Dec.{eqb}
+use lib.ListN.{length, getD}
 use Rattle.lines.specs.Lines.{Line, linesOf}
 use Rattle.schemas.specs.declared.Table.{Table}
 use Rattle.schemas.specs.declared.Table.the-variants.{Pid, Pic, Plf, Pcf, Caf, Cap, Txf, Txp, Ocf, Ocp}
@@ -40,6 +41,14 @@ facts e = said (e .reading)
 abbrev pub carried : List Table
 carried = Pid ∷ Pic ∷ Plf ∷ Pcf ∷ Caf ∷ Cap ∷ Txf ∷ Txp ∷ Ocf ∷ Ocp ∷ []
 
+-- how many tables there are
+abbrev pub tableCount : ℕ
+tableCount = length carried
+
+-- the table with this number, from 0. What stands past the last says nothing
+abbrev pub carriedAt : ℕ → Table
+carriedAt t = getD carried t Ocp
+
 abbrev pub entry : Table → ℕ → ℕ → Line → Entry
 entry table t row line = record { table = t; row = row; reading = readingOf table line }
 
@@ -53,6 +62,6 @@ entriesFrom t [] texts = []
 entriesFrom t (table ∷ tables) [] = []
 entriesFrom t (table ∷ tables) (text ∷ texts) = entriesOf table t 1 (linesOf text) ++ entriesFrom (suc t) tables texts
 
--- all rows of the ten tables
+-- all rows of the tables
 unfoldable pub allRows : List (List ℕ) → List Entry
 allRows texts = entriesFrom 0 carried texts

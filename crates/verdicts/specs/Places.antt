@@ -5,8 +5,7 @@ use mathlib.Core.Bool.{true, false}
 use mathlib.Core.List.{List, [], _∷_, _++_}
 use lib.ListN.{length, getD, set}
 use Rattle.lines.specs.Lines.{Line, lineFeed, linesOf, free, whole}
-use Rattle.schemas.specs.declared.Table.the-variants.{Ocp}
-use Rattle.verdicts.specs.Entries.{Entry, entry, carried, allRows}
+use Rattle.verdicts.specs.Entries.{Entry, tableCount, carriedAt, entry, allRows}
 use Rattle.verdicts.specs.Steps.{Reach}
 use Rattle.verdicts.specs.Verdicts.{verdict, verdicts}
 use Rattle.verdicts.specs.Answer.{taken, importOf, cellsAfter}
@@ -19,15 +18,15 @@ textAt texts u = getD texts u []
 abbrev pub noLine : Line
 noLine = record { bytes = []; ended = false }
 
--- u is one of the ten tables, and r the number of one of its rows, from 1
+-- u is one of the tables, and r the number of one of its rows, from 1
 pub record IsRow (texts : List (List ℕ)) (u r : ℕ) : Type 0 where
-  pub table : u < length carried
+  pub table : u < tableCount
   pub above : 0 < r
   pub below : r ≤ length (linesOf (textAt texts u))
 
 -- row r of table u, as it stands among all rows. What it is where there is no such table or row says nothing
 unfoldable pub entryAt : List (List ℕ) → ℕ → ℕ → Entry
-entryAt texts u r = entry (getD carried u Ocp) u r (getD (linesOf (textAt texts u)) (r - 1) noLine)
+entryAt texts u r = entry (carriedAt u) u r (getD (linesOf (textAt texts u)) (r - 1) noLine)
 
 -- and its verdict
 unfoldable pub verdictAt : List (List ℕ) → ℕ → ℕ → ℕ

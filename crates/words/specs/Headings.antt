@@ -33,9 +33,13 @@ heading line k = nameOf (columnAt ([] ∷ columnsOf line) k)
 unfoldable pub columnName : Table → ℕ → Name
 columnName t k = heading (headings t) k
 
--- 01: "tables pid, pic, plf, pcf, caf, cap, txf, txp, ocf, ocp, in that order"; the name of a table by its number, from 1
+-- 01: "tables pid, pic, plf, pcf, caf, cap, txf, txp, ocf, ocp, in that order"
+abbrev pub tableNames : List ℕ
+tableNames = ascii "pid\tpic\tplf\tpcf\tcaf\tcap\ttxf\ttxp\tocf\tocp"
+
+-- the name of a table by its number, from 1
 unfoldable pub tableName : ℕ → Name
-tableName t = heading (ascii "pid\tpic\tplf\tpcf\tcaf\tcap\ttxf\ttxp\tocf\tocp") t
+tableName t = heading tableNames t
 
 -- a table has a name for each of its columns
 pub each-named : (t : Table) → length (columnsOf (headings t)) ≡ length (schema t)

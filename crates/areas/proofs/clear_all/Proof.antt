@@ -5,15 +5,15 @@ use Prim.Native.Nat.{ℕ, _-_, _≤_}
 use native.Mathlib.Omega.{arith}
 use native.Mathlib.Numerals.{add-one}
 use lib.ListN.{length}
-use Rattle.areas.specs.Memory.{cleared, firstCleared, allCleared}
+use Rattle.areas.specs.Memory.{cleared, firstCleared, allCleared, areaCount}
 use Rattle.areas.proofs.clear_all.Statement.{statement}
 use Rattle.areas.proofs.clear_all.Tie as tie
 
 abbrev Inv-loop : tie.InvT-loop
-Inv-loop ends₀ t₀ ends t = (t ≤ 11) × (length ends ≡ length ends₀) × (ends ≡ firstCleared t ends₀)
+Inv-loop ends₀ t₀ ends t = (t ≤ areaCount) × (length ends ≡ length ends₀) × (ends ≡ firstCleared t ends₀)
 
 abbrev μ-loop : tie.MeasureT-loop
-μ-loop ends₀ t₀ ends t = 11 - t
+μ-loop ends₀ t₀ ends t = areaCount - t
 
 loop-holds : tie.Need-loop-holds Inv-loop μ-loop
 unfolding firstCleared
@@ -40,7 +40,7 @@ same-length c = omega arith
 returns : tie.Need-returns Inv-loop μ-loop
 unfolding allCleared
 returns c = let l = c .before .loop in
-    let e : l .t ≡ 11 = omega arith in
+    let e : l .t ≡ areaCount = omega arith in
     l .inv .2 ∙ rw e
 
 pub clear-all-spec : {M : Type 1} → statement M

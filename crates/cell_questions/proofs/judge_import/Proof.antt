@@ -1,5 +1,6 @@
 -- By how many cells are lent.
 use mathlib.Core.Path.{sym, _∙_}
+use Rattle.verdicts.specs.Answer.{mostCells}
 use Rattle.scripts.proofs.NumeralLaws.{most-is}
 use Rattle.cell_questions.proofs.CellReplyLaws.{import-whole, import-lent, import-unread}
 use Rattle.cell_questions.specs.CellReplies.{blankCells}
@@ -24,7 +25,7 @@ enum-known-room : tie.Need-enum-known-room
 enum-known-room c = search needs
 
 import-part-requires : tie.Need-import-part-requires
-import-part-requires c κs = most-is 10240 _ _ (sym (c .before .before .before .natural-to .ensures) ∙ c .before .room .given .1)
+import-part-requires c κs = most-is mostCells _ _ (sym (c .before .before .before .natural-to .ensures) ∙ c .before .room .given .1)
 
 enum-told : tie.Need-enum-told
 enum-told c = search needs

@@ -7,13 +7,15 @@ use lib.ListN.{length}
 use denote.Ref.{now}
 use borrow.Author.Needs.{needs}
 use Rattle.verdicts.specs.Places.{rowsBefore}
+use Rattle.verdicts.specs.Entries.{tableCount}
+use Rattle.verdicts.specs.Answer.{mostRows}
 use Rattle.tables.proofs.ArrayLaws.{count}
 use Rattle.cells.proofs.CellLaws.{at-most, rows-more}
 use Rattle.cells.proofs.rows_before.Statement.{statement}
 use Rattle.cells.proofs.rows_before.Tie as tie
 
 abbrev Inv-loop : tie.InvT-loop
-Inv-loop tables u rows₀ t₀ rows t = (t ≤ u) × (rows ≤ 1024 * t) × (rows ≡ rowsBefore (map now tables) t)
+Inv-loop tables u rows₀ t₀ rows t = (t ≤ u) × (rows ≤ mostRows * t) × (rows ≡ rowsBefore (map now tables) t)
 
 abbrev μ-loop : tie.MeasureT-loop
 μ-loop tables u rows₀ t₀ rows t = u - t
@@ -28,10 +30,10 @@ table-at-requires c κs = tt
 row-count-requires : tie.Need-row-count-requires Inv-loop μ-loop
 row-count-requires c κs = tt
 
-few : (c : tie.After-row-count Inv-loop μ-loop) → c .row-count .result ≤ 1024
+few : (c : tie.After-row-count Inv-loop μ-loop) → c .row-count .result ≤ mostRows
 few c =
     let s = c .before .before .before .before in
-    let n : length (s .args .tables) ≡ 10 = search needs in
+    let n : length (s .args .tables) ≡ tableCount = search needs in
     at-most _ (count (s .args .tables) n) (s .pre .0) _ _ _ (omega arith) (c .before .table-at .ensures) (c .row-count .ensures)
 
 add-rows : tie.Need-add-rows Inv-loop μ-loop
@@ -46,7 +48,7 @@ loop-less c = omega arith
 loop-again : tie.Need-loop-again Inv-loop μ-loop
 loop-again c =
     let s = c .before .before .before .before in
-    let n : length (s .args .tables) ≡ 10 = search needs in
+    let n : length (s .args .tables) ≡ tableCount = search needs in
     let sofar = c .before .before .before .loop .inv .2 in
     let more = rows-more _ (count (s .args .tables) n) (s .pre .0) _ _ _ (omega arith) (c .before .table-at .ensures) (c .row-count .ensures) sofar in
     (omega arith, omega (arith, few c), more)

@@ -5,6 +5,7 @@ use native.Mathlib.Omega.{arith}
 use Prim.Native.Nat.{_≤_}
 use denote.Ref.{now}
 use lib.ListN.{length, List·getD-eq-default}
+use Rattle.verdicts.specs.Entries.{tableCount}
 use Rattle.tables.proofs.ArrayLaws.{at, count}
 use borrow.Author.Needs.{needs}
 use Rattle.tables.proofs.table_at.Statement.{statement}
@@ -27,7 +28,7 @@ slice-aggregate-result c = search needs
 
 returns-2 : tie.Need-returns-2
 returns-2 c = let a = c .before .before .before .args .t1 in
-    let n : length a ≡ 10 = search needs in
+    let n : length a ≡ tableCount = search needs in
     let l : length (map now a) ≤ c .before .before .before .args .t = omega (arith, count a n) in
     sym (List·getD-eq-default (map now a) [] l)
 

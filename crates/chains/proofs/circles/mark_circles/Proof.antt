@@ -4,6 +4,7 @@ use Prim.Native.Nat.{_-_}
 use native.Mathlib.Omega.{arith}
 use Rattle.laws.specs.Prefix.{flag}
 use Rattle.laws.proofs.Values.{Writing, write-start, write-flag, write-end}
+use Rattle.arrays.specs.Room.{mostPlaces}
 use Rattle.chains.specs.Chains.{comesTo}
 use Rattle.chains.specs.Courses.{KnownEnds}
 use Rattle.chains.proofs.EndLaws.{known-none}
@@ -17,7 +18,7 @@ abbrev μ-loop : tie.MeasureT-loop
 μ-loop next circles₀ n ended₀ i₀ circles ended i = n - i
 
 loop-holds : tie.Need-loop-holds Inv-loop μ-loop
-loop-holds c = (write-start _ _ _, known-none _ 14336)
+loop-holds c = (write-start _ _ _, known-none _ mostPlaces)
 
 comes-back-requires : tie.Need-comes-back-requires Inv-loop μ-loop
 comes-back-requires c κs = c .before .before .loop .inv .1

@@ -4,6 +4,7 @@ use Prim.Native.Nat.{_-_}
 use native.Mathlib.Omega.{arith}
 use Rattle.laws.specs.Prefix.{flag}
 use Rattle.laws.proofs.Values.{Writing, write-start, write-flag, write-end}
+use Rattle.arrays.specs.Room.{mostPlaces}
 use Rattle.chains.specs.Chains.{firmFrom}
 use Rattle.chains.specs.Courses.{KnownDepths}
 use Rattle.chains.proofs.DepthLaws.{depths-none}
@@ -17,7 +18,7 @@ abbrev μ-loop : tie.MeasureT-loop
 μ-loop next firm chains₀ within n depths₀ i₀ chains depths i = n - i
 
 loop-holds : tie.Need-loop-holds Inv-loop μ-loop
-loop-holds c = (write-start _ _ _, depths-none _ _ 14336)
+loop-holds c = (write-start _ _ _, depths-none _ _ mostPlaces)
 
 is-firm-requires : tie.Need-is-firm-requires Inv-loop μ-loop
 is-firm-requires c κs = c .before .before .loop .inv .1

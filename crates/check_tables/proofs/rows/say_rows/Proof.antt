@@ -2,14 +2,15 @@
 use Prim.Native.Nat.{_-_, _≤_}
 use native.Mathlib.Omega.{arith}
 use borrow.Author.Needs.{needs}
+use Rattle.verdicts.specs.Entries.{tableCount}
 use Rattle.check_tables.proofs.rows.say_rows.Statement.{statement}
 use Rattle.check_tables.proofs.rows.say_rows.Tie as tie
 
 abbrev Inv-loop : tie.InvT-loop
-Inv-loop tables cells t₀ t = t ≤ 10
+Inv-loop tables cells t₀ t = t ≤ tableCount
 
 abbrev μ-loop : tie.MeasureT-loop
-μ-loop tables cells t₀ t = 10 - t
+μ-loop tables cells t₀ t = tableCount - t
 
 loop-holds : tie.Need-loop-holds Inv-loop μ-loop
 loop-holds c = omega arith

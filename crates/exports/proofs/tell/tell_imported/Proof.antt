@@ -29,7 +29,7 @@ enum-known-imported-2 c = search needs
 refuse-requires : tie.Need-refuse-requires
 unfolding countsOf import.said refusedBy numberOf placeOf
 refuse-requires c κs =
-    place-small (TableTooLong (record { 0 = c .before .imported2 .given .0 .0 }))
+    place-small (TableTooLong (c .before .imported2 .given .0 .0))
     (ap (λ (x : Imported). countsOf (import.said x)) (c .before .imported2 .given .1))
     (c .before .before .before .pre)
 
@@ -39,7 +39,7 @@ enum-known-imported-3 c = search needs
 refuse-requires-2 : tie.Need-refuse-requires-2
 unfolding countsOf import.said refusedBy numberOf placeOf
 refuse-requires-2 c κs =
-    place-small (TooManyRows (record { 0 = c .before .imported3 .given .0 .0 }))
+    place-small (TooManyRows (c .before .imported3 .given .0 .0))
     (ap (λ (x : Imported). countsOf (import.said x)) (c .before .imported3 .given .1))
     (c .before .before .before .pre)
 
@@ -60,14 +60,14 @@ returns c =
 returns-2 : tie.Need-returns-2
 unfolding countsOf import.said refusedBy numberOf placeOf
 returns-2 c =
-    told-refused ofCounts (TableTooLong (record { 0 = c .before .before .imported2 .given .0 .0 }))
+    told-refused ofCounts (TableTooLong (c .before .before .imported2 .given .0 .0))
     (ap (λ (x : Imported). countsOf (import.said x)) (c .before .before .imported2 .given .1))
     (c .refuse .ensures)
 
 returns-3 : tie.Need-returns-3
 unfolding countsOf import.said refusedBy numberOf placeOf
 returns-3 c =
-    told-refused ofCounts (TooManyRows (record { 0 = c .before .before .imported3 .given .0 .0 }))
+    told-refused ofCounts (TooManyRows (c .before .before .imported3 .given .0 .0))
     (ap (λ (x : Imported). countsOf (import.said x)) (c .before .before .imported3 .given .1))
     (c .refuse2 .ensures)
 

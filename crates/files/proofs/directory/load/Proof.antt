@@ -4,15 +4,16 @@ use mathlib.Core.Path.{_≡_}
 use native.Mathlib.Omega.{arith}
 use lib.ListN.{length}
 use borrow.Author.Needs.{needs}
+use Rattle.verdicts.specs.Entries.{tableCount}
 use Rattle.files.proofs.LoadLaws.{LoadedSo, so-none, so-more, so-all}
 use Rattle.files.proofs.directory.load.Statement.{statement}
 use Rattle.files.proofs.directory.load.Tie as tie
 
 abbrev Inv-loop : tie.InvT-loop
-Inv-loop directory space₀ ends₀ whole₀ t₀ space ends whole t = (length space ≡ length space₀) × (t ≤ 10) × LoadedSo t ends whole space₀ space
+Inv-loop directory space₀ ends₀ whole₀ t₀ space ends whole t = (length space ≡ length space₀) × (t ≤ tableCount) × LoadedSo t ends whole space₀ space
 
 abbrev μ-loop : tie.MeasureT-loop
-μ-loop directory space₀ ends₀ whole₀ t₀ space ends whole t = 10 - t
+μ-loop directory space₀ ends₀ whole₀ t₀ space ends whole t = tableCount - t
 
 loop-holds : tie.Need-loop-holds Inv-loop μ-loop
 loop-holds c = (omega arith, omega arith, so-none _)

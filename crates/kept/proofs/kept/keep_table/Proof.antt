@@ -2,11 +2,10 @@
 use Prim.Native.Nat.{_-_, _<_}
 use native.Mathlib.Omega.{arith}
 use mathlib.Core.Path.{refl}
-use lib.ListN.{length, getD}
-use Rattle.schemas.specs.declared.Table.the-variants.{Ocp}
+use lib.ListN.{length}
 use Rattle.lines.specs.Lines.{linesOf}
 use Rattle.lines.proofs.LineLaws.{next-bounds}
-use Rattle.verdicts.specs.Entries.{carried}
+use Rattle.verdicts.specs.Entries.{carriedAt}
 use Rattle.kept.specs.FirstPass.{arrays}
 use Rattle.kept.proofs.FirstPassLaws.{Walk, walk-start, walk-below, walk-room, walk-more, walk-rows, walk-end, ready-on}
 use Rattle.kept.proofs.kept.keep_table.Statement.{statement}
@@ -14,7 +13,7 @@ use Rattle.kept.proofs.kept.keep_table.Tie as tie
 
 abbrev Inv-loop : tie.InvT-loop
 Inv-loop table t from words₀ links₀ n halves₀ bytes₀ count₀ j₀ a₀ words links halves bytes count j a =
-    Walk (arrays words₀ links₀ n halves₀ bytes₀) (arrays words links count halves bytes) (getD carried t Ocp) t table from j a
+    Walk (arrays words₀ links₀ n halves₀ bytes₀) (arrays words links count halves bytes) (carriedAt t) t table from j a
 
 abbrev μ-loop : tie.MeasureT-loop
 μ-loop table t from words₀ links₀ n halves₀ bytes₀ count₀ j₀ a₀ words links halves bytes count j a = length table - a

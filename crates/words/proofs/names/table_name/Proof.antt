@@ -1,23 +1,22 @@
--- The tables' names are ten headings.
+-- The tables' names are headings.
 use Prim.Native.Nat.{_≤_}
 use native.Mathlib.Omega.{arith}
 use lib.ListN.{length}
 use borrow.Author.Needs.{needs}
-use Rattle.laws.specs.Text.{ascii}
 use Rattle.lines.specs.Columns.{columnsOf, columnsFrom}
-use Rattle.words.specs.Headings.{tableName}
+use Rattle.words.specs.Headings.{tableNames, tableName}
 use Rattle.words.proofs.names.table_name.Statement.{statement}
 use Rattle.words.proofs.names.table_name.Tie as tie
 
-ten : length (columnsOf (ascii "pid\tpic\tplf\tpcf\tcaf\tcap\ttxf\ttxp\tocf\tocp")) ≤ 24
+few : length (columnsOf tableNames) ≤ 24
 unfolding columnsOf columnsFrom
-ten = omega arith
+few = omega arith
 
 slice-aggregate-heading : tie.Need-slice-aggregate-heading
 slice-aggregate-heading c = search needs
 
 heading-requires : tie.Need-heading-requires
-heading-requires c κs = ten
+heading-requires c κs = few
 
 returns : tie.Need-returns
 unfolding tableName
