@@ -1,6 +1,6 @@
--- Along a good curve 30 comes up exactly where the curve is F and the raw value is off its ends.
+-- Along a good curve 30 comes up exactly where the curve is F and the raw value is off its ends, and 31 exactly where the result is out of range.
 use mathlib.Core.Path.{_≡_, refl, sym, ap, subst, _∙_}
-use mathlib.Core.Logic.{⊎-elim}
+use mathlib.Core.Logic.{_↔_, ⊎-elim}
 use mathlib.Core.Bool.{true, false, _&&_}
 use mathlib.Core.List.{List, [], map, List·Memᴰ}
 use mathlib.Core.Option.{some}
@@ -32,16 +32,19 @@ use Rattle.verdicts.specs.Entries.{Entry}
 use Rattle.verdicts.specs.Places.{entryAt}
 use Rattle.verdicts.proofs.KeyLaws.{same-key-self}
 use Rattle.verdicts.proofs.SoundLaws.{one-holder}
+use Rattle.outcomes.specs.Outcome.{refused}
 use Rattle.database.specs.Rows.{Row}
 use Rattle.database.specs.GoodRows.{goodRows, tableOf, holdsKey, inGroup, among, ofTables}
 use Rattle.curve_points.specs.Curves.{Curve, curveEnds, xvalsOf, yvalsOf, curveBy, curveOf}
 use Rattle.curve_values.specs.Along.{along}
 use Rattle.curve_values.specs.OffCurve.{isOffCurve}
-use Rattle.curve_values.proofs.OffCurveLaws.{Sound, Exactly, off-f-curve}
+use Rattle.curve_values.proofs.OffCurveLaws.{Sound, off-f-curve}
+use Rattle.at_verdicts.specs.OutOfRange.{isOutOfRange}
 use Rattle.at_verdicts.proofs.GoodRows.{entryOf, GoodRow, good-row, good-line}
 use Rattle.at_verdicts.proofs.NamedRows.{entry-holds}
 use Rattle.at_verdicts.proofs.DistinctRows.{keep-distinct, good-distinct, one-index}
 use Rattle.at_verdicts.proofs.CurvePoints.{in-curve, two-points}
+use Rattle.at_verdicts.proofs.CurveRange.{out-of-range}
 
 -- A coordinate. 01: "XVALS 14! and YVALS 14!, each −1,073,741,824 to 1,073,741,823"
 
@@ -152,5 +155,9 @@ module _ (texts : List (List ℕ)) (name : CurveName) where
         }
 
     -- 01: "30 … raw value off an F curve"
-    pub curve-30 : (raw : ℤ) → isRaw raw ≡ true → Exactly (along (curveOf (ofTables texts) name) raw) (isOffCurve goodCurve raw)
-    curve-30 raw is = rw curve-is (off-f-curve goodCurve curve-sound raw is)
+    pub curve-30 : (raw : ℤ) → isRaw raw ≡ true → (along (curveOf (ofTables texts) name) raw ≡ refused 30 0) ↔ (isOffCurve goodCurve raw ≡ true)
+    curve-30 raw is = let x = off-f-curve goodCurve curve-sound raw is in rw curve-is (x .only, x .there)
+
+    -- 01: "31 … curve result outside −2,147,483,648 to 2,147,483,647"
+    pub curve-31 : (raw : ℤ) → isRaw raw ≡ true → (along (curveOf (ofTables texts) name) raw ≡ refused 31 0) ↔ (isOutOfRange goodCurve raw ≡ true)
+    curve-31 raw is = rw curve-is (out-of-range goodCurve curve-sound raw is)

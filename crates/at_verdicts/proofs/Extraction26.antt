@@ -66,10 +66,9 @@ module _ (texts : List (List ℕ)) (p name : List ℕ) (k : ℕ) where
   unlocated : extractBy (ofTables texts) p name k ≡ refused 26 0 → Unlocated (ofTables texts) p name
   unfolding extractBy
   unlocated e =
-      let w = later 26 (identifyBy (ofTables texts) p) (λ id. reading (ofTables texts) p (id .spid) (nameOf name) k)
-      (never-one 26 identifying (identifyBy (ofTables texts) p) refl (identify-numbers (ofTables texts) p))
-      (ap (λ (o : Outcome Reading). numberIn o) e) in
-      record { identity = w .0; identified = w .1; noPlfRow = reading-located texts p (w .0 .spid) (nameOf name) k (w .2) }
+      let w = later 26 0 (identifyBy (ofTables texts) p) (λ id. reading (ofTables texts) p (id .spid) (nameOf name) k)
+      (never-one 26 identifying (identifyBy (ofTables texts) p) refl (identify-numbers (ofTables texts) p)) e in
+      record { identity = w .0; identified = w .1; noPlfRow = reading-26 texts p (w .0 .spid) (nameOf name) k .0 (w .2) }
 
   not-located : Unlocated (ofTables texts) p name → extractBy (ofTables texts) p name k ≡ refused 26 0
   unfolding extractBy

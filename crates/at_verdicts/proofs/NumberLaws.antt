@@ -54,11 +54,18 @@ module _ {A B : Type 0} where
   then-refused o f number place e = ap (λ (x : Outcome A). andThen x f) e
 
   -- a refusal that isn't of the first step is of the second
-  pub later : (number : ℕ) (o : Outcome A) (f : A → Outcome B) → Never number o → numberIn (andThen o f) ≡ number
-      → (a : A) × (o ≡ answer a) × (numberIn (f a) ≡ number)
+  pub later : (number place : ℕ) (o : Outcome A) (f : A → Outcome B) → Never number o → andThen o f ≡ refused number place
+      → (a : A) × (o ≡ answer a) × (f a ≡ refused number place)
   unfolding andThen
-  later number (refused n place) f h e = absurd (h e)
-  later number (answer a) f h e = (a, refl, e)
+  later number place (refused n q) f h e = absurd (h (ap (λ (o : Outcome B). numberIn o) e))
+  later number place (answer a) f h e = (a, refl, e)
+
+  -- where the second step always answers, a refusal is of the first
+  pub first-only : (number place : ℕ) (o : Outcome A) (f : A → Outcome B) → ((a : A) → (b : B) × (f a ≡ answer b)) → andThen o f ≡ refused number place
+      → o ≡ refused number place
+  unfolding andThen
+  first-only number place (refused n q) f h e = cc
+  first-only number place (answer a) f h e = absurd (let w = h a .1 in let z : _≡_ {A = ℕ} 0 1 = cc in omega arith)
 
   -- an answer comes of an answer
   pub earlier : (o : Outcome A) (f : A → Outcome B) (b : B) → andThen o f ≡ answer b → (a : A) × (o ≡ answer a) × (f a ≡ answer b)

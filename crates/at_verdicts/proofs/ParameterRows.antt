@@ -5,13 +5,16 @@ use mathlib.Core.List.{List, List·Memᴰ, List·Memᴰ·head, List·Memᴰ·eq-
 use mathlib.Core.Option.{Option, none, some}
 use Prim.Native.Nat.{ℕ}
 use native.Mathlib.Omega.{arith}
-use Rattle.laws.proofs.Cases.{and-left}
+use Rattle.laws.proofs.Cases.{false≢true, and-left, and-right}
 use Rattle.laws.proofs.Tests.{any-witness}
 use Rattle.lines.specs.Lines.{Line}
 use Rattle.lines.specs.declared.names.Name.{Name}
 use Rattle.schemas.specs.declared.Table.{Table}
 use Rattle.schemas.specs.declared.Table.the-variants.{Plf, Pcf, Ocf}
 use Rattle.rows.specs.Records.{plfRow, pcfRow, ocfRow}
+use Rattle.rows.specs.declared.letters.Category.{Category}
+use Rattle.rows.specs.declared.letters.Category.the-variants.{Numeric, Status, Text}
+use Rattle.rows.specs.declared.records.PcfRow.{PcfRow}
 use Rattle.fields.specs.Width.{widthOf}
 use Rattle.formed.specs.Contradictions.{isWhole, isRefused, pcfContradiction, contradiction}
 use Rattle.formed.specs.Formed.{formed}
@@ -66,17 +69,16 @@ pub record Described (texts : List (List ℕ)) (name : Name) : Type 0 where
   pub wide : widthOf (pcfRow (row .bytes) .ptc) (pcfRow (row .bytes) .pfc) ≡ some width
 
 module _ (texts : List (List ℕ)) (name : Name) where
-  described : (row : Row) → ofTables texts .holder (parameter name) ≡ some row → Described texts name
+  pub parameter-width : (row : Row) → ofTables texts .holder (parameter name) ≡ some row
+      → (n : ℕ) × (widthOf (pcfRow (row .bytes) .ptc) (pcfRow (row .bytes) .pfc) ≡ some n)
   unfolding ownerOf
-  described row e =
+  parameter-width row e =
       let l = holder-line texts (parameter name) row e in
       let w = formed-width (l .line) (l .passes) in
-      record {
-        row = row;
-        found = e;
-        width = w .0;
-        wide = ap (λ (bytes : List ℕ). widthOf (pcfRow bytes .ptc) (pcfRow bytes .pfc)) (l .bytes) ∙ w .1;
-      }
+      (w .0, ap (λ (bytes : List ℕ). widthOf (pcfRow bytes .ptc) (pcfRow bytes .pfc)) (l .bytes) ∙ w .1)
+
+  described : (row : Row) → ofTables texts .holder (parameter name) ≡ some row → Described texts name
+  described row e = let w = parameter-width row e in record { row = row; found = e; width = w .0; wide = w .1 }
 
   -- 01: "NAME names a pcf row with NATUR R"
   abbrev plfNaming : Naming
@@ -102,17 +104,35 @@ module _ (texts : List (List ℕ)) (name : Name) where
   unfolding factsOf ocfFacts
   ocf-names row t n = rw (t, ← n) (List·Memᴰ·head refl)
 
-  pcf-whole : (row : Row) → tableOf row ≡ Pcf → factsOf (tableOf row) (row .bytes) .meets numeric ≡ true → isWhole (pcfRow (row .bytes) .ptc) ≡ true
-  unfolding factsOf pcfFacts
-  pcf-whole row t m = let z : factsOf Pcf (row .bytes) .meets numeric ≡ true = rw t at m in and-left _ _ z
+  pcf-whole : (r : PcfRow) → pcfFacts r .meets numeric ≡ true → isWhole (r .ptc) ≡ true
+  unfolding pcfFacts
+  pcf-whole r m = and-left (isWhole (r .ptc)) _ m
 
-  -- the parameter of a good ocf row is of PTC 1-4
-  pub ocf-parameter : (ocf row : Row) → ofTables texts .holder (limits name) ≡ some ocf → ofTables texts .holder (parameter name) ≡ some row
-      → isWhole (pcfRow (row .bytes) .ptc) ≡ true
-  unfolding ownerOf
-  ocf-parameter ocf row e f =
-      let h = held-by (limits name) ocf Ocf refl (found-holds texts (limits name) ocf e) in
-      let w = named-row texts ocf (found-good texts (limits name) ocf e) ocfNaming (ocf-names ocf (h .0) (ocf-name name (ocf .bytes) (h .1))) in
-      let t = held-by (parameter name) (w .row) Pcf refl (found-holds texts (parameter name) (w .row) (w .found)) in
-      let q : w .row ≡ row = cc (w .found, f) in
-      ap (λ (r : Row). isWhole (pcfRow (r .bytes) .ptc)) (sym q) ∙ pcf-whole (w .row) (t .0) (named-meets texts ocfNaming numeric refl w)
+  pcf-numeric : (r : PcfRow) → pcfFacts r .meets numeric ≡ true → r .categ ≡ Numeric
+  unfolding pcfFacts
+  pcf-numeric r m = go (r .categ) refl
+    where
+      go : (c : Category) → r .categ ≡ c → c ≡ Numeric
+      go Numeric q = refl
+      go Status q = absurd (false≢true (and-right (isWhole (r .ptc)) false (rw q at m)))
+      go Text q = absurd (false≢true (and-right (isWhole (r .ptc)) false (rw q at m)))
+
+  -- the parameter of a good ocf row
+  module _ (ocf row : Row) (e : ofTables texts .holder (limits name) ≡ some ocf) (f : ofTables texts .holder (parameter name) ≡ some row) where
+    ocf-meets : pcfFacts (pcfRow (row .bytes)) .meets numeric ≡ true
+    unfolding ownerOf factsOf
+    ocf-meets =
+        let h = held-by (limits name) ocf Ocf refl (found-holds texts (limits name) ocf e) in
+        let w = named-row texts ocf (found-good texts (limits name) ocf e) ocfNaming (ocf-names ocf (h .0) (ocf-name name (ocf .bytes) (h .1))) in
+        let t = held-by (parameter name) (w .row) Pcf refl (found-holds texts (parameter name) (w .row) (w .found)) in
+        let q : w .row ≡ row = cc (w .found, f) in
+        ap (λ (r : Row). factsOf Pcf (r .bytes) .meets numeric) (sym q) ∙ ap (λ (t : Table). factsOf t (w .row .bytes) .meets numeric) (sym (t .0))
+        ∙ named-meets texts ocfNaming numeric refl w
+
+    -- is of PTC 1-4
+    pub ocf-parameter : isWhole (pcfRow (row .bytes) .ptc) ≡ true
+    ocf-parameter = pcf-whole (pcfRow (row .bytes)) ocf-meets
+
+    -- and of CATEG N
+    pub ocf-numeric : pcfRow (row .bytes) .categ ≡ Numeric
+    ocf-numeric = pcf-numeric (pcfRow (row .bytes)) ocf-meets

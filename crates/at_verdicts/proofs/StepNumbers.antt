@@ -39,15 +39,23 @@ pub state-numbers : (s : LimitState) → Numbered (34 ∷ []) (stateIn s)
 unfolding stateIn
 state-numbers s = cond-cases (λ (o : Outcome LimitState). Numbered (34 ∷ []) o) (isState s) (λ _. refl) (λ _. refl)
 
-time-numbers : (s : LimitState) (head : Head) → Numbered checking (inTime s head)
+-- 01: "36, 35"
+pub time-numbers : (numbers : List ℕ) → any (eqb 35) (0 ∷ numbers) ≡ true → any (eqb 36) (0 ∷ numbers) ≡ true → (s : LimitState) (head : Head)
+    → Numbered numbers (inTime s head)
 unfolding inTime
-time-numbers s head =
-    cond-cases (λ (o : Outcome LimitState). Numbered checking o) (s .fresh) (λ _. refl)
-    (λ _. cond-cases (λ (o : Outcome LimitState). Numbered checking o) (eqb (head .apid) (s .apid))
-    (λ _. cond-cases (λ (o : Outcome LimitState). Numbered checking o) (isNewer (head .count) (s .count)) (λ _. refl) (λ _. refl))
-    (λ _. refl))
+time-numbers numbers x y s head =
+    cond-cases (λ (o : Outcome LimitState). Numbered numbers o) (s .fresh) (λ _. refl)
+    (λ _. cond-cases (λ (o : Outcome LimitState). Numbered numbers o) (eqb (head .apid) (s .apid))
+    (λ _. cond-cases (λ (o : Outcome LimitState). Numbered numbers o) (isNewer (head .count) (s .count)) (λ _. refl) (λ _. x))
+    (λ _. y))
 
 -- The values of a parameter of PTC 1-4
+
+pub no-string : (ptc : ℕ) → isWhole ptc ≡ true → isString ptc ≡ false
+unfolding isString
+no-string ptc w =
+    let high : ptc ≤ 4 = leb-true ptc 4 (and-right (leb 1 ptc) (leb ptc 4) w) in
+    or-none (ne-eqb ptc 7 (λ e. omega arith)) (ne-eqb ptc 8 (λ e. omega arith))
 
 integer-numbers : (p : List ℕ) (plf : PlfRow) (pcf : PcfRow) (n : ℕ) → widthOf (pcf .ptc) (pcf .pfc) ≡ some n → isWhole (pcf .ptc) ≡ true
     → (k : ℕ) → Numbered checking (andThen (rawOf p plf pcf k) integerIn)
@@ -63,16 +71,18 @@ raws-numbers raw h (k ∷ ks) =
     one-then checking (andThen (raw k) integerIn) _ (h k) (λ z _.
     one-then checking (rawsOf raw ks) _ (raws-numbers raw h ks) (λ zs _. refl))
 
-unless-numbers : (values : List (Outcome ℤ)) → Numbered checking (unlessRefused values)
-unfolding unlessRefused
-unless-numbers values =
-    cond-cases (λ (o : Outcome (List ℤ)). Numbered checking o) (any (isRefusal 30) values) (λ _. refl)
-    (λ _. cond-cases (λ (o : Outcome (List ℤ)). Numbered checking o) (any (isRefusal 31) values) (λ _. refl) (λ _. refl))
+-- 01: "30, 31"
+module _ (numbers : List ℕ) (x : any (eqb 30) (0 ∷ numbers) ≡ true) (y : any (eqb 31) (0 ∷ numbers) ≡ true) where
+  unless-numbers : (values : List (Outcome ℤ)) → Numbered numbers (unlessRefused values)
+  unfolding unlessRefused
+  unless-numbers values =
+      cond-cases (λ (o : Outcome (List ℤ)). Numbered numbers o) (any (isRefusal 30) values) (λ _. x)
+      (λ _. cond-cases (λ (o : Outcome (List ℤ)). Numbered numbers o) (any (isRefusal 31) values) (λ _. y) (λ _. refl))
 
-on-numbers : (scale : Scale) (valid : Bool) (raws : List ℤ) → Numbered checking (valuesOn scale valid raws)
-unfolding valuesOn
-on-numbers scale valid raws =
-    cond-cases (λ (o : Outcome (List ℤ)). Numbered checking o) valid (λ _. unless-numbers (map (onScale scale) raws)) (λ _. refl)
+  pub on-numbers : (scale : Scale) (valid : Bool) (raws : List ℤ) → Numbered numbers (valuesOn scale valid raws)
+  unfolding valuesOn
+  on-numbers scale valid raws =
+      cond-cases (λ (o : Outcome (List ℤ)). Numbered numbers o) valid (λ _. unless-numbers (map (onScale scale) raws)) (λ _. refl)
 
 module _ (rows : Rows) (p : List ℕ) (spid : ℕ) (ocf : OcfRow) (at : Located) (n : ℕ)
     (wide : widthOf (at .pcf .ptc) (at .pcf .pfc) ≡ some n) (whole : isWhole (at .pcf .ptc) ≡ true) where
@@ -81,10 +91,10 @@ module _ (rows : Rows) (p : List ℕ) (spid : ℕ) (ocf : OcfRow) (at : Located)
   values-numbers =
       one-then checking (rawsOf (rawOf p (at .plf) (at .pcf)) (occurrencesFrom 0 (at .plf .nbocc))) _
       (raws-numbers (rawOf p (at .plf) (at .pcf)) (integer-numbers p (at .plf) (at .pcf) n wide whole) (occurrencesFrom 0 (at .plf .nbocc)))
-      (λ raws _. on-numbers _ _ raws)
+      (λ raws _. on-numbers checking refl refl _ _ raws)
 
   pub step-numbers : (name : Name) (s : LimitState) (head : Head) → Numbered checking (stepAt rows p name s head spid ocf at)
   unfolding stepAt
   step-numbers name s head =
-      one-then checking (inTime s head) _ (time-numbers s head) (λ old _.
+      one-then checking (inTime s head) _ (time-numbers checking refl refl s head) (λ old _.
       one-then checking (valuesOf rows p spid ocf at) _ values-numbers (λ values _. refl))

@@ -1,13 +1,10 @@
 -- Refusals 33 and 26 of a limit step mean exactly what 01 says, "no good ocf row" and "no good plf row for name and SPID".
 use mathlib.Core.Path.{_≡_, refl, sym, ap, subst, _∙_}
 use mathlib.Core.Logic.{_↔_}
-use mathlib.Core.Bool.{Bool, true, false, cond}
-use mathlib.Core.List.{List, [], _∷_}
+use mathlib.Core.List.{List}
 use mathlib.Core.Option.{Option, none, some}
 use Prim.Native.Nat.{ℕ}
 use native.Mathlib.Omega.{arith}
-use lib.Dec.{eqb}
-use Rattle.laws.specs.Lists.{any}
 use Rattle.lines.specs.Names.{nameOf}
 use Rattle.lines.specs.declared.names.Name.{Name}
 use Rattle.rows.specs.Records.{ocfRow}
@@ -17,35 +14,22 @@ use Rattle.verdicts.specs.Key.{location, limits}
 use Rattle.outcomes.specs.Outcome.{Outcome, answer, refused, andThen}
 use Rattle.database.specs.Rows.{Row, Rows}
 use Rattle.database.specs.GoodRows.{ofTables}
-use Rattle.headers.specs.Header.{headOf}
-use Rattle.identification.specs.Identification.{Identity, identifyHeaded, identifyBy}
 use Rattle.headers.specs.declared.Head.{Head}
 use Rattle.parameters.specs.Located.{byLines, located}
-use Rattle.limit_state.specs.State.{isState}
 use Rattle.limit_state.specs.declared.state.LimitState.{LimitState}
-use Rattle.accepting.specs.Time.{stateIn}
-use Rattle.stepping.specs.Step.{limitsFrom, limitsOf, stepAt, stepOf, stepHeaded, stepIn}
+use Rattle.stepping.specs.Step.{limitsOf, stepAt, stepOf, stepIn}
 use Rattle.calls.specs.Tables.{afterSizes, asking}
 use Rattle.calls.specs.Calls.{limitStepOf}
 use Rattle.at_verdicts.specs.Steps.{Unlimited, StepUnlocated}
-use Rattle.at_verdicts.proofs.NumberLaws.{numberIn, never-one, Numbered, then-is, then-refused, later, earlier}
-use Rattle.at_verdicts.proofs.PacketNumbers.{identifying, head-numbers, headed-numbers}
+use Rattle.at_verdicts.proofs.NumberLaws.{numberIn, never-one, Numbered, then-is, then-refused}
 use Rattle.at_verdicts.proofs.ParameterRows.{plf-parameter, ocf-parameter}
 use Rattle.at_verdicts.proofs.Extraction26.{located-is, located-none}
-use Rattle.at_verdicts.proofs.StepNumbers.{checking, state-numbers, step-numbers}
+use Rattle.at_verdicts.proofs.StepNumbers.{checking, step-numbers}
+use Rattle.at_verdicts.proofs.StepPath.{At, step-at, step-on}
+use Rattle.at_verdicts.proofs.StepRows.{limits-none, limits-are}
 
 abbrev number : Outcome LimitState → ℕ
 number o = numberIn o
-
--- The rows
-
-limits-none : (rows : Rows) (name : Name) → rows .holder (limits name) ≡ none → limitsOf rows name ≡ refused 33 0
-unfolding limitsOf limitsFrom
-limits-none rows name e = rw e
-
-limits-are : (rows : Rows) (name : Name) (ocf : Row) → rows .holder (limits name) ≡ some ocf → limitsOf rows name ≡ answer (ocfRow (ocf .bytes))
-unfolding limitsOf limitsFrom
-limits-are rows name ocf e = rw e
 
 module _ (texts : List (List ℕ)) (p : List ℕ) (name : Name) (s : LimitState) (head : Head) (spid : ℕ) where
   abbrev step : Outcome LimitState
@@ -104,57 +88,6 @@ module _ (texts : List (List ℕ)) (p : List ℕ) (name : Name) (s : LimitState)
       go (some ocf) none e f = (ocf, e, f)
       go (some ocf) (some plf) e f = absurd (never-one 26 checking step refl (step-found ocf plf e f) q)
 
--- What comes before the rows
-
-state-is : (s old : LimitState) → stateIn s ≡ answer old → (isState s ≡ true) × (s ≡ old)
-unfolding stateIn
-state-is s old e = go (isState s) refl e
-  where
-    go : (b : Bool) → isState s ≡ b → cond b (answer s) (refused 34 0) ≡ answer old → (isState s ≡ true) × (s ≡ old)
-    go true t e = (t, cc)
-    go false t e = absurd (let z : _≡_ {A = ℕ} 0 1 = cc in omega arith)
-
--- the state is one, the packet is identified, and so it goes on
-record At (rows : Rows) (p name : List ℕ) (s : LimitState) (o : Outcome LimitState) : Type 0 where
-  state : isState s ≡ true
-  head : Head
-  identity : Identity
-  identified : identifyBy rows p ≡ answer identity
-  on : numberIn o ≡ numberIn (stepOf rows p (nameOf name) s head (identity .spid))
-
-module _ (rows : Rows) (p name : List ℕ) (s : LimitState) where
-  abbrev headed : LimitState → Head → Outcome LimitState
-  headed old head = stepHeaded rows p (nameOf name) old head
-
-  -- a refusal that is none of 34 and 20 to 25 is one of the rows'
-  step-at : (n : ℕ) → any (eqb n) (0 ∷ 34 ∷ []) ≡ false → any (eqb n) (0 ∷ identifying) ≡ false → numberIn (stepIn rows p name s) ≡ n
-      → At rows p name s (refused n 0)
-  unfolding stepIn stepHeaded identifyBy
-  step-at n x y e =
-      let a = later n (stateIn s) (λ old. andThen (headOf p) (headed old)) (never-one n (34 ∷ []) (stateIn s) x (state-numbers s)) e in
-      let b = later n (headOf p) (headed (a .0)) (never-one n identifying (headOf p) y (head-numbers p)) (a .2) in
-      let c = later n (identifyHeaded rows (b .0) p) (λ (identity : Identity). stepOf rows p (nameOf name) (a .0) (b .0) (identity .spid))
-      (never-one n identifying (identifyHeaded rows (b .0) p) y (headed-numbers rows (b .0) p)) (b .2) in
-      let t = state-is s (a .0) (a .1) in
-      record {
-        state = t .0;
-        head = b .0;
-        identity = c .0;
-        identified = then-is (headOf p) (λ head. identifyHeaded rows head p) (b .0) (b .1) ∙ c .1;
-        on = sym (c .2) ∙ ap (λ (old : LimitState). number (stepOf rows p (nameOf name) old (b .0) (c .0 .spid))) (sym (t .1));
-      }
-
-  -- and the other way round
-  step-on : (identity : Identity) (number place : ℕ) → isState s ≡ true → identifyBy rows p ≡ answer identity
-      → ((head : Head) → stepOf rows p (nameOf name) s head (identity .spid) ≡ refused number place) → stepIn rows p name s ≡ refused number place
-  unfolding stepIn stepHeaded identifyBy stateIn
-  step-on identity number place t i h =
-      let w = earlier (headOf p) (λ head. identifyHeaded rows head p) identity i in
-      then-is (stateIn s) (λ old. andThen (headOf p) (headed old)) s (rw t)
-      ∙ then-is (headOf p) (headed s) (w .0) (w .1)
-      ∙ then-is (identifyHeaded rows (w .0) p) (λ (identity : Identity). stepOf rows p (nameOf name) s (w .0) (identity .spid)) identity (w .2)
-      ∙ h (w .0)
-
 -- A limit step
 
 module _ (texts : List (List ℕ)) (p name : List ℕ) (s : LimitState) where
@@ -162,24 +95,24 @@ module _ (texts : List (List ℕ)) (p name : List ℕ) (s : LimitState) where
   pub limit-step-33 : (stepIn (ofTables texts) p name s ≡ refused 33 0) ↔ Unlimited (ofTables texts) p name s
   limit-step-33 = (
     λ e.
-        let a = step-at (ofTables texts) p name s 33 refl refl (ap number e) in
+        let a = step-at (ofTables texts) p name s 33 0 refl refl e in
         record {
           state = a .state;
           identity = a .identity;
           identified = a .identified;
-          noOcfRow = unlimited texts p (nameOf name) s (a .head) (a .identity .spid) (sym (a .on));
+          noOcfRow = unlimited texts p (nameOf name) s (a .head) (a .identity .spid) (ap number (a .on));
         },
     λ u.
-        step-on (ofTables texts) p name s (u .identity) 33 0 (u .state) (u .identified)
-        (λ head. step-33 texts p (nameOf name) s head (u .identity .spid) (u .noOcfRow)),
+        step-on (ofTables texts) p name s 33 0 (u .identity) (u .state) (u .identified)
+        (λ head _. step-33 texts p (nameOf name) s head (u .identity .spid) (u .noOcfRow)),
   )
 
   -- 01: "26 … no good plf row for name and SPID"
   pub limit-step-26 : (stepIn (ofTables texts) p name s ≡ refused 26 0) ↔ StepUnlocated (ofTables texts) p name s
   limit-step-26 = (
     λ e.
-        let a = step-at (ofTables texts) p name s 26 refl refl (ap number e) in
-        let w = unplaced texts p (nameOf name) s (a .head) (a .identity .spid) (sym (a .on)) in
+        let a = step-at (ofTables texts) p name s 26 0 refl refl e in
+        let w = unplaced texts p (nameOf name) s (a .head) (a .identity .spid) (ap number (a .on)) in
         record {
           state = a .state;
           ocf = w .0;
@@ -187,8 +120,8 @@ module _ (texts : List (List ℕ)) (p name : List ℕ) (s : LimitState) where
           unlocated = record { identity = a .identity; identified = a .identified; noPlfRow = w .2 };
         },
     λ u.
-        step-on (ofTables texts) p name s (u .unlocated .identity) 26 0 (u .state) (u .unlocated .identified)
-        (λ head. step-26 texts p (nameOf name) s head (u .unlocated .identity .spid) (u .ocf) (u .hasLimits) (u .unlocated .noPlfRow)),
+        step-on (ofTables texts) p name s 26 0 (u .unlocated .identity) (u .state) (u .unlocated .identified)
+        (λ head _. step-26 texts p (nameOf name) s head (u .unlocated .identity .spid) (u .ocf) (u .hasLimits) (u .unlocated .noPlfRow)),
   )
 
   -- and of the call, with tables that fit

@@ -1,3 +1,7 @@
 pub mod Unlocated
 pub mod Steps
+pub mod OutOfRange
 pub mod OffCurve
+pub mod Fields
+pub mod Taken
+pub mod StepValues

@@ -1,1 +1,1 @@
-// No code: laws of the calls at the good rows of tables, by which refusals 26, 30 and 33 mean just what 01 says.
+// No code: laws of the calls at the good rows of tables, by which refusals 26 to 33 mean just what 01 says.

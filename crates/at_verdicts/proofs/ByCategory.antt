@@ -1,4 +1,4 @@
--- Refusal 30 of an engineering value means exactly what 01 says, "raw value off an F curve".
+-- Refusals 30 and 31 of an engineering value mean exactly what 01 says, "raw value off an F curve" and "curve result outside …".
 use mathlib.Core.Path.{_≡_, refl, sym, ap, subst, _∙_}
 use mathlib.Core.Logic.{_↔_}
 use mathlib.Core.Bool.{Bool, true, false, cond}
@@ -6,9 +6,12 @@ use mathlib.Core.List.{List, [], _∷_, List·Memᴰ, List·Memᴰ·head, Memᴰ
 use mathlib.Core.Option.{Option, none, some}
 use Prim.Native.Nat.{ℕ}
 use native.Mathlib.Omega.{arith}
+use lib.Dec.{eqb}
 use lib.IntN.{ℤ}
 use lib.Signed.{ltZ}
+use Rattle.laws.specs.Lists.{any}
 use Rattle.laws.proofs.Cases.{cond-cases}
+use Rattle.lines.specs.declared.names.CurveName.{CurveName}
 use Rattle.lines.specs.declared.names.Name.{Name}
 use Rattle.schemas.specs.declared.Table.{Table}
 use Rattle.schemas.specs.declared.Table.the-variants.{Pcf}
@@ -30,11 +33,13 @@ use Rattle.curve_values.specs.OffCurve.{isOffCurve}
 use Rattle.curve_values.specs.Scale.{scaleOf, onScale}
 use Rattle.texts.specs.Texts as ranges
 use Rattle.engineering.specs.Engineering.{Engineered, value, asValue, asText, byCategory, engineered}
-use Rattle.at_verdicts.specs.OffCurve.{OffItsCurve}
-use Rattle.at_verdicts.proofs.NumberLaws.{numberIn, Numbered, never-one, one-then, then-refused}
+use Rattle.refusal_places.proofs.GoodRows.{ownerOf}
+use Rattle.at_verdicts.specs.OutOfRange.{isOutOfRange}
+use Rattle.at_verdicts.specs.OffCurve.{ByItsCurve, OffItsCurve, OutOfItsRange}
+use Rattle.at_verdicts.proofs.NumberLaws.{numberIn, Numbered, never-one, one-then, then-refused, first-only}
 use Rattle.at_verdicts.proofs.NamedRows.{Named, found-good, found-holds, named-row}
 use Rattle.at_verdicts.proofs.ParameterRows.{held-by}
-use Rattle.at_verdicts.proofs.CurveRefusal.{goodCurve, curve-is, curve-30}
+use Rattle.at_verdicts.proofs.CurveRefusal.{goodCurve, curve-is, curve-30, curve-31}
 
 -- By category
 
@@ -65,11 +70,6 @@ for-numbers : (rows : Rows) (r : PcfRow) (raw : ℤ) → Numbered (32 ∷ []) (a
 unfolding ranges.textFor asText
 for-numbers rows r raw = one-then (32 ∷ []) (ranges.textFor rows (r .curtx .name) raw) asText (text-numbers _ raw) (λ t _. refl)
 
-value-refused : (o : Outcome ℤ) (n place : ℕ) → andThen o asValue ≡ refused n place → o ≡ refused n place
-unfolding andThen asValue
-value-refused (refused m q) n place e = cc
-value-refused (answer z) n place e = absurd (let w : _≡_ {A = ℕ} 0 1 = cc in omega arith)
-
 -- 01: "N may name a caf row"
 
 abbrev curtxNaming : PcfRow → Naming
@@ -92,46 +92,54 @@ module _ (texts : List (List ℕ)) (name : Name) (row : Row) (found : ofTables t
       named-row texts row (found-good texts (parameter name) row found) (curtxNaming pcf)
       (subst (λ (x : Table). List·Memᴰ (curtxNaming pcf) (factsOf x (row .bytes) .names)) (sym (t .0)) (curtx-named pcf c g))
 
-  module _ (raw : ℤ) (is : isRaw raw ≡ true) where
+  -- a refusal that a curve gives, and no text
+  module _ (n : ℕ) (so : Curve → ℤ → Bool) (other : any (eqb n) (0 ∷ 32 ∷ []) ≡ false)
+      (exactly : (c : CurveName) (caf : Row) (there : ofTables texts .holder (curve c) ≡ some caf) (raw : ℤ) → isRaw raw ≡ true
+      → (along (curveOf (ofTables texts) c) raw ≡ refused n 0) ↔ (so (goodCurve texts c caf there) raw ≡ true)) (raw : ℤ) (is : isRaw raw ≡ true) where
     abbrev told : Outcome Engineered
     told = engineered (ofTables texts) pcf raw
 
-    off-curve : told ≡ refused 30 0 → OffItsCurve (ofTables texts) pcf raw
-    off-curve e = go (pcf .categ) (pcf .curtx .given) refl refl
+    by-curve : told ≡ refused n 0 → ByItsCurve so (ofTables texts) pcf raw
+    unfolding asValue
+    by-curve e = go (pcf .categ) (pcf .curtx .given) refl refl
       where
-        never : (v : Engineered) → told ≡ answer v → ⊥
-        never v q = let z : _≡_ {A = ℕ} 0 30 = ap (λ (o : Outcome Engineered). numberIn o) (sym q ∙ e) in omega arith
+        never : (o : Outcome Engineered) → Numbered (32 ∷ []) o → told ≡ o → ⊥
+        never o h q = never-one n (32 ∷ []) o other h (ap (λ (o : Outcome Engineered). numberIn o) (sym q ∙ e))
 
-        go : (c : Category) (given : Bool) → pcf .categ ≡ c → pcf .curtx .given ≡ given → OffItsCurve (ofTables texts) pcf raw
+        go : (c : Category) (given : Bool) → pcf .categ ≡ c → pcf .curtx .given ≡ given → ByItsCurve so (ofTables texts) pcf raw
         go Numeric true c g =
             let w = curtx-curve c g in
-            let o = value-refused (along (curveOf (ofTables texts) (pcf .curtx .name)) raw) 30 0 (sym (along-curve (ofTables texts) pcf raw c g) ∙ e) in
+            let o = first-only n 0 (along (curveOf (ofTables texts) (pcf .curtx .name)) raw) asValue (λ z. (value (number z), refl))
+            (sym (along-curve (ofTables texts) pcf raw c g) ∙ e) in
             record {
               numeric = c;
               given = g;
               curve = goodCurve texts (pcf .curtx .name) (w .row) (w .found);
               is = curve-is texts (pcf .curtx .name) (w .row) (w .found);
-              off = curve-30 texts (pcf .curtx .name) (w .row) (w .found) raw is .only o;
+              holds = exactly (pcf .curtx .name) (w .row) (w .found) raw is .0 o;
             }
-        go Numeric false c g = absurd (never (value (number raw)) (as-read (ofTables texts) pcf raw c g))
-        go Status given c g =
-            absurd
-            (never-one 30 (32 ∷ []) (andThen (ranges.textFor (ofTables texts) (pcf .curtx .name) raw) asText) refl (for-numbers (ofTables texts) pcf raw)
-            (ap (λ (o : Outcome Engineered). numberIn o) (sym (by-text (ofTables texts) pcf raw c) ∙ e)))
-        go Text given c g = absurd (never (value (number raw)) (as-string (ofTables texts) pcf raw c))
+        go Numeric false c g = absurd (never (answer (value (number raw))) refl (as-read (ofTables texts) pcf raw c g))
+        go Status given c g = absurd (never _ (for-numbers (ofTables texts) pcf raw) (by-text (ofTables texts) pcf raw c))
+        go Text given c g = absurd (never (answer (value (number raw))) refl (as-string (ofTables texts) pcf raw c))
 
-    off-refused : OffItsCurve (ofTables texts) pcf raw → told ≡ refused 30 0
-    off-refused u =
+    curve-refused : ByItsCurve so (ofTables texts) pcf raw → told ≡ refused n 0
+    curve-refused u =
         let w = curtx-curve (u .numeric) (u .given) in
         let good : Curve = goodCurve texts (pcf .curtx .name) (w .row) (w .found) in
         let c = curve-is texts (pcf .curtx .name) (w .row) (w .found) in
         let i = u .is in
         let q : u .curve ≡ good = cc in
-        let off : isOffCurve good raw ≡ true = ap (λ (x : Curve). isOffCurve x raw) (sym q) ∙ u .off in
+        let holds : so good raw ≡ true = ap (λ (x : Curve). so x raw) (sym q) ∙ u .holds in
         along-curve (ofTables texts) pcf raw (u .numeric) (u .given)
-        ∙ then-refused (along (curveOf (ofTables texts) (pcf .curtx .name)) raw) asValue 30 0
-        (curve-30 texts (pcf .curtx .name) (w .row) (w .found) raw is .there off)
+        ∙ then-refused (along (curveOf (ofTables texts) (pcf .curtx .name)) raw) asValue n 0
+        (exactly (pcf .curtx .name) (w .row) (w .found) raw is .1 holds)
 
-    -- 30 of an engineering value, by the good pcf row of its parameter
-    pub engineered-30 : (told ≡ refused 30 0) ↔ OffItsCurve (ofTables texts) pcf raw
-    engineered-30 = (off-curve, off-refused)
+    engineered-by : (told ≡ refused n 0) ↔ ByItsCurve so (ofTables texts) pcf raw
+    engineered-by = (by-curve, curve-refused)
+
+  -- 30 and 31 of an engineering value, by the good pcf row of its parameter
+  pub engineered-30 : (raw : ℤ) → isRaw raw ≡ true → (engineered (ofTables texts) pcf raw ≡ refused 30 0) ↔ OffItsCurve (ofTables texts) pcf raw
+  engineered-30 = engineered-by 30 isOffCurve refl (curve-30 texts)
+
+  pub engineered-31 : (raw : ℤ) → isRaw raw ≡ true → (engineered (ofTables texts) pcf raw ≡ refused 31 0) ↔ OutOfItsRange (ofTables texts) pcf raw
+  engineered-31 = engineered-by 31 isOutOfRange refl (curve-31 texts)
