@@ -44,19 +44,19 @@ use Rattle.at_verdicts.proofs.CurveRefusal.{goodCurve, curve-is, curve-
 -- By category
 
 module _ (rows : Rows) (r : PcfRow) (raw : ℤ) where
-  along-curve : r .categ ≡ Numeric → r .curtx .given ≡ true → engineered rows r raw ≡ andThen (along (curveOf rows (r .curtx .name)) raw) asValue
+  pub along-curve : r .categ ≡ Numeric → r .curtx .given ≡ true → engineered rows r raw ≡ andThen (along (curveOf rows (r .curtx .name)) raw) asValue
   unfolding engineered byCategory scaleOf onScale
   along-curve c g = rw (c, g)
 
-  as-read : r .categ ≡ Numeric → r .curtx .given ≡ false → engineered rows r raw ≡ answer (value (number raw))
+  pub as-read : r .categ ≡ Numeric → r .curtx .given ≡ false → engineered rows r raw ≡ answer (value (number raw))
   unfolding engineered byCategory scaleOf onScale asValue andThen
   as-read c g = rw (c, g)
 
-  by-text : r .categ ≡ Status → engineered rows r raw ≡ andThen (ranges.textFor rows (r .curtx .name) raw) asText
+  pub by-text : r .categ ≡ Status → engineered rows r raw ≡ andThen (ranges.textFor rows (r .curtx .name) raw) asText
   unfolding engineered byCategory
   by-text c = rw c
 
-  as-string : r .categ ≡ Text → engineered rows r raw ≡ answer (value (number raw))
+  pub as-string : r .categ ≡ Text → engineered rows r raw ≡ answer (value (number raw))
   unfolding engineered byCategory asValue
   as-string c = rw c
 

@@ -2,8 +2,8 @@
 use mathlib.Core.Path.{_≡_, refl, sym, ap, _∙_}
 use mathlib.Core.Logic.{_↔_}
 use mathlib.Core.Bool.{Bool, true, false, not, cond, _&&_}
-use mathlib.Core.List.{List}
-use mathlib.Core.Option.{some}
+use mathlib.Core.List.{List, [], _∷_}
+use mathlib.Core.Option.{Option, none, some}
 use Prim.Native.Nat.{ℕ}
 use native.Mathlib.Omega.{arith}
 use lib.Dec.{leb}
@@ -31,6 +31,7 @@ use Rattle.curve_values.specs.Along.{outcomeOf, along}
 use Rattle.curve_values.specs.OffCurve.{isOffCurve}
 use Rattle.curve_values.proofs.OffCurveLaws.{Sound, off-f-curve}
 use Rattle.at_verdicts.specs.OutOfRange.{heightBy, heightPlaced, heightOn, isOutOfRange}
+use Rattle.at_verdicts.proofs.NumberLaws.{Numbered}
 
 -- 01: "−2,147,483,648 to 2,147,483,647"
 abbrev fits : ℤ → Bool
@@ -67,6 +68,38 @@ end-told : (ends : OffEnds) (l : Said) (height : ℤ) → Told (outcomeOf l) hei
 unfolding offEnd outcomeOf
 end-told Extrapolate l height t = t
 end-told Refuse l height t = off-told height
+
+-- With which numbers a curve refuses
+
+abbrev Curved : Said → Type 0
+Curved l = Numbered (30 ∷ 31 ∷ []) (outcomeOf l)
+
+through-numbers : (xs ys : List ℤ) (f g : Found) (x : ℤ) → Curved (through xs ys f g x)
+unfolding through lineAt resultOf outcomeOf
+through-numbers xs ys (At i) (At j) x =
+    cond-cases Curved (isSegment (pointAt xs ys i) (pointAt xs ys j) && isRaw x)
+    (λ _. cond-cases Curved (fits (heightAt (pointAt xs ys i) (pointAt xs ys j) x)) (λ _. refl) (λ _. refl)) (λ _. refl)
+through-numbers xs ys (At i) Nothing x = refl
+through-numbers xs ys Nothing g x = refl
+
+end-numbers : (ends : OffEnds) (l : Said) → Curved l → Curved (offEnd ends l)
+unfolding offEnd outcomeOf
+end-numbers Extrapolate l h = h
+end-numbers Refuse l h = refl
+
+placed-numbers : (ends : OffEnds) (xs ys : List ℤ) (x : ℤ) (low high : Found) → Curved (placed ends xs ys x low high)
+unfolding placed fromLast beforeFirst outcomeOf
+placed-numbers ends xs ys x (At i) (At j) = through-numbers xs ys (At i) (At j) x
+placed-numbers ends xs ys x (At i) Nothing =
+    cond-cases Curved (ltZ (getD xs i (pos 0)) x) (λ _. end-numbers ends _ (through-numbers xs ys (below xs (getD xs i (pos 0))) (At i) x)) (λ _. refl)
+placed-numbers ends xs ys x Nothing (At j) = end-numbers ends _ (through-numbers xs ys (At j) (above xs (getD xs j (pos 0))) x)
+placed-numbers ends xs ys x Nothing Nothing = refl
+
+-- 30 and 31 only
+pub along-numbers : (o : Option Curve) (raw : ℤ) → Numbered (30 ∷ 31 ∷ []) (along o raw)
+unfolding along curveAt
+along-numbers none raw = refl
+along-numbers (some c) raw = placed-numbers (c .ends) (c .xs) (c .ys) raw (notAbove (c .xs) raw) (above (c .xs) raw)
 
 -- 01: "YVALS 14!, each −1,073,741,824 to 1,073,741,823"
 coordinate-fits : (y : ℤ) → isCoordinate y ≡ true → fits y ≡ true

@@ -1,4 +1,4 @@
--- Refusals 30 and 31 of a call for an engineering value mean exactly that the value read is off its F curve, or the curve's result out of range.
+-- Refusals 30, 31 and 32 of a call for an engineering value: the value read is off its F curve, the curve's result out of range, or without a text.
 use mathlib.Core.Path.{_≡_, refl, sym, ap, _∙_}
 use mathlib.Core.Logic.{_↔_}
 use mathlib.Core.Bool.{true, false}
@@ -31,12 +31,14 @@ use Rattle.calls.specs.Extraction.{extractBy}
 use Rattle.calls.specs.Engineering.{ofValue, engineerBy}
 use Rattle.calls.specs.Calls.{engineerOf}
 use Rattle.at_verdicts.specs.OffCurve.{OffItsCurve, OutOfItsRange, ReadSo}
+use Rattle.at_verdicts.specs.NoText.{Textless}
 use Rattle.at_verdicts.proofs.NumberLaws.{numberIn, Numbered, Never, never-one, never-then, then-is, later, earlier}
 use Rattle.at_verdicts.proofs.PacketNumbers.{identifying, identify-numbers, reading as readingNumbers}
 use Rattle.at_verdicts.proofs.ParameterRows.{plf-parameter}
 use Rattle.at_verdicts.proofs.Extraction26.{located-is, located-none, reading-found, reading-none}
 use Rattle.at_verdicts.proofs.RawRange.{raw-range}
 use Rattle.at_verdicts.proofs.ByCategory.{engineered-30, engineered-31}
+use Rattle.at_verdicts.proofs.NoText.{engineered-32}
 
 -- What is read
 
@@ -155,3 +157,7 @@ module _ (texts : List (List ℕ)) (p name : List ℕ) (k : ℕ) where
   -- 01: "31 … curve result outside −2,147,483,648 to 2,147,483,647"
   pub engineer-31 : sizesOf texts ≡ fit → (engineerOf texts p name k ≡ refused 31 0) ↔ ReadSo (ofTables texts) p name k (OutOfItsRange (ofTables texts))
   engineer-31 = engineer-so 31 (OutOfItsRange (ofTables texts)) refl refl refl (engineered-31 texts (nameOf name))
+
+  -- 01: "32 … no text"
+  pub engineer-32 : sizesOf texts ≡ fit → (engineerOf texts p name k ≡ refused 32 0) ↔ ReadSo (ofTables texts) p name k (Textless (ofTables texts))
+  engineer-32 = engineer-so 32 (Textless (ofTables texts)) refl refl refl (λ row _ raw _. engineered-32 texts (pcfRow (row .bytes)) raw)

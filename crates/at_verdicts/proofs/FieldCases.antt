@@ -50,7 +50,8 @@ module _ (p : List ℕ) (ptc n at : ℕ) (other : isString ptc ≡ false) where
   unfolding fieldRaw signedAt unsignedAt
   numbered = rw other (go (eqb ptc 4))
     where
-      go : (b : Bool) → (meant : ℕ → ℤ) × (valueAt at number (cond b (fieldAt (complementOf n) p at n) (fieldAt pos p at n)) ≡ valueAt at number (fieldAt meant p at n))
+      go : (b : Bool)
+          → (meant : ℕ → ℤ) × (valueAt at number (cond b (fieldAt (complementOf n) p at n) (fieldAt pos p at n)) ≡ valueAt at number (fieldAt meant p at n))
       go true = (complementOf n, refl)
       go false = (pos, refl)
 

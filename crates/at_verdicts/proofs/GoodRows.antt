@@ -1,7 +1,8 @@
 -- The good rows of tables are the rows with verdict 0, and say what their lines do.
-use mathlib.Core.Path.{_≡_, refl, sym, ap, _∙_}
-use mathlib.Core.Bool.{true}
-use mathlib.Core.List.{List, [], _∷_, List·Memᴰ, List·Memᴰ·head, List·Memᴰ·tail}
+use mathlib.Core.Path.{_≡_, refl, sym, ap, ap₂, _∙_}
+use mathlib.Core.Logic.{_⊎_, inl, inr}
+use mathlib.Core.Bool.{Bool, true}
+use mathlib.Core.List.{List, [], _∷_, List·Memᴰ, List·Memᴰ·head, List·Memᴰ·tail, List·Memᴰ·not-nil, List·Memᴰ·append-cases}
 use mathlib.Core.List.{Memᴰ·append-left, Memᴰ·append-right}
 use Prim.Native.Nat.{ℕ, zero, suc, _+_, _-_, _≤_, _<_}
 use native.Mathlib.Omega.{arith}
@@ -115,6 +116,15 @@ good-line texts row m =
       passes = sound-formed texts row (verdict-good texts row (k .1) .isSound);
       bytes = its-line texts row (k .0);
     }
+
+-- good rows of one table and number have one line
+pub same-line : (texts : List (List ℕ)) (a b : Row) → List·Memᴰ a (goodRows texts) → List·Memᴰ b (goodRows texts) → a .table ≡ b .table
+    → a .number ≡ b .number → a .bytes ≡ b .bytes
+unfolding goodRows
+same-line texts a b m i t n =
+    its-line texts a (keep-mem (isGood texts) (rowsIn texts) m .0)
+    ∙ ap₂ (λ (t n : ℕ). getD (linesOf (textAt texts t)) (n - 1) noLine .bytes) t n
+    ∙ sym (its-line texts b (keep-mem (isGood texts) (rowsIn texts) i .0))
 
 -- an entry of which the verdict is 0 has its good row
 pub record RowOf (texts : List (List ℕ)) (e : Entry) : Type 0 where

@@ -19,6 +19,8 @@ pub mod CurvePoints
 pub mod CurveRange
 pub mod CurveRefusal
 pub mod ByCategory
+pub mod TextRows
+pub mod NoText
 pub mod RawRange
 pub mod EngineerRefusals
 pub mod StepCurve

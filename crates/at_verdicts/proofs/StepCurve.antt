@@ -65,8 +65,8 @@ module _ (texts : List (List ℕ)) (p name : List ℕ) (s : LimitState) (t : Tak
       by zs h true q e = record { zs = zs; each = h; isValid = q; refusal = e }
       by zs h false q e = absurd (let z : _≡_ {A = ℕ} 0 1 = cc in omega arith)
 
-      go : (r : Outcome (List ℤ)) → Raws (rawOf p place kind) 0 (place .nbocc) r → andThen r (valuesOn (scale texts p name s t) (valid texts p name s t)) ≡ refused n 0
-          → Asked n
+      go : (r : Outcome (List ℤ)) → Raws (rawOf p place kind) 0 (place .nbocc) r
+          → andThen r (valuesOn (scale texts p name s t) (valid texts p name s t)) ≡ refused n 0 → Asked n
       go (answer zs) h e = by zs h (valid texts p name s t) refl e
       go (refused m q) h e =
           let b : h .at < place .nbocc = omega (arith, h .below) in

@@ -116,7 +116,8 @@ module _ (texts : List (List ℕ)) (p name : List ℕ) (s : LimitState) (t : Tak
       never : (z : ℤ) → integerAt (rawOf p plf pcf) k ≡ answer z → ⊥
       never z e = refused≢answer (integerAt (rawOf p plf pcf) k) 28 (startOf plf k / 8) z out e
 
-      stops : (m q : ℕ) (h : Stopped (rawOf p plf pcf) 0 (plf .nbocc) m q) → Dec (h .at < k) → Dec (k < h .at) → _≡_ {A = Outcome (List ℤ)} (refused m q) (refused 28 byte)
+      stops : (m q : ℕ) (h : Stopped (rawOf p plf pcf) 0 (plf .nbocc) m q) → Dec (h .at < k) → Dec (k < h .at)
+          → _≡_ {A = Outcome (List ℤ)} (refused m q) (refused 28 byte)
       stops m q h (yes l) d =
           let w = at-here (h .at) (omega arith) (first (h .at) l) in
           absurd (refused≢answer (integerAt (rawOf p plf pcf) (h .at)) m q (w .0) (h .is) (w .1))

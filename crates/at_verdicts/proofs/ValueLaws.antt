@@ -43,7 +43,8 @@ unless-30 values = (only (any (isRefusal 30) values) (any (isRefusal 31) values)
     only false true e = absurd (let z : _≡_ {A = ℕ} 31 30 = cc in omega arith)
     only false false e = absurd (let z : _≡_ {A = ℕ} 0 1 = cc in omega arith)
 
-pub unless-31 : (values : List (Outcome ℤ)) → (unlessRefused values ≡ refused 31 0) ↔ ((any (isRefusal 30) values ≡ false) × (any (isRefusal 31) values ≡ true))
+pub unless-31 : (values : List (Outcome ℤ))
+    → (unlessRefused values ≡ refused 31 0) ↔ ((any (isRefusal 30) values ≡ false) × (any (isRefusal 31) values ≡ true))
 unfolding unlessRefused
 unless-31 values = (only (any (isRefusal 30) values) (any (isRefusal 31) values), λ t. rw (t .0, t .1))
   where
