@@ -64,11 +64,11 @@ module _ (p : List ℕ) (ptc n at : ℕ) (other : isString ptc ≡ false) where
 -- an occurrence, where the packet isn't too long and the field has a width, as good rows give it
 module _ (p : List ℕ) (plf : PlfRow) (pcf : PcfRow) (n : ℕ) (wide : widthOf (pcf .ptc) (pcf .pfc) ≡ some n) (short : ltb 8192 (length p) ≡ false)
     (k : ℕ) where
-  there-is : isThere p plf pcf k ≡ inside p (startOf plf k) n
+  pub there-is : isThere p plf pcf k ≡ inside p (startOf plf k) n
   unfolding isThere allInside
   there-is = rw wide
 
-  raw-is : k < plf .nbocc → rawOf p plf pcf k ≡ fieldRaw p (pcf .ptc) n (startOf plf k)
+  pub raw-is : k < plf .nbocc → rawOf p plf pcf k ≡ fieldRaw p (pcf .ptc) n (startOf plf k)
   unfolding rawOf rawIn
   raw-is h = rw (short, wide, lt-ltb k (plf .nbocc) h)
 

@@ -9,6 +9,8 @@ pub mod StepNumbers
 pub mod StepPath
 pub mod StepRows
 pub mod StepRefusals
+pub mod StringCases
+pub mod ExtractRefusals
 pub mod StepTaken
 pub mod Occurrences
 pub mod ValueLaws

@@ -96,10 +96,10 @@ module _ (texts : List (List ℕ)) (p name : List ℕ) (s : LimitState) (t : Tak
   -- An occurrence that is refused
 
   read-raw : (k : ℕ) (z : ℤ) → rawOf p place kind k ≡ answer (number z) → isRaw z ≡ true
-  read-raw k z e = let w = parameter-width texts (nameOf name) (t .pcf) (t .described) in raw-range p place kind k (w .0) (w .1) z e
+  read-raw k z e = let w = parameter-width texts (nameOf name) (t .at .pcf) (t .at .described) in raw-range p place kind k (w .0) (w .1) z e
 
   numeric : kind .categ ≡ Numeric
-  numeric = ocf-numeric texts (nameOf name) (t .ocf) (t .pcf) (t .hasLimits) (t .described)
+  numeric = ocf-numeric texts (nameOf name) (t .ocf) (t .at .pcf) (t .hasLimits) (t .at .described)
 
   module _ (c : ocfRow (t .ocf .bytes) .inter ≡ Engineering) (zs : List ℤ) (each : Each (rawOf p place kind) 0 (place .nbocc) zs)
       (n : ℕ) (so : ℤ → Type 0) (exactly : (raw : ℤ) → isRaw raw ≡ true → (engineered (ofTables texts) kind raw ≡ refused n 0) ↔ so raw) where
@@ -151,10 +151,10 @@ module _ (texts : List (List ℕ)) (p name : List ℕ) (s : LimitState) (t : Tak
   IsOut z = OutOfItsRange (ofTables texts) kind z
 
   off-exactly : (raw : ℤ) → isRaw raw ≡ true → (engineered (ofTables texts) kind raw ≡ refused 30 0) ↔ IsOff raw
-  off-exactly = engineered-30 texts (nameOf name) (t .pcf) (t .described)
+  off-exactly = engineered-30 texts (nameOf name) (t .at .pcf) (t .at .described)
 
   out-exactly : (raw : ℤ) → isRaw raw ≡ true → (engineered (ofTables texts) kind raw ≡ refused 31 0) ↔ IsOut raw
-  out-exactly = engineered-31 texts (nameOf name) (t .pcf) (t .described)
+  out-exactly = engineered-31 texts (nameOf name) (t .at .pcf) (t .at .described)
 
   pub values-30 : valuesIn t ≡ refused 30 0 → StepOffCurve (ofTables texts) p name s
   values-30 e =

@@ -23,7 +23,8 @@ use Rattle.curve_values.specs.Scale.{Scale}
 use Rattle.limit_state.specs.declared.state.LimitState.{LimitState}
 use Rattle.occurrences.specs.Values.{occurrencesFrom, rawsOf, valuesOn, scaleUnder, valuesOf}
 use Rattle.at_verdicts.specs.Fields.{isThere}
-use Rattle.at_verdicts.specs.Taken.{Taken, plfOf, pcfOf}
+use Rattle.at_verdicts.specs.Placed.{plfOf, pcfOf}
+use Rattle.at_verdicts.specs.Taken.{Taken}
 use Rattle.at_verdicts.specs.StepValues.{StepLeaves}
 use Rattle.at_verdicts.proofs.NumberLaws.{numberIn, never-one}
 use Rattle.at_verdicts.proofs.ParameterRows.{parameter-width, ocf-parameter}
@@ -38,21 +39,21 @@ refused≢answer o n place a e f = let z : _≡_ {A = ℕ} 0 1 = cc in omega ari
 
 module _ (texts : List (List ℕ)) (p name : List ℕ) (s : LimitState) (t : Taken (ofTables texts) p name s) where
   abbrev pub plf : PlfRow
-  plf = plfOf t
+  plf = plfOf (t .at)
 
   abbrev pub pcf : PcfRow
-  pcf = pcfOf t
+  pcf = pcfOf (t .at)
 
   abbrev pub scale : Scale
   scale = scaleUnder (ofTables texts) (ocfRow (t .ocf .bytes) .inter) (pcf .curtx)
 
   abbrev pub valid : Bool
-  valid = validity (ofTables texts) p (t .identity .spid) pcf
+  valid = validity (ofTables texts) p (t .at .identity .spid) pcf
 
   -- An occurrence
 
   other : isString (pcf .ptc) ≡ false
-  other = no-string (pcf .ptc) (ocf-parameter texts (nameOf name) (t .ocf) (t .pcf) (t .hasLimits) (t .described))
+  other = no-string (pcf .ptc) (ocf-parameter texts (nameOf name) (t .ocf) (t .at .pcf) (t .hasLimits) (t .at .described))
 
   pub taken-short : ltb 8192 (length p) ≡ false
   taken-short = headed-short p (t .head) (t .headed)
@@ -60,12 +61,12 @@ module _ (texts : List (List ℕ)) (p name : List ℕ) (s : LimitState) (t : Tak
   module _ (k : ℕ) (below : k < plf .nbocc) where
     pub at-out : isThere p plf pcf k ≡ false → integerAt (rawOf p plf pcf) k ≡ refused 28 (startOf plf k / 8)
     at-out f =
-        let w = parameter-width texts (nameOf name) (t .pcf) (t .described) in
+        let w = parameter-width texts (nameOf name) (t .at .pcf) (t .at .described) in
         integer-refused (rawOf p plf pcf k) 28 (startOf plf k / 8) (raw-out p plf pcf (w .0) (w .1) taken-short k below other f)
 
     pub at-here : isThere p plf pcf k ≡ true → (z : ℤ) × (integerAt (rawOf p plf pcf) k ≡ answer z)
     at-here e =
-        let w = parameter-width texts (nameOf name) (t .pcf) (t .described) in
+        let w = parameter-width texts (nameOf name) (t .at .pcf) (t .at .described) in
         let r = raw-here p plf pcf (w .0) (w .1) taken-short k below other e in
         (r .0, integer-is (rawOf p plf pcf k) (r .0) (r .1))
 

@@ -33,7 +33,7 @@ use Rattle.at_verdicts.proofs.StepRows.{limits-are, limits-found, limit
 
 -- the values that are checked of a packet that is taken
 abbrev pub valuesIn : {rows : Rows} {p name : List ℕ} {s : LimitState} → Taken rows p name s → Outcome (List ℤ)
-valuesIn {rows} {p} t = valuesOf rows p (t .identity .spid) (ocfRow (t .ocf .bytes)) (byLines (t .plf .bytes) (t .pcf .bytes))
+valuesIn {rows} {p} t = valuesOf rows p (t .at .identity .spid) (ocfRow (t .ocf .bytes)) (byLines (t .at .plf .bytes) (t .at .pcf .bytes))
 
 module _ (rows : Rows) (p : List ℕ) (name : Name) (s : LimitState) (head : Head) (spid number place : ℕ) where
   -- 33, 26, 36 and 35 pass, and the values are refused so
@@ -105,31 +105,34 @@ module _ (rows : Rows) (p name : List ℕ) (s : LimitState) (number place : ℕ)
             state = a .state;
             head = a .head;
             headed = a .headed;
-            identity = a .identity;
-            identified = a .identified;
             ocf = f .ocf;
             hasLimits = f .hasLimits;
-            plf = f .plf;
-            hasPlace = f .hasPlace;
-            pcf = f .pcf;
-            described = f .described;
+            at =
+                record {
+                  identity = a .identity;
+                  identified = a .identified;
+                  plf = f .plf;
+                  hasPlace = f .hasPlace;
+                  pcf = f .pcf;
+                  described = f .described;
+                };
             newer = f .newer;
           },
           f .values,
         ),
     λ r.
         let t : Taken rows p name s = r .0 in
-        step-on rows p name s number place (t .identity) (t .state) (t .identified)
+        step-on rows p name s number place (t .at .identity) (t .state) (t .at .identified)
         (λ head h.
         let q : t .head ≡ head = cc (h, t .headed) in
-        followed-step rows p (nameOf name) s head (t .identity .spid) number place
+        followed-step rows p (nameOf name) s head (t .at .identity .spid) number place
         (record {
           ocf = t .ocf;
           hasLimits = t .hasLimits;
-          plf = t .plf;
-          hasPlace = t .hasPlace;
-          pcf = t .pcf;
-          described = t .described;
+          plf = t .at .plf;
+          hasPlace = t .at .hasPlace;
+          pcf = t .at .pcf;
+          described = t .at .described;
           newer = ap (inTime s) (sym q) ∙ t .newer;
           values = r .1;
         })),

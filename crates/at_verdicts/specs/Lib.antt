@@ -4,5 +4,6 @@ pub mod OutOfRange
 pub mod OffCurve
 pub mod NoText
 pub mod Fields
+pub mod Placed
 pub mod Taken
 pub mod StepValues
