@@ -7,3 +7,6 @@ pub mod Fields
 pub mod Placed
 pub mod Taken
 pub mod StepValues
+pub mod ExampleRows
+pub mod CallExamples
+pub mod StepExamples
