@@ -5,7 +5,6 @@ use mathlib.Core.Bool.{Bool, true, false, cond}
 use mathlib.Core.List.{List, [], _∷_, List·Memᴰ, List·Memᴰ·head, Memᴰ·append-right}
 use mathlib.Core.Option.{Option, none, some}
 use Prim.Native.Nat.{ℕ}
-use native.Mathlib.Omega.{arith}
 use lib.Dec.{eqb}
 use lib.IntN.{ℤ}
 use lib.Signed.{ltZ}
@@ -60,15 +59,16 @@ module _ (rows : Rows) (r : PcfRow) (raw : ℤ) where
   unfolding engineered byCategory asValue
   as-string c = rw c
 
-text-numbers : (o : Option Row) (raw : ℤ) → Numbered (32 ∷ []) (ranges.textIn o raw)
-unfolding ranges.textIn
-text-numbers none raw = refl
-text-numbers (some row) raw = cond-cases (λ (o : Outcome ranges.Text). Numbered (32 ∷ []) o) (ltZ (ranges.toOf row) raw) (λ _. refl) (λ _. refl)
-
 -- a text is refused with 32 only
-for-numbers : (rows : Rows) (r : PcfRow) (raw : ℤ) → Numbered (32 ∷ []) (andThen (ranges.textFor rows (r .curtx .name) raw) asText)
-unfolding ranges.textFor asText
-for-numbers rows r raw = one-then (32 ∷ []) (ranges.textFor rows (r .curtx .name) raw) asText (text-numbers _ raw) (λ t _. refl)
+module _ (numbers : List ℕ) (n32 : any (eqb 32) (0 ∷ numbers) ≡ true) where
+  text-numbers : (o : Option Row) (raw : ℤ) → Numbered numbers (ranges.textIn o raw)
+  unfolding ranges.textIn
+  text-numbers none raw = n32
+  text-numbers (some row) raw = cond-cases (λ (o : Outcome ranges.Text). Numbered numbers o) (ltZ (ranges.toOf row) raw) (λ _. n32) (λ _. refl)
+
+  pub for-numbers : (rows : Rows) (r : PcfRow) (raw : ℤ) → Numbered numbers (andThen (ranges.textFor rows (r .curtx .name) raw) asText)
+  unfolding ranges.textFor asText
+  for-numbers rows r raw = one-then numbers (ranges.textFor rows (r .curtx .name) raw) asText (text-numbers _ raw) (λ t _. refl)
 
 -- 01: "N may name a caf row"
 
@@ -119,7 +119,7 @@ module _ (texts : List (List ℕ)) (name : Name) (row : Row) (found : ofTables t
               holds = exactly (pcf .curtx .name) (w .row) (w .found) raw is .0 o;
             }
         go Numeric false c g = absurd (never (answer (value (number raw))) refl (as-read (ofTables texts) pcf raw c g))
-        go Status given c g = absurd (never _ (for-numbers (ofTables texts) pcf raw) (by-text (ofTables texts) pcf raw c))
+        go Status given c g = absurd (never _ (for-numbers (32 ∷ []) refl (ofTables texts) pcf raw) (by-text (ofTables texts) pcf raw c))
         go Text given c g = absurd (never (answer (value (number raw))) refl (as-string (ofTables texts) pcf raw c))
 
     curve-refused : ByItsCurve so (ofTables texts) pcf raw → told ≡ refused n 0

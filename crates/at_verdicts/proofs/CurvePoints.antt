@@ -10,11 +10,11 @@ use lib.ListN.{length}
 use lib.IntN.{pos}
 use Rattle.laws.specs.Lists.{any}
 use Rattle.laws.proofs.Cases.{false≢true, and-left, and-right, and-both, and-false, or-left, or-none}
-use Rattle.laws.proofs.Tests.{any-witness, any-keep, any-never}
+use Rattle.laws.proofs.Tests.{any-keep, any-never}
 use Rattle.lines.specs.Lines.{Line}
 use Rattle.lines.specs.declared.names.CurveName.{CurveName}
 use Rattle.schemas.specs.declared.Table.{Table}
-use Rattle.schemas.specs.declared.Table.the-variants.{Pid, Pic, Plf, Pcf, Caf, Cap, Txf, Txp, Ocf, Ocp}
+use Rattle.schemas.specs.declared.Table.the-variants.{Caf, Cap}
 use Rattle.schemas.specs.Schema.{Column, Kind, aNumber, natural! }
 use Rattle.schemas.specs.Tables.{schema, caf}
 use Rattle.schemas.specs.Reasons.{kindReason, columnReason}
@@ -24,9 +24,8 @@ use Rattle.rows.specs.Values.{naturalOr}
 use Rattle.rows.specs.declared.records.CapRow.{CapRow}
 use Rattle.formed.specs.Formed.{formed}
 use Rattle.formed.proofs.Meaning.{column-passes, natural-column}
-use Rattle.verdicts.specs.Key.{Key, curve, sameKey}
-use Rattle.verdicts.specs.Facts.{anyRow, itself, Naming, Count, Facts, factsOf}
-use Rattle.verdicts.specs.Facts.{pidFacts, picFacts, plfFacts, pcfFacts, cafFacts, capFacts, txfFacts, txpFacts, ocfFacts, ocpFacts}
+use Rattle.verdicts.specs.Key.{curve, sameKey}
+use Rattle.verdicts.specs.Facts.{anyRow, itself, Naming, Count, Facts, cafFacts, capFacts, factsOf}
 use Rattle.verdicts.specs.Entries.{Entry, facts, allRows}
 use Rattle.verdicts.specs.Steps.{twin, holds, belongs}
 use Rattle.verdicts.specs.Verdicts.{sound, tally, follows, next, leads, circle, ofKind}
@@ -34,36 +33,26 @@ use Rattle.verdicts.specs.Good.{Meets, Good}
 use Rattle.verdicts.specs.Places.{entryAt}
 use Rattle.verdicts.proofs.EntryLaws.{row-of}
 use Rattle.verdicts.proofs.GoodLaw.{good-law}
-use Rattle.verdicts.proofs.KeyLaws.{same-key-is, same-key-self}
-use Rattle.verdicts.proofs.OwnerLaws.{ownerOf, groupTable, counted-in}
+use Rattle.verdicts.proofs.KeyLaws.{same-key-self}
 use Rattle.database.specs.Rows.{Row}
 use Rattle.database.specs.GoodRows.{rowsIn, isGood, goodRows, tableOf, inGroup, among, ofTables}
 use Rattle.refusal_places.proofs.GoodRows.{holder-line}
 use Rattle.at_verdicts.proofs.GoodRows.{entryOf, GoodRow, sound-says, is-good}
 use Rattle.at_verdicts.proofs.NamedRows.{found-good, found-holds}
 use Rattle.at_verdicts.proofs.ParameterRows.{held-by}
+use Rattle.at_verdicts.proofs.Groups.{in-group}
 use Rattle.at_verdicts.proofs.CountLaws.{keep-twice, rows-kept}
 
 -- A point's row
-
--- only cap rows are counted by a curve
-cap-only : (t : Table) (line : List ℕ) (name : CurveName) → List·Memᴰ (curve name) (factsOf t line .groups) → t ≡ Cap
-unfolding groupTable
-cap-only t line name m = counted-in t line m
 
 cap-name : (line : List ℕ) (name : CurveName) → List·Memᴰ (curve name) (factsOf Cap line .groups) → capRow line .numbr ≡ name
 unfolding factsOf capFacts
 cap-name line name m = let e = List·Memᴰ·eq-of-singleton m in cc
 
--- what a group's columns say of a row
+-- only cap rows are counted by a curve
 pub in-curve : (t : Table) (line : List ℕ) (name : CurveName) → any (sameKey (curve name)) (factsOf t line .groups) ≡ true
     → (t ≡ Cap) × (capRow line .numbr ≡ name)
-in-curve t line name h =
-    let w = any-witness (sameKey (curve name)) (factsOf t line .groups) h in
-    let m : List·Memᴰ (curve name) (factsOf t line .groups) =
-    subst (λ (k : Key). List·Memᴰ k (factsOf t line .groups)) (sym (same-key-is (curve name) (w .0) (w .2))) (w .1) in
-    let c = cap-only t line name m in
-    (c, cap-name line name (subst (λ (x : Table). List·Memᴰ (curve name) (factsOf x line .groups)) c m))
+in-curve t line name h = let w = in-group t line (curve name) h in (w .0, cap-name line name (w .1))
 
 -- A row whose names aren't of a VALID chain is on no circle
 

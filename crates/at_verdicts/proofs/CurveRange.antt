@@ -2,15 +2,16 @@
 use mathlib.Core.Path.{_≡_, refl, sym, ap, _∙_}
 use mathlib.Core.Logic.{_↔_}
 use mathlib.Core.Bool.{Bool, true, false, not, cond, _&&_}
-use mathlib.Core.List.{List, [], _∷_}
+use mathlib.Core.List.{List, _∷_}
 use mathlib.Core.Option.{Option, none, some}
 use Prim.Native.Nat.{ℕ}
 use native.Mathlib.Omega.{arith}
-use lib.Dec.{leb}
+use lib.Dec.{eqb, leb}
 use lib.IntN.{ℤ, pos, negsuc}
 use lib.ListN.{length, getD}
 use lib.Signed.{ltZ}
 use borrow.Author.Tests.{leb-true, le-leb}
+use Rattle.laws.specs.Lists.{any}
 use Rattle.laws.specs.Said.{Said, value, refused as refusedWith, free}
 use Rattle.laws.proofs.Cases.{false≢true, false-of, cond-cases, and-left, and-right, and-both}
 use Rattle.rows.specs.declared.letters.OffEnds.{OffEnds}
@@ -71,35 +72,36 @@ end-told Refuse l height t = off-told height
 
 -- With which numbers a curve refuses
 
-abbrev Curved : Said → Type 0
-Curved l = Numbered (30 ∷ 31 ∷ []) (outcomeOf l)
+module _ (numbers : List ℕ) (n30 : any (eqb 30) (0 ∷ numbers) ≡ true) (n31 : any (eqb 31) (0 ∷ numbers) ≡ true) where
+  abbrev Curved : Said → Type 0
+  Curved l = Numbered numbers (outcomeOf l)
 
-through-numbers : (xs ys : List ℤ) (f g : Found) (x : ℤ) → Curved (through xs ys f g x)
-unfolding through lineAt resultOf outcomeOf
-through-numbers xs ys (At i) (At j) x =
-    cond-cases Curved (isSegment (pointAt xs ys i) (pointAt xs ys j) && isRaw x)
-    (λ _. cond-cases Curved (fits (heightAt (pointAt xs ys i) (pointAt xs ys j) x)) (λ _. refl) (λ _. refl)) (λ _. refl)
-through-numbers xs ys (At i) Nothing x = refl
-through-numbers xs ys Nothing g x = refl
+  through-numbers : (xs ys : List ℤ) (f g : Found) (x : ℤ) → Curved (through xs ys f g x)
+  unfolding through lineAt resultOf outcomeOf
+  through-numbers xs ys (At i) (At j) x =
+      cond-cases Curved (isSegment (pointAt xs ys i) (pointAt xs ys j) && isRaw x)
+      (λ _. cond-cases Curved (fits (heightAt (pointAt xs ys i) (pointAt xs ys j) x)) (λ _. refl) (λ _. n31)) (λ _. n30)
+  through-numbers xs ys (At i) Nothing x = n30
+  through-numbers xs ys Nothing g x = n30
 
-end-numbers : (ends : OffEnds) (l : Said) → Curved l → Curved (offEnd ends l)
-unfolding offEnd outcomeOf
-end-numbers Extrapolate l h = h
-end-numbers Refuse l h = refl
+  end-numbers : (ends : OffEnds) (l : Said) → Curved l → Curved (offEnd ends l)
+  unfolding offEnd outcomeOf
+  end-numbers Extrapolate l h = h
+  end-numbers Refuse l h = n30
 
-placed-numbers : (ends : OffEnds) (xs ys : List ℤ) (x : ℤ) (low high : Found) → Curved (placed ends xs ys x low high)
-unfolding placed fromLast beforeFirst outcomeOf
-placed-numbers ends xs ys x (At i) (At j) = through-numbers xs ys (At i) (At j) x
-placed-numbers ends xs ys x (At i) Nothing =
-    cond-cases Curved (ltZ (getD xs i (pos 0)) x) (λ _. end-numbers ends _ (through-numbers xs ys (below xs (getD xs i (pos 0))) (At i) x)) (λ _. refl)
-placed-numbers ends xs ys x Nothing (At j) = end-numbers ends _ (through-numbers xs ys (At j) (above xs (getD xs j (pos 0))) x)
-placed-numbers ends xs ys x Nothing Nothing = refl
+  placed-numbers : (ends : OffEnds) (xs ys : List ℤ) (x : ℤ) (low high : Found) → Curved (placed ends xs ys x low high)
+  unfolding placed fromLast beforeFirst outcomeOf
+  placed-numbers ends xs ys x (At i) (At j) = through-numbers xs ys (At i) (At j) x
+  placed-numbers ends xs ys x (At i) Nothing =
+      cond-cases Curved (ltZ (getD xs i (pos 0)) x) (λ _. end-numbers ends _ (through-numbers xs ys (below xs (getD xs i (pos 0))) (At i) x)) (λ _. refl)
+  placed-numbers ends xs ys x Nothing (At j) = end-numbers ends _ (through-numbers xs ys (At j) (above xs (getD xs j (pos 0))) x)
+  placed-numbers ends xs ys x Nothing Nothing = n30
 
--- 30 and 31 only
-pub along-numbers : (o : Option Curve) (raw : ℤ) → Numbered (30 ∷ 31 ∷ []) (along o raw)
-unfolding along curveAt
-along-numbers none raw = refl
-along-numbers (some c) raw = placed-numbers (c .ends) (c .xs) (c .ys) raw (notAbove (c .xs) raw) (above (c .xs) raw)
+  -- 30 and 31 only
+  pub along-numbers : (o : Option Curve) (raw : ℤ) → Numbered numbers (along o raw)
+  unfolding along curveAt
+  along-numbers none raw = n30
+  along-numbers (some c) raw = placed-numbers (c .ends) (c .xs) (c .ys) raw (notAbove (c .xs) raw) (above (c .xs) raw)
 
 -- 01: "YVALS 14!, each −1,073,741,824 to 1,073,741,823"
 coordinate-fits : (y : ℤ) → isCoordinate y ≡ true → fits y ≡ true

@@ -28,10 +28,7 @@ use Rattle.curves.specs.Line.{within, isCoordinate, isPoint, isRaw}
 use Rattle.calibration.specs.Curve.{pointAt}
 use Rattle.verdicts.specs.Key.{Key, curve, point}
 use Rattle.verdicts.specs.Facts.{factsOf, capFacts}
-use Rattle.verdicts.specs.Entries.{Entry}
-use Rattle.verdicts.specs.Places.{entryAt}
 use Rattle.verdicts.proofs.KeyLaws.{same-key-self}
-use Rattle.verdicts.proofs.SoundLaws.{one-holder}
 use Rattle.outcomes.specs.Outcome.{refused}
 use Rattle.database.specs.Rows.{Row}
 use Rattle.database.specs.GoodRows.{goodRows, tableOf, holdsKey, inGroup, among, ofTables}
@@ -40,8 +37,8 @@ use Rattle.curve_values.specs.Along.{along}
 use Rattle.curve_values.specs.OffCurve.{isOffCurve}
 use Rattle.curve_values.proofs.OffCurveLaws.{Sound, off-f-curve}
 use Rattle.at_verdicts.specs.OutOfRange.{isOutOfRange}
-use Rattle.at_verdicts.proofs.GoodRows.{entryOf, GoodRow, good-row, good-line}
-use Rattle.at_verdicts.proofs.NamedRows.{entry-holds}
+use Rattle.at_verdicts.proofs.GoodRows.{good-line}
+use Rattle.at_verdicts.proofs.Groups.{one-good}
 use Rattle.at_verdicts.proofs.DistinctRows.{keep-distinct, good-distinct, one-index}
 use Rattle.at_verdicts.proofs.CurvePoints.{in-curve, two-points}
 use Rattle.at_verdicts.proofs.CurveRange.{out-of-range}
@@ -78,7 +75,7 @@ abbrev noRow : Row
 noRow = record { table = 0; number = 0; start = 0; bytes = [] }
 
 record PointRow (texts : List (List ℕ)) (name : CurveName) (row : Row) : Type 0 where
-  good : GoodRow texts row
+  good : List·Memᴰ row (goodRows texts)
   fine : (isCoordinate (xvalsOf row) && isCoordinate (yvalsOf row)) ≡ true
   holds : holdsKey (point name (xvalsOf row)) row ≡ true
 
@@ -95,7 +92,7 @@ point-row texts name row m i =
     let l = good-line texts row m in
     let f : formed Cap (l .line) ≡ 0 = ap (λ (t : Table). formed t (l .line)) (sym (c .0)) ∙ l .passes in
     record {
-      good = good-row texts row m;
+      good = m;
       fine =
           subst (λ (bytes : List ℕ). (isCoordinate (capRow bytes .xvals) && isCoordinate (capRow bytes .yvals)) ≡ true) (sym (l .bytes))
           (cap-point (l .line) f);
@@ -116,19 +113,14 @@ module _ (texts : List (List ℕ)) (name : CurveName) where
 
   -- 01: "Key NUMBR and the value of XVALS"
   one-point : (i j : ℕ) → i < length points → j < length points → xvalsOf (getD points i noRow) ≡ xvalsOf (getD points j noRow) → i ≡ j
-  unfolding ofTables among entryAt
+  unfolding ofTables among
   one-point i j h k e =
       let a = point-at i h in
       let b = point-at j k in
       let p : Row = getD points i noRow in
       let q : Row = getD points j noRow in
-      let key : Key = point name (xvalsOf p) in
-      let held : holdsKey key q ≡ true = ap (λ (x : ℤ). holdsKey (point name x) q) e ∙ b .holds in
-      let same : entryOf texts p ≡ entryOf texts q =
-      one-holder texts (entryOf texts p) (entryOf texts q) key (a .good .there) (b .good .there) (a .good .good .isSound)
-      (entry-holds texts p (a .good) key ∙ a .holds) (entry-holds texts q (b .good) key ∙ held) in
       one-index points (keep-distinct (inGroup (curve name)) (goodRows texts) (good-distinct texts)) noRow i j h k
-      (ap (λ (x : Entry). x .table) same, ap (λ (x : Entry). x .row) same)
+      (one-good texts (point name (xvalsOf p)) p q (a .good) (b .good) (a .holds) (ap (λ (x : ℤ). holdsKey (point name x) q) e ∙ b .holds))
 
   module _ (row : Row) (found : ofTables texts .holder (curve name) ≡ some row) where
     -- the curve of a good caf row: its INTER and its good points

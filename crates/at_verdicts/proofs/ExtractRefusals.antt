@@ -1,17 +1,14 @@
 -- Refusals 27, 28 and 29 of an extraction mean exactly what 01 says, of the field that its good rows give.
-use mathlib.Core.Path.{_≡_, refl, sym, ap, ap₂, _∙_}
+use mathlib.Core.Path.{_≡_, refl, sym, ap, _∙_}
 use mathlib.Core.Logic.{_↔_}
-use mathlib.Core.Bool.{true, false}
+use mathlib.Core.Bool.{false}
 use mathlib.Core.List.{List, [], _∷_}
-use mathlib.Core.Option.{some}
-use Prim.Native.Nat.{ℕ, _/_, _%_, _≤_, _<_}
+use Prim.Native.Nat.{ℕ}
 use native.Mathlib.Omega.{arith}
 use lib.Dec.{eqb}
 use Rattle.laws.specs.Lists.{any}
 use Rattle.laws.proofs.Cases.{false≢true}
 use Rattle.lines.specs.Names.{nameOf}
-use Rattle.rows.specs.declared.records.PlfRow.{PlfRow}
-use Rattle.rows.specs.declared.records.PcfRow.{PcfRow}
 use Rattle.tables.specs.Sizes.{fit, sizesOf}
 use Rattle.outcomes.specs.Outcome.{Outcome, answer, refused, andThen}
 use Rattle.outcomes.specs.Values.{Value}
@@ -19,19 +16,18 @@ use Rattle.database.specs.Rows.{Rows}
 use Rattle.database.specs.GoodRows.{ofTables}
 use Rattle.headers.specs.Header.{headOf}
 use Rattle.identification.specs.Identification.{Identity, identifyHeaded, identifyBy}
-use Rattle.raw_values.specs.RawValues.{isString, startOf, rawOf}
+use Rattle.raw_values.specs.RawValues.{rawOf}
 use Rattle.parameters.specs.Located.{Located, byLines, located}
 use Rattle.readings.specs.Readings.{Reading, withValidity, readingWith, validity, reading}
 use Rattle.calls.specs.Tables.{afterSizes, asking}
 use Rattle.calls.specs.Extraction.{extractBy}
 use Rattle.calls.specs.Calls.{extractOf}
-use Rattle.at_verdicts.specs.Fields.{isThere}
 use Rattle.at_verdicts.specs.Placed.{Placed, plfOf, pcfOf, NoOccurrence, Leaves, OffByte}
 use Rattle.at_verdicts.proofs.NumberLaws.{never-one, then-is, then-refused, later, first-only, earlier}
 use Rattle.at_verdicts.proofs.PacketNumbers.{identifying, identify-numbers}
 use Rattle.at_verdicts.proofs.ParameterRows.{parameter-width}
 use Rattle.at_verdicts.proofs.Extraction26.{located-is}
-use Rattle.at_verdicts.proofs.StepRows.{Both, located-found, located-numbers}
+use Rattle.at_verdicts.proofs.StepRows.{located-found, located-numbers}
 use Rattle.at_verdicts.proofs.FieldCases.{headed-short}
 use Rattle.at_verdicts.proofs.StringCases.{Case, over, out, offByte, read, raw-case}
 

@@ -1,5 +1,5 @@
 -- The raw value of an occurrence by its field: 27 past NBOCC, 28 where a bit lies outside, and of PTC 1-4 else a number.
-use mathlib.Core.Path.{_≡_, refl, sym, ap, _∙_}
+use mathlib.Core.Path.{_≡_, refl, sym, _∙_}
 use mathlib.Core.Bool.{Bool, true, false, cond}
 use mathlib.Core.List.{List}
 use mathlib.Core.Option.{some}
@@ -19,8 +19,8 @@ use Rattle.fields.proofs.FieldLaws.{width-yes}
 use Rattle.rows.specs.declared.records.PlfRow.{PlfRow}
 use Rattle.rows.specs.declared.records.PcfRow.{PcfRow}
 use Rattle.headers.specs.Header.{headOf}
-use Rattle.outcomes.specs.Outcome.{Outcome, answer, refused}
-use Rattle.outcomes.specs.Values.{Value, number}
+use Rattle.outcomes.specs.Outcome.{answer, refused}
+use Rattle.outcomes.specs.Values.{number}
 use Rattle.headers.specs.declared.Head.{Head}
 use Rattle.raw_values.specs.RawValues.{isString, startOf, valueAt, fieldRaw, rawIn, rawOf}
 use Rattle.raw_values.proofs.RawLaws.{width-wide}

@@ -15,6 +15,7 @@ pub mod StepTaken
 pub mod Occurrences
 pub mod ValueLaws
 pub mod StepLeaving
+pub mod Groups
 pub mod DistinctRows
 pub mod CountLaws
 pub mod CurvePoints
@@ -25,5 +26,7 @@ pub mod TextRows
 pub mod NoText
 pub mod RawRange
 pub mod EngineerRefusals
+pub mod EngineerExtracted
+pub mod LimitCurve
 pub mod StepCurve
 pub mod StepCalls

@@ -3,7 +3,7 @@ use mathlib.Core.Path.{_≡_, refl, sym, ap, _∙_}
 use mathlib.Core.Logic.{_↔_}
 use mathlib.Core.Bool.{Bool, true, false, cond}
 use mathlib.Core.List.{List, [], _∷_, map, List·Memᴰ, List·Memᴰ·head, List·Memᴰ·tail}
-use mathlib.Core.Option.{Option, none, some}
+use mathlib.Core.Option.{Option, some}
 use Prim.Native.Nat.{ℕ, zero, suc, _<_}
 use native.Mathlib.Nat.{le-of-suc-le-suc, not-suc-le-zero}
 use native.Mathlib.Omega.{arith}
@@ -23,7 +23,7 @@ use Rattle.calibration.specs.declared.nearest.Found.the-variants.{At, Nothing}
 use Rattle.calibration.specs.declared.nearest.Side.the-variants.{NotAbove}
 use Rattle.calibration.proofs.OrderLaws.{le-not-lt}
 use Rattle.calibration.proofs.NearestOf.{Nearest, not-above-nearest}
-use Rattle.outcomes.specs.Outcome.{Outcome, answer, refused, andThen}
+use Rattle.outcomes.specs.Outcome.{Outcome, answer, refused}
 use Rattle.outcomes.specs.Values.{number}
 use Rattle.database.specs.Rows.{Row}
 use Rattle.database.specs.GoodRows.{ofTables}
@@ -151,7 +151,7 @@ engineered-32 tables r raw = (λ e. go (r .categ) (r .curtx .given) refl refl e,
         → Textless (ofTables tables) r raw
     go Numeric true c g e =
         absurd (never-one 32 (30 ∷ 31 ∷ []) (along (curveOf (ofTables tables) (r .curtx .name)) raw) refl
-        (along-numbers (curveOf (ofTables tables) (r .curtx .name)) raw)
+        (along-numbers (30 ∷ 31 ∷ []) refl refl (curveOf (ofTables tables) (r .curtx .name)) raw)
         (ap (λ (o : Outcome ℤ). numberIn o)
         (first-only 32 0 (along (curveOf (ofTables tables) (r .curtx .name)) raw) asValue (λ z. (value (number z), refl))
         (sym (along-curve (ofTables tables) r raw c g) ∙ e))))

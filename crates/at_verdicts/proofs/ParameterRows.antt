@@ -45,7 +45,7 @@ plf-name : (name : Name) (spid : ℕ) (line : List ℕ) → List·Memᴰ (locati
 unfolding factsOf plfFacts
 plf-name name spid line m = let e = List·Memᴰ·eq-of-singleton m in cc
 
-ocf-name : (name : Name) (line : List ℕ) → List·Memᴰ (limits name) (factsOf Ocf line .keys) → ocfRow line .name ≡ name
+pub ocf-name : (name : Name) (line : List ℕ) → List·Memᴰ (limits name) (factsOf Ocf line .keys) → ocfRow line .name ≡ name
 unfolding factsOf ocfFacts
 ocf-name name line m = let e = List·Memᴰ·eq-of-singleton m in cc
 

@@ -2,7 +2,7 @@
 use mathlib.Core.Path.{_≡_, refl, sym, ap, _∙_}
 use mathlib.Core.Bool.{Bool, true, false}
 use mathlib.Core.List.{List, [], _∷_}
-use Prim.Native.Nat.{ℕ, _/_, _≤_, _<_}
+use Prim.Native.Nat.{ℕ, _/_, _<_}
 use native.Mathlib.Decide.{decLt}
 use native.Mathlib.Omega.{arith}
 use lib.Dec.{ltb}
@@ -10,7 +10,6 @@ use lib.IntN.{ℤ}
 use lib.ListN.{length}
 use Rattle.laws.proofs.Cases.{bool-cases}
 use Rattle.lines.specs.Names.{nameOf}
-use Rattle.fields.specs.Width.{widthOf}
 use Rattle.rows.specs.Records.{ocfRow}
 use Rattle.rows.specs.declared.records.PlfRow.{PlfRow}
 use Rattle.rows.specs.declared.records.PcfRow.{PcfRow}
@@ -32,7 +31,7 @@ use Rattle.at_verdicts.proofs.StepNumbers.{no-string, on-numbers}
 use Rattle.at_verdicts.proofs.StepTaken.{valuesIn}
 use Rattle.at_verdicts.proofs.ValueLaws.{integer-is, integer-refused}
 use Rattle.at_verdicts.proofs.FieldCases.{headed-short, raw-out, raw-here}
-use Rattle.at_verdicts.proofs.Occurrences.{integerAt, Each, Stopped, Raws, raws-are}
+use Rattle.at_verdicts.proofs.Occurrences.{integerAt, Stopped, Raws, raws-are}
 
 pub refused≢answer : {A : Type 0} (o : Outcome A) (n place : ℕ) (a : A) → o ≡ refused n place → o ≡ answer a → ⊥
 refused≢answer o n place a e f = let z : _≡_ {A = ℕ} 0 1 = cc in omega arith

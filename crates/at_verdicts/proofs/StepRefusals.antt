@@ -11,8 +11,8 @@ use Rattle.rows.specs.Records.{ocfRow}
 use Rattle.rows.specs.declared.records.OcfRow.{OcfRow}
 use Rattle.tables.specs.Sizes.{fit, sizesOf}
 use Rattle.verdicts.specs.Key.{location, limits}
-use Rattle.outcomes.specs.Outcome.{Outcome, answer, refused, andThen}
-use Rattle.database.specs.Rows.{Row, Rows}
+use Rattle.outcomes.specs.Outcome.{Outcome, refused, andThen}
+use Rattle.database.specs.Rows.{Row}
 use Rattle.database.specs.GoodRows.{ofTables}
 use Rattle.headers.specs.declared.Head.{Head}
 use Rattle.parameters.specs.Located.{byLines, located}
@@ -25,7 +25,7 @@ use Rattle.at_verdicts.proofs.NumberLaws.{numberIn, never-one, Numbered
 use Rattle.at_verdicts.proofs.ParameterRows.{plf-parameter, ocf-parameter}
 use Rattle.at_verdicts.proofs.Extraction26.{located-is, located-none}
 use Rattle.at_verdicts.proofs.StepNumbers.{checking, step-numbers}
-use Rattle.at_verdicts.proofs.StepPath.{At, step-at, step-on}
+use Rattle.at_verdicts.proofs.StepPath.{step-at, step-on}
 use Rattle.at_verdicts.proofs.StepRows.{limits-none, limits-are}
 
 abbrev number : Outcome LimitState → ℕ

@@ -15,7 +15,6 @@ use Rattle.rows.specs.declared.records.OcfRow.{OcfRow}
 use Rattle.verdicts.specs.Key.{location, parameter, limits}
 use Rattle.outcomes.specs.Outcome.{Outcome, answer, refused, andThen}
 use Rattle.database.specs.Rows.{Row, Rows}
-use Rattle.headers.specs.Header.{headOf}
 use Rattle.headers.specs.declared.Head.{Head}
 use Rattle.parameters.specs.Located.{Located, byLines, located}
 use Rattle.limit_state.specs.declared.state.LimitState.{LimitState}
@@ -28,8 +27,8 @@ use Rattle.at_verdicts.proofs.NumberLaws.{never-one, then-is, then-refu
 use Rattle.at_verdicts.proofs.PacketNumbers.{identifying}
 use Rattle.at_verdicts.proofs.Extraction26.{located-is}
 use Rattle.at_verdicts.proofs.StepNumbers.{time-numbers}
-use Rattle.at_verdicts.proofs.StepPath.{At, step-at, step-on}
-use Rattle.at_verdicts.proofs.StepRows.{limits-are, limits-found, limits-numbers, Both, located-found, located-numbers, time-is}
+use Rattle.at_verdicts.proofs.StepPath.{step-at, step-on}
+use Rattle.at_verdicts.proofs.StepRows.{limits-are, limits-found, limits-numbers, located-found, located-numbers, time-is}
 
 -- the values that are checked of a packet that is taken
 abbrev pub valuesIn : {rows : Rows} {p name : List ℕ} {s : LimitState} → Taken rows p name s → Outcome (List ℤ)

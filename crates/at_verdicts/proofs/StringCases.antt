@@ -1,9 +1,9 @@
 -- An occurrence of a parameter of good rows, in each of its cases: 27, 28, 29, or a value.
-use mathlib.Core.Path.{_≡_, refl, sym, ap, _∙_}
+use mathlib.Core.Path.{_≡_, refl, sym, _∙_}
 use mathlib.Core.Bool.{Bool, true, false, cond, _&&_, _||_}
 use mathlib.Core.List.{List}
 use mathlib.Core.Option.{none, some}
-use Prim.Native.Nat.{ℕ, _+_, _*_, _/_, _%_, _≤_, _<_}
+use Prim.Native.Nat.{ℕ, _*_, _/_, _%_, _≤_, _<_}
 use native.Mathlib.Omega.{arith}
 use lib.Dec.{eqb, leb, ltb}
 use lib.ListN.{length}
@@ -11,12 +11,12 @@ use borrow.Author.Tests.{eqb-true, ne-eqb, eq-eqb, le-ltb, ltb-true, ltb-false, 
 use Rattle.laws.proofs.Cases.{bool-cases, false≢true}
 use Rattle.fields.specs.Place.{inside}
 use Rattle.fields.specs.Text.{stringAt}
-use Rattle.fields.specs.Width.{widthOf, integerWidth, within}
+use Rattle.fields.specs.Width.{widthOf, within}
 use Rattle.rows.specs.declared.records.PlfRow.{PlfRow}
 use Rattle.rows.specs.declared.records.PcfRow.{PcfRow}
-use Rattle.outcomes.specs.Outcome.{Outcome, answer, refused}
+use Rattle.outcomes.specs.Outcome.{answer, refused}
 use Rattle.outcomes.specs.Values.{Value, number, part}
-use Rattle.raw_values.specs.RawValues.{isString, startOf, valueAt, partAt, fieldRaw, rawIn, rawOf}
+use Rattle.raw_values.specs.RawValues.{isString, startOf, valueAt, fieldRaw, rawIn, rawOf}
 use Rattle.at_verdicts.specs.Fields.{isThere}
 use Rattle.at_verdicts.proofs.FieldCases.{there-is, raw-is, raw-out, raw-here}
 
