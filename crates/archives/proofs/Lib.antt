@@ -1,1 +1,3 @@
 pub mod PacketLaws
+pub mod FrameLaws
+pub mod BlockLaws

@@ -1,124 +1,124 @@
--- What reads leave in the buffer of an archive's packet.
-use Prim.Native.Nat.{ℕ, _+_, _-_, _*_, _≤_, _<_}
+-- Packets in bytes: one after the other, and in bytes that come in pieces.
+use Prim.Native.Nat.{ℕ, zero, suc, _+_, _*_, _≤_, _<_}
 use mathlib.Core.Path.{_≡_, refl, sym, ap, _∙_}
-use mathlib.Core.List.{List, _++_}
+use mathlib.Core.Bool.{Bool, true, false, cond}
+use mathlib.Core.List.{List, [], _∷_, _++_, append-assoc}
 use native.Mathlib.Omega.{arith}
-use native.Mathlib.Nat.{suc-mul}
-use native.Mathlib.Numerals.{add-one}
-use lib.ListN.{length, take, drop, getD, length-append, length-take, length-drop, drop-of-length-le, List·getD-append}
-use lib.Seq.{getD-take, drop-at, drop-drop, length-take-le}
-use borrow.Rule.Slice.PartMut.{midOf, putMid, mid-len, drop-put}
-use Rattle.archives.specs.declared.Next.{Next}
-use Rattle.archives.specs.declared.Next.the-variants.{Packet, TooLong, End, Cut, Broken}
-use Rattle.archives.specs.Packets.{lengthSaid, Kept, Framed, Stopped, PassedOver, Skipped}
+use lib.ListN.{length, take, drop, getD, length-append, length-drop, take-append-drop, List·getD-append}
+use lib.Seq.{take-append-le, drop-append-le, getD-take, getD-drop, length-take-le}
+use borrow.Author.Tests.{leb-true, leb-false, le-leb, lt-leb}
+use Rattle.laws.proofs.Cases.{cond-cases, bool-cases}
+use Rattle.archives.specs.Packets.{lengthSaid, isWhole, packetsUpto, leftUpto, packetsIn, leftIn}
 
--- what is kept from a byte on is kept from any later one on
-pub later : (n m : ℕ) (before after : List ℕ) → n ≤ m → Kept n before after → Kept m before after
-later n m before after h k =
-    let e : n + (m - n) ≡ m = omega arith in
-    ap (λ (i : ℕ). drop i after) (sym e) ∙ sym (drop-drop (m - n) n after) ∙ ap (λ (l : List ℕ). drop (m - n) l) k
-    ∙ drop-drop (m - n) n before ∙ ap (λ (i : ℕ). drop i before) e
+pub said-least : (bytes : List ℕ) → 7 ≤ lengthSaid bytes
+unfolding lengthSaid
+said-least bytes = omega arith
 
--- the first n bytes were written
-pub first-kept : (n : ℕ) (before part : List ℕ) → length part ≡ n → Kept n before (part ++ drop n before)
-first-kept n before part e = drop-at part (drop n before) n e
+pub whole-long : (bytes : List ℕ) → isWhole bytes ≡ true → lengthSaid bytes ≤ length bytes
+unfolding isWhole
+whole-long bytes t = leb-true (lengthSaid bytes) (length bytes) t
 
--- Passing over bytes
+-- more than a packet's bytes is enough to count packets by
+shorter : (n : ℕ) (bytes : List ℕ) → length bytes ≤ suc n → length (drop (lengthSaid bytes) bytes) ≤ n
+shorter n bytes h = let l = said-least bytes in simp length-drop (omega arith)
 
-pub passed-whole : (left n : ℕ) (before after : List ℕ) → length before ≤ left → length after ≡ length before → n ≤ length after
-    → PassedOver left (left - n) before after
-passed-whole left n before after h e k =
-    let a : length after ≤ left = omega arith in
-    record { most = omega arith; least = omega arith; kept = drop-of-length-le after a ∙ sym (drop-of-length-le before h) }
+never-whole : {P : Type 0} (bytes : List ℕ) → length bytes ≤ 0 → isWhole bytes ≡ true → P
+never-whole bytes h t = absurd (omega (arith, said-least bytes, whole-long bytes t))
 
-pub passed-part : (left n : ℕ) (before part : List ℕ) → left ≤ length before → length part ≡ length (take left before) → n ≤ length part
-    → PassedOver left (left - n) before (part ++ drop left before)
-passed-part left n before part h e k =
-    let l : length part ≡ left = e ∙ length-take-le left before h in
-    record { most = omega arith; least = omega arith; kept = first-kept left before part l }
+upto-same : (n m : ℕ) (bytes : List ℕ) → length bytes ≤ n → length bytes ≤ m → packetsUpto n bytes ≡ packetsUpto m bytes
+unfolding packetsUpto
+upto-same zero zero bytes h k = refl
+upto-same zero (suc m) bytes h k = cond-cases (λ (ps : List (List ℕ)). [] ≡ ps) (isWhole bytes) (never-whole bytes h) (λ f. refl)
+upto-same (suc n) zero bytes h k = cond-cases (λ (ps : List (List ℕ)). ps ≡ []) (isWhole bytes) (never-whole bytes k) (λ f. refl)
+upto-same (suc n) (suc m) bytes h k =
+    ap (λ (ps : List (List ℕ)). cond (isWhole bytes) (take (lengthSaid bytes) bytes ∷ ps) [])
+    (upto-same n m (drop (lengthSaid bytes) bytes) (shorter n bytes h) (shorter m bytes k))
 
--- after so many pieces
-pub record SkippedSo (said pieces left : ℕ) (before after : List ℕ) : Type 0 where
-  pub few : pieces ≤ 8
-  pub size : length after ≡ length before
-  pub most : left ≤ said - 6
-  pub least : said - 6 ≤ left + pieces * length before
-  pub kept : Kept (said - 6) before after
+left-same : (n m : ℕ) (bytes : List ℕ) → length bytes ≤ n → length bytes ≤ m → leftUpto n bytes ≡ leftUpto m bytes
+unfolding leftUpto
+left-same zero zero bytes h k = refl
+left-same zero (suc m) bytes h k = cond-cases (λ (l : List ℕ). bytes ≡ l) (isWhole bytes) (never-whole bytes h) (λ f. refl)
+left-same (suc n) zero bytes h k = cond-cases (λ (l : List ℕ). l ≡ bytes) (isWhole bytes) (never-whole bytes k) (λ f. refl)
+left-same (suc n) (suc m) bytes h k =
+    ap (λ (l : List ℕ). cond (isWhole bytes) l bytes) (left-same n m (drop (lengthSaid bytes) bytes) (shorter n bytes h) (shorter m bytes k))
 
-pub skip-none : {said left : ℕ} {packet : List ℕ} → left ≡ said - 6 → SkippedSo said 0 left packet packet
-skip-none e = record { few = omega arith; size = refl; most = omega arith; least = omega arith; kept = refl }
+-- the first packet, and those behind it
+packets-by : (bytes : List ℕ) → packetsIn bytes
+    ≡ cond (isWhole bytes) (take (lengthSaid bytes) bytes ∷ packetsIn (drop (lengthSaid bytes) bytes)) []
+unfolding packetsIn packetsUpto
+packets-by bytes =
+    upto-same (length bytes) (suc (length bytes)) bytes (omega arith) (omega arith)
+    ∙ ap (λ (ps : List (List ℕ)). cond (isWhole bytes) (take (lengthSaid bytes) bytes ∷ ps) [])
+    (upto-same (length bytes) (length (drop (lengthSaid bytes) bytes)) (drop (lengthSaid bytes) bytes)
+    (shorter (length bytes) bytes (omega arith)) (omega arith))
 
-more-read : (a l l′ p s q : ℕ) → a ≤ l + p → l ≤ l′ + s → q ≡ p + s → a ≤ l′ + q
-more-read a l l′ p s q h k e = omega arith
+left-by : (bytes : List ℕ) → leftIn bytes ≡ cond (isWhole bytes) (leftIn (drop (lengthSaid bytes) bytes)) bytes
+unfolding leftIn leftUpto
+left-by bytes =
+    left-same (length bytes) (suc (length bytes)) bytes (omega arith) (omega arith)
+    ∙ ap (λ (l : List ℕ). cond (isWhole bytes) l bytes)
+    (left-same (length bytes) (length (drop (lengthSaid bytes) bytes)) (drop (lengthSaid bytes) bytes)
+    (shorter (length bytes) bytes (omega arith)) (omega arith))
 
-pub skip-more : {said pieces left left′ : ℕ} {before mid after : List ℕ} → SkippedSo said pieces left before mid → pieces < 8
-    → PassedOver left left′ mid after → length after ≡ length mid → SkippedSo said (pieces + 1) left′ before after
-skip-more {said} {pieces} {left} {left′} {before} {mid} {after} s h p e =
-    let size : length mid ≡ length before = s .size in
-    let next : (pieces + 1) * length before ≡ pieces * length before + length before =
-    ap (λ (k : ℕ). k * length before) (add-one pieces) ∙ suc-mul pieces (length before)
-    in
-    let least : left ≤ left′ + length before = omega (arith, p .least) in
-    record {
-      few = omega arith;
-      size = e ∙ size;
-      most = omega (arith, s .most, p .most);
-      least = more-read (said - 6) left left′ (pieces * length before) (length before) ((pieces + 1) * length before) (s .least) least next;
-      kept = later left (said - 6) mid after (s .most) (p .kept) ∙ s .kept;
-    }
+module _ (bytes : List ℕ) where
+  pub packets-whole : isWhole bytes ≡ true → packetsIn bytes ≡ take (lengthSaid bytes) bytes ∷ packetsIn (drop (lengthSaid bytes) bytes)
+  packets-whole t = packets-by bytes ∙ rw t
 
-pub skip-end : {said pieces left : ℕ} {before after : List ℕ} → SkippedSo said pieces left before after → 8 ≤ pieces → Skipped said left before after
-skip-end {said} {pieces} {left} {before} {after} s h =
-    let e : pieces ≡ 8 = omega (arith, s .few) in
-    let l : said - 6 ≤ left + 8 * length before = rw e at (s .least) in
-    record { most = s .most; least = l; kept = s .kept }
+  pub packets-none : isWhole bytes ≡ false → packetsIn bytes ≡ []
+  packets-none f = packets-by bytes ∙ rw f
 
--- The next packet
+  pub left-whole : isWhole bytes ≡ true → leftIn bytes ≡ leftIn (drop (lengthSaid bytes) bytes)
+  left-whole t = left-by bytes ∙ rw t
 
-module _ (p : List ℕ) (h : 6 ≤ length p) where
-  six : (more : List ℕ) (i : ℕ) → i < 6 → getD (take 6 p ++ more) i 0 ≡ getD p i 0
-  six more i l =
-      let s : i < length (take 6 p) = simp length-take (omega arith) in
-      List·getD-append (take 6 p) more 0 i s ∙ getD-take 6 p i 0 l
+  pub left-none : isWhole bytes ≡ false → leftIn bytes ≡ bytes
+  left-none f = left-by bytes ∙ rw f
 
-  -- what is put after byte 5 leaves the length field
-  said-kept : (k : ℕ) (ys : List ℕ) → lengthSaid (putMid 6 k p ys) ≡ lengthSaid p
-  said-kept k ys = rw (six _ 4 (omega arith), six _ 5 (omega arith))
+-- Bytes that come in pieces
 
--- the first six bytes are read
-module _ (before first : List ℕ) (wide : 8192 ≤ length before) (read : length first ≡ length (take 6 before)) where
-  six-long : length first ≡ 6
-  six-long = read ∙ length-take-le 6 before (omega arith)
+module _ (xs ys : List ℕ) (t : isWhole xs ≡ true) where
+  said-more : lengthSaid (xs ++ ys) ≡ lengthSaid xs
+  unfolding lengthSaid
+  said-more =
+      let n = whole-long xs t in
+      rw (List·getD-append xs ys 0 4 (omega (arith, said-least xs)), List·getD-append xs ys 0 5 (omega (arith, said-least xs)))
 
-  kept-six : Kept 6 before (first ++ drop 6 before)
-  kept-six = first-kept 6 before first six-long
+  whole-more : isWhole (xs ++ ys) ≡ true
+  unfolding isWhole
+  whole-more = rw said-more (simp length-append (le-leb (lengthSaid xs) (length xs + length ys) (omega (arith, whole-long xs t))))
 
-  pub framed-first : (r : Next) (count : ℕ) → Stopped r count → Framed r before (first ++ drop 6 before)
-  framed-first End count h = kept-six
-  framed-first Cut count h = later 6 8192 before (first ++ drop 6 before) (omega arith) kept-six
-  framed-first (Broken e) count h = later 6 8192 before (first ++ drop 6 before) (omega arith) kept-six
+  more-packets : packetsIn (xs ++ ys) ≡ take (lengthSaid xs) xs ∷ packetsIn (drop (lengthSaid xs) xs ++ ys)
+  more-packets =
+      packets-whole (xs ++ ys) whole-more
+      ∙ rw (said-more, take-append-le (lengthSaid xs) xs ys (whole-long xs t), drop-append-le (lengthSaid xs) xs ys (whole-long xs t))
 
-  pub framed-long : (n : ℕ) → n ≡ lengthSaid (first ++ drop 6 before) → 8192 < n → Framed (TooLong n) before (first ++ drop 6 before)
-  framed-long n e h = (e, h, kept-six)
+  more-left : leftIn (xs ++ ys) ≡ leftIn (drop (lengthSaid xs) xs ++ ys)
+  more-left = left-whole (xs ++ ys) whole-more ∙ rw (said-more, drop-append-le (lengthSaid xs) xs ys (whole-long xs t))
 
-  -- and then those that follow
-  module _ (n : ℕ) (e : n ≡ lengthSaid (first ++ drop 6 before)) (few : n ≤ 8192) (rest : List ℕ) where
-    long : length (first ++ drop 6 before) ≡ length before
-    long = simp (length-append, length-drop) (omega (arith, six-long))
+-- what is left over of the first bytes stands in front of the next: no packet is lost or cut where they meet
+Meets : (xs ys : List ℕ) → Type 0
+Meets xs ys = (packetsIn (xs ++ ys) ≡ packetsIn xs ++ packetsIn (leftIn xs ++ ys)) × (leftIn (xs ++ ys) ≡ leftIn (leftIn xs ++ ys))
 
-    kept-rest : length rest ≡ length (midOf 6 (n - 6) (first ++ drop 6 before)) → Kept n before (putMid 6 (n - 6) (first ++ drop 6 before) rest)
-    kept-rest r =
-        let least : 6 ≤ n = omega arith in
-        let size : n ≤ length (first ++ drop 6 before) = omega (arith, long) in
-        drop-put 6 n (first ++ drop 6 before) rest least size (r ∙ mid-len 6 n (first ++ drop 6 before) size)
-        ∙ later 6 n before (first ++ drop 6 before) least kept-six
+meets-none : (xs ys : List ℕ) → isWhole xs ≡ false → Meets xs ys
+unfolding Meets
+meets-none xs ys f = (rw (packets-none xs f, left-none xs f), rw (left-none xs f))
 
-    pub framed-later : length rest ≡ length (midOf 6 (n - 6) (first ++ drop 6 before)) → (r : Next) (count : ℕ) → 6 ≤ count → Stopped r count
-        → Framed r before (putMid 6 (n - 6) (first ++ drop 6 before) rest)
-    framed-later k End count s h = absurd (omega arith)
-    framed-later k Cut count s h = later n 8192 before (putMid 6 (n - 6) (first ++ drop 6 before) rest) few (kept-rest k)
-    framed-later k (Broken x) count s h = later n 8192 before (putMid 6 (n - 6) (first ++ drop 6 before) rest) few (kept-rest k)
+meets-whole : (xs ys : List ℕ) → isWhole xs ≡ true → Meets (drop (lengthSaid xs) xs) ys → Meets xs ys
+unfolding Meets
+meets-whole xs ys t m = (
+  rw (more-packets xs ys t, packets-whole xs t, left-whole xs t) (ap (λ (ps : List (List ℕ)). take (lengthSaid xs) xs ∷ ps) (m .0)),
+  rw (more-left xs ys t, left-whole xs t) (m .1),
+)
 
-    pub framed-packet : length rest ≡ length (midOf 6 (n - 6) (first ++ drop 6 before))
-        → Framed (Packet n) before (putMid 6 (n - 6) (first ++ drop 6 before) rest)
-    framed-packet k = (e ∙ sym (said-kept (first ++ drop 6 before) (omega (arith, long)) (n - 6) rest), few, kept-rest k)
+meets : (n : ℕ) (xs ys : List ℕ) → length xs ≤ n → Meets xs ys
+meets zero xs ys h = bool-cases (isWhole xs) (never-whole xs h) (meets-none xs ys)
+meets (suc n) xs ys h =
+    bool-cases (isWhole xs) (λ t. meets-whole xs ys t (meets n (drop (lengthSaid xs) xs) ys (shorter n xs h))) (meets-none xs ys)
+
+module _ (xs ys : List ℕ) where
+  pub packets-append : packetsIn (xs ++ ys) ≡ packetsIn xs ++ packetsIn (leftIn xs ++ ys)
+  unfolding Meets
+  packets-append = meets (length xs) xs ys (omega arith) .0
+
+  pub left-append : leftIn (xs ++ ys) ≡ leftIn (leftIn xs ++ ys)
+  unfolding Meets
+  left-append = meets (length xs) xs ys (omega arith) .1

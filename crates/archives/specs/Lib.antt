@@ -1,1 +1,3 @@
 pub mod Packets
+pub mod Framing
+pub mod Blocks

@@ -1,39 +1,16 @@
-// An archive of packets end to end, each as long as its length field says, read one by one from a file of any length.
-use files::source::short;
+// An archive of packets end to end: where each ends in bytes, and a file of any length read in blocks.
 ghost use mathlib.Core.Path.{_≡_};
-ghost use Prim.Native.Nat.{_-_, _≤_};
-ghost use lib.ListN.{length};
-ghost use Rattle.archives.specs.Packets.{Framed, PassedOver, Skipped, Stopped, lengthSaid};
+ghost use Prim.Native.Nat.{_-_, min, _≤_};
+ghost use Rattle.archives.specs.Blocks.{Moved, Refilled};
+ghost use Rattle.archives.specs.Framing.{framedAt};
 
-// A packet has at most so many bytes.
-pub const MOST_PACKET: usize = 8192;
+// A block has room for the longest packet that a length field can tell of, which is 65,542 bytes.
+pub const BLOCK: usize = 131072;
 
-// The longest packet that a length field can tell of has so many pieces of 8,192 bytes after its first six.
-const PIECES: usize = 8;
-
-// How long the packet at the start of the buffer is; of one that is too long only its first six bytes were read.
-// Or the archive ends here, or within a packet; or the number of the system's error; or the buffer is under 8,192 bytes.
-pub enum Next {
-    Packet(usize),
-    TooLong(usize),
-    End,
+// Where a packet ends, or that it is not there to its end.
+pub enum Framed {
+    Whole(usize),
     Cut,
-    Broken(i32),
-    NoRoom,
-}
-
-// A read that came back short, after so many bytes of a packet.
-fn stopped(fd: i32, count: usize) -> Next
-    ensures { λ r. ⌜ Stopped r count ⌝ }
-{
-    let error = short(fd);
-    if error != 0 {
-        return Next::Broken(error);
-    }
-    if count == 0 {
-        return Next::End;
-    }
-    Next::Cut
 }
 
 fn wide(byte: u8) -> usize
@@ -42,63 +19,56 @@ fn wide(byte: u8) -> usize
     byte as usize
 }
 
-fn length_said(packet: &[u8]) -> usize
-    requires { ⌜ 6 ≤ length (now packet) ⌝ }
-    ensures { λ r. ⌜ r ≡ lengthSaid (now (packet .entry)) ⌝ }
-    ensures { λ r. ⌜ r ≤ 65542 ⌝ }
+// The packet that starts at this place.
+pub fn packet_at(bytes: &[u8], at: usize) -> Framed
+    ensures { λ r. ⌜ r ≡ framedAt (now (bytes .entry)) at ⌝ }
 {
-    wide(packet[4]) * 256 + wide(packet[5]) + 7
+    if bytes.len() <= at {
+        return Framed::Cut;
+    }
+    let room = bytes.len() - at;
+    if room < 7 {
+        return Framed::Cut;
+    }
+    let length = wide(bytes[at + 4]) * 256 + wide(bytes[at + 5]) + 7;
+    if room < length {
+        return Framed::Cut;
+    }
+    Framed::Whole(at + length)
 }
 
-pub fn next_packet(fd: i32, packet: &mut [u8]) -> Next
-    ensures { λ r. ⌜ Framed r (now (packet .entry)) (now (packet .exit)) ⌝ }
+// How many bytes of so many there are from one place to before another.
+fn count_between(length: usize, from: usize, to: usize) -> usize
+    ensures { λ r. ⌜ r ≡ min to length - from ⌝ }
 {
-    if packet.len() < MOST_PACKET {
-        return Next::NoRoom;
+    if length < to {
+        if length < from {
+            return 0;
+        }
+        return length - from;
     }
-    let head = io::read_full(fd, &mut packet[..6]);
-    if head < 6 {
-        return stopped(fd, head);
-    }
-    let length = length_said(packet);
-    if MOST_PACKET < length {
-        return Next::TooLong(length);
-    }
-    let rest = io::read_full(fd, &mut packet[6..length]);
-    if rest < length - 6 {
-        return stopped(fd, head);
-    }
-    Next::Packet(length)
-}
-
-// Reads over some of the bytes that are left, and answers how many then are.
-fn skip_some(fd: i32, left: usize, packet: &mut [u8]) -> usize
-    ensures { λ r. ⌜ PassedOver left r (now (packet .entry)) (now (packet .exit)) ⌝ }
-{
-    if packet.len() <= left {
-        return left - io::read_full(fd, packet);
-    }
-    left - io::read_full(fd, &mut packet[..left])
-}
-
-// How many bytes a packet has after its first six.
-fn beyond_six(length: usize) -> usize
-    ensures { λ r. ⌜ r ≡ length - 6 ⌝ }
-{
-    if length < 6 {
+    if to < from {
         return 0;
     }
-    length - 6
+    to - from
 }
 
-// Passes over the rest of a packet of which six bytes were read: at most 65,536 bytes, by pieces of at most 8,192.
-// Answers how many of its bytes were not there.
-pub fn skip(fd: i32, length: usize, packet: &mut [u8]) -> usize
-    ensures { λ r. ⌜ Skipped length r (now (packet .entry)) (now (packet .exit)) ⌝ }
+// Moves the bytes from one place to before another to the start of the block, and answers how many they are.
+fn move_rest(block: &mut [u8], from: usize, to: usize) -> usize
+    ensures { λ r. ⌜ Moved from to r (now (block .entry)) (now (block .exit)) ⌝ }
 {
-    let mut left = beyond_six(length);
-    for _ in 0..PIECES {
-        left = skip_some(fd, left, packet);
+    let count = count_between(block.len(), from, to);
+    for i in 0..count {
+        block[i] = block[from + i];
     }
-    left
+    count
+}
+
+// Keeps these bytes at the start of the block and reads on behind them; answers how many bytes then stand there.
+pub fn refill(fd: i32, block: &mut [u8], from: usize, to: usize) -> usize
+    ensures { λ r. ⌜ Refilled from to r (now (block .entry)) (now (block .exit)) ⌝ }
+{
+    let kept = move_rest(block, from, to);
+    let read = io::read_full(fd, &mut block[kept..]);
+    kept + read
 }

@@ -1,87 +1,31 @@
-// The lines of a replay.
-use accepting::step::Answer;
-use accepting::step::Stepped;
-use files::errors::say_error;
-use limit_state::state::LimitState;
-use outcomes::Refusal;
-use outcomes::number_of;
-use outcomes::place_of;
-use words::refusals::say_refused;
-use words::say::number;
-use words::say::words;
+// What is said at the end of a file.
+use replaying::Standing;
+use showing::say::say_empty;
+use showing::say::say_last;
+use showing::say::say_left;
+use showing::say::say_unread;
+use showing::stretches::close;
 
-// The start of a packet's line: "17: count 16383: "
-pub(crate) fn say_packet(packet: usize, count: u64) {
-    number(packet);
-    words(b": count ");
-    number(count as usize);
-    words(b": ");
-}
-
-fn say_announced(announced: u8) {
-    match announced {
-        0 => words(b"within"),
-        1 => words(b"soft"),
-        _ => words(b"hard"),
-    }
-}
-
-// "run 2, announced soft"
-fn say_state(state: LimitState) {
-    words(b"run ");
-    number(state.run as usize);
-    words(b", announced ");
-    say_announced(state.announced);
-    words(b"\n");
-}
-
-fn say_refusal(refusal: Refusal) {
-    say_refused(number_of(refusal) as usize, place_of(refusal));
-}
-
-// The rest of a packet's line.
-pub(crate) fn say_stepped(stepped: Stepped) {
-    let answer = stepped.answer;
-    match answer {
-        Answer::Taken => say_state(stepped.state),
-        Answer::Refused(refusal) => say_refusal(refusal),
-    }
-}
-
-pub(crate) fn say_cut(k: usize) {
-    number(k);
-    words(b": the file ends within this packet\n");
-}
-
-pub(crate) fn say_end(k: usize) {
-    if k == 1 {
-        words(b"the file is empty\n");
-    }
-}
-
-pub(crate) fn say_broken(error: i32) {
-    words(b"the file was not read on: ");
-    say_error(error);
-    words(b"\n");
-}
-
-pub(crate) fn say_unopened(file: &[u8], error: i32) {
-    words(file);
-    words(b": ");
-    say_error(error);
-    words(b"\n");
-}
-
-pub(crate) fn say_last(state: LimitState) {
-    words(b"at the end: ");
-    if state.fresh {
-        words(b"fresh, since no packet was taken\n");
+// That it was not read on, that it is empty, or that it ends within a packet.
+fn say_rest(file: &[u8], packets: usize, from: usize, to: usize, error: i32) {
+    if error != 0 {
+        say_unread(file, error);
         return;
     }
-    words(b"APID ");
-    number(state.apid as usize);
-    words(b", count ");
-    number(state.count as usize);
-    words(b", ");
-    say_state(state);
+    if from < to {
+        say_left(packets, to - from);
+        return;
+    }
+    if packets == 0 {
+        say_empty(file);
+    }
+}
+
+pub(crate) fn say_end(file: &[u8], standing: Standing, error: i32) {
+    let replay = standing.replay;
+    let stretch = replay.stretch;
+    let state = replay.state;
+    close(stretch);
+    say_rest(file, replay.packets, standing.from, standing.to, error);
+    say_last(replay.packets, state);
 }

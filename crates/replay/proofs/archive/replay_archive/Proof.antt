@@ -1,5 +1,5 @@
--- No packet is taken of a file that can't be opened.
-use Rattle.replay.proofs.TurnLaws.{played-none}
+-- Nothing is read of a file that can't be opened.
+use Rattle.replaying.proofs.ReplayLaws.{replayed-start}
 use borrow.Author.Needs.{needs}
 use Rattle.replay.proofs.archive.replay_archive.Statement.{statement}
 use Rattle.replay.proofs.archive.replay_archive.Tie as tie
@@ -10,26 +10,29 @@ open-read-requires c κs = search needs
 errno-requires : tie.Need-errno-requires
 errno-requires c κs = search needs
 
-say-unopened-requires : tie.Need-say-unopened-requires
-say-unopened-requires c κs = search needs
+say-unread-requires : tie.Need-say-unread-requires
+say-unread-requires c κs = search needs
 
-fresh-state-requires : tie.Need-fresh-state-requires
-fresh-state-requires c κs = search needs
+at-start-requires : tie.Need-at-start-requires
+at-start-requires c κs = search needs
 
 returns : tie.Need-returns
-returns c = played-none _ _ (c .fresh-state .ensures)
+returns c = replayed-start _ _ (c .at-start .ensures)
 
-take-turns-requires : tie.Need-take-turns-requires
-take-turns-requires c κs = search needs
+take-blocks-requires : tie.Need-take-blocks-requires
+take-blocks-requires c κs = search needs
 
-say-last-requires : tie.Need-say-last-requires
-say-last-requires c κs = search needs
+short-requires : tie.Need-short-requires
+short-requires c κs = search needs
+
+say-end-requires : tie.Need-say-end-requires
+say-end-requires c κs = search needs
 
 close-requires : tie.Need-close-requires
 close-requires c κs = search needs
 
 returns-2 : tie.Need-returns-2
-returns-2 c = c .before .before .take-turns .ensures
+returns-2 c = c .before .before .before .take-blocks .ensures
 
 pub replay-archive-spec : {M : Type 1} → statement M
 replay-archive-spec =
@@ -37,10 +40,11 @@ replay-archive-spec =
     (tie.spec
     open-read-requires
     errno-requires
-    say-unopened-requires
-    fresh-state-requires
+    say-unread-requires
+    at-start-requires
     returns
-    take-turns-requires
-    say-last-requires
+    take-blocks-requires
+    short-requires
+    say-end-requires
     close-requires
     returns-2)

@@ -1,5 +1,6 @@
 -- A loaded database answers what the tables do.
-use Rattle.replay.proofs.TurnLaws.{played-none, played-loaded}
+use Rattle.replaying.proofs.ReplayLaws.{replayed-start}
+use Rattle.replay.proofs.LoadLaws.{replayed-loaded}
 use borrow.Author.Needs.{needs}
 use Rattle.replay.proofs.loaded.replay_tables.Statement.{statement}
 use Rattle.replay.proofs.loaded.replay_tables.Tie as tie
@@ -52,16 +53,16 @@ refuse-requires-3 c κs = search needs
 returns : tie.Need-returns
 returns c =
     let told = c .before .before .before .before in
-    played-loaded _ _ _ (told .before .before .before .before .before .load .ensures) (told .enum-told .given .1) (c .replay-archive .ensures)
+    replayed-loaded _ _ _ (told .before .before .before .before .before .load .ensures) (told .enum-told .given .1) (c .replay-archive .ensures)
 
 returns-2 : tie.Need-returns-2
-returns-2 c = played-none _ _ (c .refuse .ensures)
+returns-2 c = replayed-start _ _ (c .refuse .ensures)
 
 returns-3 : tie.Need-returns-3
-returns-3 c = played-none _ _ (c .refuse2 .ensures)
+returns-3 c = replayed-start _ _ (c .refuse2 .ensures)
 
 returns-4 : tie.Need-returns-4
-returns-4 c = played-none _ _ (c .refuse3 .ensures)
+returns-4 c = replayed-start _ _ (c .refuse3 .ensures)
 
 pub replay-tables-spec : {M : Type 1} → statement M
 replay-tables-spec =
