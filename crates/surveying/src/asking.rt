@@ -1,0 +1,115 @@
+// What a question tells of a packet.
+use calls::engineer::engineer_in;
+use calls::extract::extract_in;
+use curves::ints::size;
+use engineering::engineer::Engineered;
+use identification::Identified;
+use identification::identify_in;
+use outcomes::Refusal;
+use outcomes::Value;
+use outcomes::number_of;
+use readings::Reading;
+use tables::TABLES;
+ghost use mathlib.Core.Path.{_≡_};
+ghost use mathlib.Core.List.{map};
+ghost use Rattle.outcomes.specs.Refusals.{numberOf};
+ghost use Rattle.outcomes.specs.Values.{valueOf};
+ghost use Rattle.database.specs.Arrays.{database, answers};
+ghost use Rattle.identification.specs.Identification.{saidIdentified};
+ghost use Rattle.readings.specs.Readings.{saidReading};
+ghost use Rattle.engineering.specs.Engineering.{saidEngineered};
+ghost use Rattle.surveying.specs.Told.{toldBy, weightOf, tellIdentity, tellReading, tellEngineered, told};
+
+pub enum Question {
+    Identify,
+    Extract,
+    Engineer,
+}
+
+// The number of its refusal, 0 where it is answered, and what the answer weighs.
+pub struct Told {
+    pub refusal: u8,
+    pub weight: u64,
+}
+
+fn refused(refusal: Refusal) -> Told
+    ensures { λ r. ⌜ r ≡ toldBy (numberOf refusal) 0 ⌝ }
+{
+    Told {
+        refusal: number_of(refusal),
+        weight: 0,
+    }
+}
+
+fn weigh(value: Value) -> u64
+    ensures { λ r. ⌜ r ≡ weightOf (valueOf value) ⌝ }
+{
+    match value {
+        Value::Number(v) => size(v),
+        Value::Part(from, _) => from.0 as u64,
+    }
+}
+
+fn answered(weight: u64) -> Told
+    ensures { λ r. ⌜ r ≡ toldBy 0 weight ⌝ }
+{
+    Told { refusal: 0, weight }
+}
+
+fn tell_identity(identified: Identified) -> Told
+    ensures { λ r. ⌜ r ≡ tellIdentity (saidIdentified identified) ⌝ }
+{
+    match identified {
+        Identified::Is(_, spid, _) => answered(spid.0 as u64),
+        Identified::Refused(refusal) => refused(refusal),
+    }
+}
+
+fn tell_reading(reading: Reading) -> Told
+    ensures { λ r. ⌜ r ≡ tellReading (saidReading reading) ⌝ }
+{
+    match reading {
+        Reading::Is(value, valid) => {
+            if valid {
+                answered(weigh(value))
+            } else {
+                answered(0)
+            }
+        }
+        Reading::Refused(refusal) => refused(refusal),
+    }
+}
+
+fn tell_engineered(engineered: Engineered) -> Told
+    ensures { λ r. ⌜ r ≡ tellEngineered (saidEngineered engineered) ⌝ }
+{
+    match engineered {
+        Engineered::Is(value) => answered(weigh(value)),
+        Engineered::Text(_, from, _) => answered(from.0 as u64),
+        Engineered::Refused(refusal) => refused(refusal),
+    }
+}
+
+// Of a parameter its occurrence 0 is asked for.
+pub fn ask(
+    tables: [&[u8]; TABLES],
+    words: &[u64],
+    links: &[u16],
+    columns: &[u16],
+    name: &[u8],
+    question: Question,
+    packet: &[u8],
+) -> Told
+    ensures { λ r. ⌜ r ≡ told (answers (database (map now (tables .entry)) (now (words .entry)) (now (links .entry)) (now (columns .entry))))
+        (now (name .entry)) question (now (packet .entry)) ⌝ }
+{
+    match question {
+        Question::Identify => tell_identity(identify_in(tables, words, links, columns, packet)),
+        Question::Extract => {
+            tell_reading(extract_in(tables, words, links, columns, packet, name, 0))
+        }
+        Question::Engineer => {
+            tell_engineered(engineer_in(tables, words, links, columns, packet, name, 0))
+        }
+    }
+}
