@@ -1,10 +1,10 @@
 // What is said of a packet.
+use accepting::step::Answer;
+use accepting::step::Stepped;
 use fields::field::Unsigned;
 use fields::field::read_unsigned;
 use outcomes::number_of;
 use outcomes::place_of;
-use accepting::step::Answer;
-use accepting::step::Stepped;
 use units::BitOffset;
 ghost use mathlib.Core.Path.{_≡_};
 ghost use Rattle.showing.specs.Count.{countIn};

@@ -1,10 +1,8 @@
-//! The proved library and the reference side by side: least and median times of each question.
+//! The proved library and the reference side by side: least and median times of each question, the tables judged in
+//! each. `archive` has the times over tables that are loaded once.
 
 use std::hint::black_box;
-use std::path::Path;
-use std::process::{self, Command, Stdio};
 use std::time::{Duration, Instant};
-use std::{env, fs};
 
 use harness::answers::{answer, Answer, Places};
 use harness::generate::borrowed;
@@ -15,7 +13,6 @@ use harness::reference::limits::{limit_step, State};
 use harness::reference::packets::{extract, identify};
 use harness::reference::values::engineer;
 use harness::reference::{import, judged, Judged, Tables};
-use harness::tally::TABLE_NAMES;
 
 const SHAPES: [(&str, Shape, usize); 3] = [
     ("typical, VALID chains of 4", Shape { rows: 100, chain: 4 }, 2_000),
@@ -77,50 +74,12 @@ fn measure_all(tables: &Tables, shape: Shape, rounds: usize) {
     let by_reference = |judged: &Judged| answer(&limit_step(judged, packet, name, fresh), NO_PLACES);
     let by_library = || proved::limit_step(tables, packet, name, fresh.numbers(), NO_PLACES);
     measure_packet("limit step", rounds, tables, &once, by_library, by_reference);
-    measure_judged_step(tables, packet, &parameter);
 }
 
 fn measure_import(tables: &Tables, rounds: usize) {
     let mut cells = vec![0u16; CELLS];
     let by_library = || proved::import(tables, &mut cells, NO_PLACES);
     measure("import", rounds, by_library, || answer(&import(tables, CELLS), NO_PLACES), None);
-}
-
-/// A step over judged tables: `replay` judges once, so what it takes longer for more packets is what their steps cost, with
-/// reading the file and printing the lines.
-fn measure_judged_step(tables: &Tables, packet: &[u8], name: &str) {
-    let program = Path::new(env!("CARGO_MANIFEST_DIR")).join("../target/bin/replay");
-    if !program.exists() {
-        println!("step, judged: not measured, since `rt check replay` has made no target/bin/replay");
-        return;
-    }
-    let folder = env::temp_dir().join(format!("petrolyaz-bench-{}", process::id()));
-    fs::create_dir_all(&folder).expect("a folder for the tables");
-    for (name, table) in TABLE_NAMES.iter().zip(tables) {
-        fs::write(folder.join(format!("{name}.dat")), table).expect("the table is written");
-    }
-    let run = |packets: u16| {
-        fs::write(folder.join("packets.bin"), archive(packet, packets)).expect("the packets are written");
-        let mut replay = Command::new(&program);
-        replay.arg(&folder).arg(name).arg(folder.join("packets.bin")).stdout(Stdio::null());
-        timed(&mut || replay.status().expect("replay runs"))
-    };
-    let longer = (0..9).map(|_| run(FEW + MORE).saturating_sub(run(FEW)) / MORE as u32).collect();
-    println!("step, judged{} (by replay, reading and printing among it)", Times::of(longer));
-    fs::remove_dir_all(&folder).expect("the folder is removed");
-}
-
-const FEW: u16 = 50;
-const MORE: u16 = 200;
-
-/// The packet again and again, each with the next sequence count.
-fn archive(packet: &[u8], packets: u16) -> Vec<u8> {
-    let numbered = |count: u16| {
-        let mut packet = packet.to_vec();
-        packet[2..4].copy_from_slice(&(0xC000 | count).to_be_bytes());
-        packet
-    };
-    (0..packets).flat_map(numbered).collect()
 }
 
 /// A packet question: the reference judges the tables in it, and once apart from it.
