@@ -1,9 +1,9 @@
 -- The places of identification, of readings and of engineering values are small, by rows that are in their ranges.
 use mathlib.Core.Path.{_≡_, refl, ap, subst}
-use mathlib.Core.Bool.{Bool}
+use mathlib.Core.Bool.{Bool, not, _&&_, _||_}
 use mathlib.Core.List.{List}
 use mathlib.Core.Option.{Option, none, some}
-use Prim.Native.Nat.{ℕ, _^_, _≤_, _<_, _*_, _/_}
+use Prim.Native.Nat.{ℕ, _+_, _^_, _≤_, _<_, _*_, _/_}
 use native.Mathlib.Nat.{mul-le-mul, div-le-self}
 use native.Mathlib.Omega.{arith}
 use lib.Dec.{eqb, ltb}
@@ -27,13 +27,12 @@ use Rattle.rows.specs.declared.records.PlfRow.{PlfRow}
 use Rattle.rows.specs.declared.records.PcfRow.{PcfRow}
 use Rattle.rows.specs.declared.letters.Category.{Category}
 use Rattle.rows.specs.declared.letters.Category.the-variants as category
-use Rattle.headers.specs.Header.{version, typeBit, lengthField, flagged}
+use Rattle.headers.specs.Header.{version, typeBit, lengthField, flagged, headOf}
 use Rattle.verdicts.specs.Key.{location, parameter, identification}
 use Rattle.key_symbols.specs.declared.FiveNumbers.{FiveNumbers}
 use Rattle.outcomes.specs.Outcome.{Outcome, answer, andThen}
 use Rattle.outcomes.specs.Values.{Value}
 use Rattle.database.specs.Rows.{Row, Rows}
-use Rattle.headers.specs.Header.{headOf}
 use Rattle.identifiers.specs.Identifiers.{readIdentifier, identifierAt, identifiersBy}
 use Rattle.five_numbers.specs.Numbers.{typeOf, subtypeOf, orOther, picRowOf, identifiersFrom, fiveNumbers}
 use Rattle.identification.specs.Identification.{chosen, chooseBy, identifyHeaded, identifyBy}
