@@ -5,15 +5,15 @@
  * Tables, packets and names are bytes, each a pointer and a length in bytes. The tables stand in the order
  * pid, pic, plf, pcf, caf, cap, txf, txp, ocf, ocp; an empty table has length 0. They are read only, need no alignment
  * and no end mark, and may overlap each other. No pointer is null, not even where the length is 0.
- * `cells` (2-byte aligned), `state` (5 numbers) and `answer` (8 numbers, both 8-byte aligned) overlap nothing else that
- * is passed: the state of the next step is copied out of the answer of the last.
- * The functions keep nothing between calls, call nothing but memcpy and memset, and may run in several threads at once.
- * Each needs up to 2 MiB of stack.
+ * `cells` (2-byte aligned), `state` (5 numbers) and `answer` (8 numbers, both 8-byte aligned) overlap nothing else
+ * that is passed: the state of the next step is copied out of the answer of the last.
+ * The functions keep nothing between calls, call nothing but memcpy and memset, and may run in several threads at
+ * once. Each needs up to 2 MiB of stack.
  *
  * The result is 0 for an answer, whose values then stand in the first places of `answer`; further places stay as they
- * were. Else it is refused: the number of the refusal * 2^32 + its place, and nothing is written, neither to `answer` nor
- * to `cells`. petrolyaz_number and petrolyaz_place take a result apart. The place is, for 1 and 2, the first such table,
- * 1 to 10; for 24, 28 and 29 the byte of the packet, from 0, in which the first such field starts; else 0.
+ * were. Else it is refused: the number of the refusal * 2^32 + its place, and nothing is written, neither to `answer`
+ * nor to `cells`. petrolyaz_number and petrolyaz_place take a result apart. The place is, for 1 and 2, the first such
+ * table, 1 to 10; for 24, 28 and 29 the byte of the packet, from 0, in which the first such field starts; else 0.
  * The least number decides; a limit step seeks refusals in the order 1, 2, 34, 20 to 25, 33, 26, 36, 35, 28, 30, 31.
  */
 #ifndef PETROLYAZ_H
@@ -26,8 +26,8 @@
 extern "C" {
 #endif
 
-/* Raised with each change of a signature or an answer: a library whose petrolyaz_version() is PETROLYAZ_VERSION is what
- * this header declares. */
+/* Raised with each change of a signature or an answer: a library whose petrolyaz_version() is PETROLYAZ_VERSION is
+ * what this header declares. */
 #define PETROLYAZ_VERSION 1
 
 uint32_t petrolyaz_version(void);
@@ -77,7 +77,7 @@ enum petrolyaz_refusal {
     PETROLYAZ_PACKET_VERSION = 21,       /* version not 0, or the type bit set */
     PETROLYAZ_LENGTH_FIELD = 22,         /* length field plus 7 isn't the packet's length */
     PETROLYAZ_DATA_FIELD = 23,           /* data field header flagged, under 9 bytes */
-    PETROLYAZ_IDENTIFICATION_LEAVES = 24,/* an identification field leaves the packet */
+    PETROLYAZ_IDENTIFICATION_LEAVES = 24, /* an identification field leaves the packet */
     PETROLYAZ_NO_PID_ROW = 25,           /* no good VALID Y pid row */
     PETROLYAZ_NO_PLF_ROW = 26,           /* no good plf row for name and SPID */
     PETROLYAZ_NO_OCCURRENCE = 27,        /* occurrence not below NBOCC */
@@ -127,8 +127,8 @@ enum petrolyaz_announced {
 #define PETROLYAZ_ANSWER int64_t answer[static 8]
 #endif
 
-/* Judges all rows: one cell for each, in table order, reason * 256 + column, 0 where the row is good. Further cells stay
- * as they were. `cells_count` counts cells, not bytes. answer: the number of rows, the number of good rows. */
+/* Judges all rows: one cell for each, in table order, reason * 256 + column, 0 where the row is good. Further cells
+ * stay as they were. `cells_count` counts cells, not bytes. answer: the number of rows, the number of good rows. */
 uint64_t petrolyaz_import(PETROLYAZ_TABLES, uint16_t *cells, size_t cells_count, PETROLYAZ_ANSWER);
 
 /* Which packet it is. answer: the number of the pid row, from 1; SPID; APID; type; subtype; PI1; PI2.

@@ -52,7 +52,8 @@ module _ (p name : List ℕ) (refusal : Refusal) {call : Call} where
   unfolding Answering saidEngineered
   refuse-engineer k e = rw e refl
 
-  pub refuse-step : (s : LimitState) → call ≡ LimitStep s → Answering (refusing refusal) p name call (Stepped (record { answer = step.Refused refusal; state = s }))
+  pub refuse-step : (s : LimitState) → call ≡ LimitStep s
+      → Answering (refusing refusal) p name call (Stepped (record { answer = step.Refused refusal; state = s }))
   unfolding Answering saidStep stateAfter refusedBy
   refuse-step s e = rw e (record { said = refl; after = refl })
 
@@ -71,7 +72,8 @@ module _ (rows : Rows) (p name : List ℕ) {call : Call} where
   unfolding Answering
   answer-engineer k e r h = rw e h
 
-  pub answer-step : (s : LimitState) → call ≡ LimitStep s → (r : stepped.Stepped) → Answers s (stepIn rows p name s) r → Answering (of rows) p name call (Stepped r)
+  pub answer-step : (s : LimitState) → call ≡ LimitStep s → (r : stepped.Stepped) → Answers s (stepIn rows p name s) r
+      → Answering (of rows) p name call (Stepped r)
   unfolding Answering
   answer-step s e r h = rw e h
 
@@ -98,11 +100,13 @@ module _ (first second : Asking) (same : (A : Type 0) (ask : Rows → Outcome A)
 
 -- an answer of the call's own kind
 module _ (ask : Asking) (p name : List ℕ) {a : Answered} where
-  pub says-identity : Answering ask p name Identify a → (r : identity.Identified) → a ≡ Identified r → saidIdentified r ≡ ask Identity (λ rows. identifyBy rows p)
+  pub says-identity : Answering ask p name Identify a → (r : identity.Identified) → a ≡ Identified r
+      → saidIdentified r ≡ ask Identity (λ rows. identifyBy rows p)
   unfolding Answering
   says-identity h r e = subst (Answering ask p name Identify) e h
 
-  pub says-reading : (k : ℕ) → Answering ask p name (Extract k) a → (r : reading.Reading) → a ≡ Read r → saidReading r ≡ ask Reading (λ rows. extractBy rows p name k)
+  pub says-reading : (k : ℕ) → Answering ask p name (Extract k) a → (r : reading.Reading) → a ≡ Read r
+      → saidReading r ≡ ask Reading (λ rows. extractBy rows p name k)
   unfolding Answering
   says-reading k h r e = subst (Answering ask p name (Extract k)) e h
 
@@ -111,7 +115,8 @@ module _ (ask : Asking) (p name : List ℕ) {a : Answered} where
   unfolding Answering
   says-engineered k h r e = subst (Answering ask p name (Engineer k)) e h
 
-  pub says-step : (s : LimitState) → Answering ask p name (LimitStep s) a → (r : stepped.Stepped) → a ≡ Stepped r → Answers s (ask LimitState (λ rows. stepIn rows p name s)) r
+  pub says-step : (s : LimitState) → Answering ask p name (LimitStep s) a → (r : stepped.Stepped) → a ≡ Stepped r
+      → Answers s (ask LimitState (λ rows. stepIn rows p name s)) r
   unfolding Answering
   says-step s h r e = subst (Answering ask p name (LimitStep s)) e h
 

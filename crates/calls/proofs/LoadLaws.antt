@@ -16,7 +16,8 @@ use Rattle.full_loading.specs.declared.FullLoading.the-variants as loading
 use Rattle.calls.specs.Tables.{afterSizes, asking}
 
 module _ (texts : List (List ℕ)) (before after : Lent) {r : FullLoading} (l : FullLoads texts before after r) where
-  pub asked : r ≡ loading.Done → (A : Type 0) (ask : Rows → Outcome A) → ask (answers (database texts (after .words) (after .links) (after .columns))) ≡ asking texts ask
+  pub asked : r ≡ loading.Done → (A : Type 0) (ask : Rows → Outcome A)
+      → ask (answers (database texts (after .words) (after .links) (after .columns))) ≡ asking texts ask
   unfolding FullLoads asking afterSizes
   asked e A ask =
       let k = subst (FullLoads texts before after) e l in

@@ -2,7 +2,6 @@
 use Prim.Native.Nat.{ℕ}
 use mathlib.Core.Path.{_≡_, refl}
 use mathlib.Core.List.{List, []}
-use mathlib.Core.Option.{Option, none, some}
 use Rattle.headers.specs.Header.{headOf}
 use Rattle.verdicts.specs.Answer.{firstTable, tooLong, tooManyRows}
 use Rattle.tables.specs.Sizes.{sizesOf}
@@ -31,15 +30,6 @@ engineerOf texts p name k = asking texts (λ rows. engineerBy rows p name k)
 -- 01: "a limit step checks 34, 20–25, 33, 26, 36, 35, 28, 30, 31"
 unfoldable pub limitStepOf : List (List ℕ) → (p name : List ℕ) → LimitState → Outcome LimitState
 limitStepOf texts p name s = asking texts (λ rows. stepIn rows p name s)
-
--- numbers that are no state, after 1 and 2
-unfoldable pub noState : List (List ℕ) → Outcome LimitState
-noState texts = asking texts (λ rows. refused 34 0)
-
--- a limit step of what was offered as a state, none where its numbers are none
-unfoldable pub limitStepFrom : List (List ℕ) → (p name : List ℕ) → Option LimitState → Outcome LimitState
-limitStepFrom texts p name none = noState texts
-limitStepFrom texts p name (some s) = limitStepOf texts p name s
 
 -- there is no table that is too large, and a packet of no bytes is under 7
 pub example : identifyOf [] [] ≡ refused 20 0

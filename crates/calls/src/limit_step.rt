@@ -1,23 +1,17 @@
 // A parameter's limit state after a packet.
 use crate::ask::ask;
 use accepting::step::Answer;
+use accepting::step::Answer;
+use accepting::step::Stepped;
 use accepting::step::Stepped;
 use answering::Answered;
 use answering::Call;
 use limit_state::state::LimitState;
-use offered::Offered;
-use offered::state_of;
 use outcomes::Refusal;
-use tables::Sizes;
 use tables::TABLES;
-use tables::check_sizes;
-use units::TableNumber;
-ghost use mathlib.Core.Path.{_≡_};
 ghost use mathlib.Core.List.{map};
-ghost use Rattle.outcomes.specs.Refusals.{refusedBy};
-ghost use Rattle.offered.specs.Offered.{offeredState};
-ghost use Rattle.accepting.specs.Answer.{saidStep, Answers};
-ghost use Rattle.calls.specs.Calls.{limitStepOf, noState, limitStepFrom};
+ghost use Rattle.accepting.specs.Answer.{Answers};
+ghost use Rattle.calls.specs.Calls.{limitStepOf};
 
 // An answer of another kind never comes.
 pub fn limit_step(tables: [&[u8]; TABLES], p: &[u8], name: &[u8], state: LimitState) -> Stepped
@@ -28,41 +22,6 @@ pub fn limit_step(tables: [&[u8]; TABLES], p: &[u8], name: &[u8], state: LimitSt
         _ => Stepped {
             answer: Answer::Refused(Refusal::NoPidRow),
             state,
-        },
-    }
-}
-
-fn refuse_state(tables: [&[u8]; TABLES]) -> Refusal
-    ensures { λ r. ⌜ refusedBy r ≡ noState (map now (tables .entry)) ⌝ }
-{
-    match check_sizes(tables) {
-        Sizes::Fit => Refusal::NoState,
-        Sizes::TooLong(table) => Refusal::TableTooLong(TableNumber(table)),
-        Sizes::TooManyRows(table) => Refusal::TooManyRows(TableNumber(table)),
-    }
-}
-
-// The state comes as five numbers; where they are none, the state beside the refusal says nothing.
-pub fn limit_step_from(
-    tables: [&[u8]; TABLES],
-    p: &[u8],
-    name: &[u8],
-    numbers: &[i64; 5],
-) -> Stepped
-    ensures { λ r. ⌜ saidStep (r .answer) (r .state)
-        ≡ limitStepFrom (map now (tables .entry)) (now (p .entry)) (now (name .entry)) (offeredState (now (numbers .entry))) ⌝ }
-{
-    match state_of(numbers) {
-        Offered::State(state) => limit_step(tables, p, name, state),
-        Offered::NoState => Stepped {
-            answer: Answer::Refused(refuse_state(tables)),
-            state: LimitState {
-                fresh: true,
-                apid: 0,
-                count: 0,
-                run: 0,
-                announced: 0,
-            },
         },
     }
 }

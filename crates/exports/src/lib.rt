@@ -7,11 +7,12 @@ use crate::tell::tell_stepped;
 use calls::engineer::engineer;
 use calls::extract::extract;
 use calls::identify::identify;
-use calls::limit_step::limit_step_from;
 use import::import;
+use offered_step::limit_step_from;
 ghost use mathlib.Core.Path.{_≡_};
 ghost use Rattle.offered.specs.Offered.{offeredState};
-ghost use Rattle.calls.specs.Calls.{identifyOf, extractOf, engineerOf, limitStepFrom};
+ghost use Rattle.calls.specs.Calls.{identifyOf, extractOf, engineerOf};
+ghost use Rattle.offered_step.specs.OfferedStep.{limitStepFrom};
 ghost use Rattle.exports.specs.Answers.{ofIdentity, ofReading, ofEngineered, ofState, Told, ImportTold, ten, version};
 
 mod places;

@@ -1,7 +1,6 @@
 -- The place of every refusal of a call with tables is small.
 use mathlib.Core.Path.{_≡_}
 use mathlib.Core.List.{List}
-use mathlib.Core.Option.{Option, none, some}
 use Prim.Native.Nat.{ℕ}
 use lib.Dec.{eqb}
 use lib.ListN.{length}
@@ -13,7 +12,7 @@ use Rattle.verdicts.specs.Answer.{tooLong, tooManyRows}
 use Rattle.verdicts.specs.Key.{parameter}
 use Rattle.verdicts.specs.Entries.{tableCount}
 use Rattle.tables.specs.Sizes.{Sized, sizesOf}
-use Rattle.outcomes.specs.Outcome.{Outcome, refused}
+use Rattle.outcomes.specs.Outcome.{Outcome}
 use Rattle.outcomes.specs.Values.{Value, number, part}
 use Rattle.database.specs.Rows.{Rows}
 use Rattle.database.specs.GoodRows.{ofTables}
@@ -24,9 +23,9 @@ use Rattle.stepping.specs.Step.{stepIn}
 use Rattle.calls.specs.Tables.{afterSizes, asking}
 use Rattle.extraction.specs.Extraction.{extractBy}
 use Rattle.extraction.specs.Engineering.{ofValue, engineerBy}
-use Rattle.calls.specs.Calls.{identifyOf, extractOf, engineerOf, limitStepOf, noState, limitStepFrom}
+use Rattle.calls.specs.Calls.{identifyOf, extractOf, engineerOf, limitStepOf}
 use Rattle.refusal_places.specs.Small.{Small}
-use Rattle.refusal_places.proofs.SmallLaws.{small-answer, no-place, small-place, small-then}
+use Rattle.refusal_places.proofs.SmallLaws.{small-answer, small-place, small-then}
 use Rattle.refusal_places.proofs.RowRanges.{InRanges, tables-in-ranges}
 use Rattle.refusal_places.proofs.PacketPlaces.{identify-small, reading-small, needed-small, engineered-small}
 use Rattle.refusal_places.proofs.StepPlaces.{step-small}
@@ -48,8 +47,8 @@ module _ (rows : Rows) (ranges : InRanges rows) (p name : List ℕ) (k : ℕ) wh
   unfolding engineerBy
   engineer-small = small-then (extractBy rows p name k) _ extract-small (λ r _. value-small rows (nameOf name) (r .value))
 
-module _ (texts : List (List ℕ)) (all : length texts ≡ tableCount) where
-  asking-small : {A : Type 0} (ask : Rows → Outcome A) → ((rows : Rows) → InRanges rows → Small (ask rows)) → Small (asking texts ask)
+module _ (texts : List (List ℕ)) (ten : length texts ≡ 10) where
+  pub asking-small : {A : Type 0} (ask : Rows → Outcome A) → ((rows : Rows) → InRanges rows → Small (ask rows)) → Small (asking texts ask)
   unfolding asking afterSizes sizesOf
   asking-small ask h =
       cond-cases (λ (s : Sized). Small (afterSizes s (ask (ofTables texts)))) (eqb (tooLong texts) 0)
@@ -72,8 +71,3 @@ module _ (texts : List (List ℕ)) (all : length texts ≡ tableCount) where
   pub step-of-small : (p name : List ℕ) (s : LimitState) → Small (limitStepOf texts p name s)
   unfolding limitStepOf
   step-of-small p name s = asking-small (λ rows. stepIn rows p name s) (λ rows ranges. step-small rows ranges p name s)
-
-  pub step-from-small : (p name : List ℕ) (offered : Option LimitState) → Small (limitStepFrom texts p name offered)
-  unfolding limitStepFrom noState
-  step-from-small p name none = asking-small (λ rows. refused 34 0) (λ rows ranges. no-place 34)
-  step-from-small p name (some s) = step-of-small p name s

@@ -2,7 +2,7 @@
 use mathlib.Core.Path.{refl}
 use borrow.Author.Needs.{needs}
 use Rattle.refusal_places.proofs.SmallLaws.{small-same}
-use Rattle.refusal_places.proofs.CallPlaces.{step-from-small}
+use Rattle.exports.proofs.StepPlaces.{step-from-small}
 use Rattle.exports.specs.Answers.{ofState}
 use Rattle.exports.proofs.AnswerLaws.{told-same}
 use Rattle.exports.proofs.petrolyaz_limit_step.Statement.{statement}

@@ -21,10 +21,14 @@ refuse-requires : tie.Need-refuse-requires
 refuse-requires c κs = search needs
 
 returns : tie.Need-returns
-returns c = answering-same _ _ (asked _ _ _ (c .before .before .before .before .before .before .load-full .ensures) (c .before .before .before .before .enum-told .given .1)) _ _ _ _ (c .answer-full .ensures)
+returns c =
+    let told = c .before .before .before .before in
+    answering-same _ _ (asked _ _ _ (told .before .before .load-full .ensures) (told .enum-told .given .1)) _ _ _ _ (c .answer-full .ensures)
 
 returns-2 : tie.Need-returns-2
-returns-2 c = answering-same _ _ (refused _ _ _ (c .before .before .before .before .load-full .ensures) _ (c .before .before .refusal .given .1)) _ _ _ _ (c .refuse .ensures)
+returns-2 c =
+    let told = c .before .before in
+    answering-same _ _ (refused _ _ _ (told .before .before .load-full .ensures) _ (told .refusal .given .1)) _ _ _ _ (c .refuse .ensures)
 
 pub ask-spec : {M : Type 1} → statement M
 ask-spec =

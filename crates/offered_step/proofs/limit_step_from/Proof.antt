@@ -1,9 +1,9 @@
 -- By whether the numbers are a state.
 use Rattle.accepting.specs.Answer.{saidStep}
-use Rattle.calls.proofs.OfferedLaws.{step-of-state, step-of-none}
+use Rattle.offered_step.proofs.OfferedLaws.{step-of-state, step-of-none}
 use borrow.Author.Needs.{needs}
-use Rattle.calls.proofs.limit_step.limit_step_from.Statement.{statement}
-use Rattle.calls.proofs.limit_step.limit_step_from.Tie as tie
+use Rattle.offered_step.proofs.limit_step_from.Statement.{statement}
+use Rattle.offered_step.proofs.limit_step_from.Tie as tie
 
 state-of-requires : tie.Need-state-of-requires
 state-of-requires c κs = search needs

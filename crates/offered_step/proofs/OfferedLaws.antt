@@ -17,8 +17,9 @@ use Rattle.offered.specs.declared.Offered.{Offered}
 use Rattle.offered.specs.declared.Offered.the-variants as offered
 use Rattle.accepting.specs.Answer.{saidStep}
 use Rattle.accepting.specs.declared.step.Answer.the-variants as answer
 use Rattle.calls.specs.Tables.{afterSizes, asking}
-use Rattle.calls.specs.Calls.{limitStepOf, noState, limitStepFrom}
+use Rattle.calls.specs.Calls.{limitStepOf}
+use Rattle.offered_step.specs.OfferedStep.{noState, limitStepFrom}
 
 module _ (texts : List (List ℕ)) {r : Sizes} (h : saidSizes r ≡ sizesOf texts) where
   by : {s : Sizes} → r ≡ s → afterSizes (saidSizes s) (refused 34 0) ≡ noState texts

@@ -1,8 +1,8 @@
 -- By the sizes of the tables.
-use Rattle.calls.proofs.OfferedLaws.{fit-no-state, long-no-state, many-no-state}
+use Rattle.offered_step.proofs.OfferedLaws.{fit-no-state, long-no-state, many-no-state}
 use borrow.Author.Needs.{needs}
-use Rattle.calls.proofs.limit_step.refuse_state.Statement.{statement}
-use Rattle.calls.proofs.limit_step.refuse_state.Tie as tie
+use Rattle.offered_step.proofs.refuse_state.Statement.{statement}
+use Rattle.offered_step.proofs.refuse_state.Tie as tie
 
 check-sizes-requires : tie.Need-check-sizes-requires
 check-sizes-requires c κs = search needs

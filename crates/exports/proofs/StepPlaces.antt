@@ -1,0 +1,17 @@
+-- The place of every refusal of a limit step is small.
+use mathlib.Core.Path.{_≡_}
+use mathlib.Core.List.{List}
+use mathlib.Core.Option.{Option, none, some}
+use Prim.Native.Nat.{ℕ}
+use lib.ListN.{length}
+use Rattle.outcomes.specs.Outcome.{refused}
+use Rattle.limit_state.specs.declared.state.LimitState.{LimitState}
+use Rattle.refusal_places.specs.Small.{Small}
+use Rattle.refusal_places.proofs.SmallLaws.{no-place}
+use Rattle.refusal_places.proofs.CallPlaces.{asking-small, step-of-small}
+use Rattle.offered_step.specs.OfferedStep.{noState, limitStepFrom}
+
+pub step-from-small : (texts : List (List ℕ)) → length texts ≡ 10 → (p name : List ℕ) (offered : Option LimitState) → Small (limitStepFrom texts p name offered)
+unfolding limitStepFrom noState
+step-from-small texts ten p name none = asking-small texts ten (λ rows. refused 34 0) (λ rows ranges. no-place 34)
+step-from-small texts ten p name (some s) = step-of-small texts ten p name s
