@@ -27,8 +27,8 @@ use Rattle.curve_points.specs.Curves.{curveOf}
 use Rattle.curve_values.specs.Along.{along}
 use Rattle.engineering.specs.Engineering.{Engineered, asValue, engineered}
 use Rattle.calls.specs.Tables.{afterSizes, asking}
-use Rattle.calls.specs.Extraction.{extractBy}
-use Rattle.calls.specs.Engineering.{ofValue, engineerBy}
+use Rattle.extraction.specs.Extraction.{extractBy}
+use Rattle.extraction.specs.Engineering.{ofValue, engineerBy}
 use Rattle.calls.specs.Calls.{extractOf, engineerOf}
 use Rattle.at_verdicts.proofs.NumberLaws.{numberIn, Numbered, never-one, one-then, then-refused, earlier}
 use Rattle.at_verdicts.proofs.StepRows.{located-found}

@@ -27,8 +27,8 @@ use Rattle.parameters.specs.Located.{Located, byLines, needed, located}
 use Rattle.readings.specs.Readings.{Reading, withValidity, readingWith, validity, reading}
 use Rattle.engineering.specs.Engineering.{Engineered, value, engineered}
 use Rattle.calls.specs.Tables.{afterSizes, asking}
-use Rattle.calls.specs.Extraction.{extractBy}
-use Rattle.calls.specs.Engineering.{ofValue, engineerBy}
+use Rattle.extraction.specs.Extraction.{extractBy}
+use Rattle.extraction.specs.Engineering.{ofValue, engineerBy}
 use Rattle.calls.specs.Calls.{engineerOf}
 use Rattle.at_verdicts.specs.OffCurve.{OffItsCurve, OutOfItsRange, ReadSo}
 use Rattle.at_verdicts.specs.NoText.{Textless}

@@ -20,7 +20,7 @@ use Rattle.raw_values.specs.RawValues.{rawOf}
 use Rattle.parameters.specs.Located.{Located, byLines, located}
 use Rattle.readings.specs.Readings.{Reading, withValidity, readingWith, validity, reading}
 use Rattle.calls.specs.Tables.{afterSizes, asking}
-use Rattle.calls.specs.Extraction.{extractBy}
+use Rattle.extraction.specs.Extraction.{extractBy}
 use Rattle.calls.specs.Calls.{extractOf}
 use Rattle.at_verdicts.specs.Placed.{Placed, plfOf, pcfOf, NoOccurrence, Leaves, OffByte}
 use Rattle.at_verdicts.proofs.NumberLaws.{never-one, then-is, then-refused, later, first-only, earlier}

@@ -38,7 +38,7 @@ use Rattle.readings.specs.Readings.{withValidity, readingWith, validWithin, val
 use Rattle.curve_points.specs.Curves.{curveEnds, xvalsOf, yvalsOf, curveBy, curveOf}
 use Rattle.curve_values.specs.OffCurve.{isF, isOff, isOffCurve}
 use Rattle.texts.specs.Texts.{fromOf, toOf}
-use Rattle.calls.specs.Extraction.{extractBy}
+use Rattle.extraction.specs.Extraction.{extractBy}
 use Rattle.at_verdicts.specs.Unlocated.{Unlocated}
 use Rattle.at_verdicts.specs.OutOfRange.{heightBy, heightPlaced, heightOn, isOutOfRange}
 use Rattle.at_verdicts.specs.OffCurve.{OffItsCurve, OutOfItsRange, ReadSo}

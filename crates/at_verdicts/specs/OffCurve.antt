@@ -16,7 +16,7 @@ use Rattle.database.specs.Rows.{Row, Rows}
 use Rattle.readings.specs.Readings.{Reading}
 use Rattle.curve_points.specs.Curves.{Curve, curveOf}
 use Rattle.curve_values.specs.OffCurve.{isOffCurve}
-use Rattle.calls.specs.Extraction.{extractBy}
+use Rattle.extraction.specs.Extraction.{extractBy}
 use Rattle.at_verdicts.specs.OutOfRange.{isOutOfRange}
 
 -- a raw value is so by the curve of CURTX in a pcf row of CATEG N

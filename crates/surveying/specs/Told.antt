@@ -10,8 +10,8 @@ use Rattle.database.specs.Rows.{Rows}
 use Rattle.identification.specs.Identification.{Identity, identifyBy}
 use Rattle.readings.specs.Readings.{Reading}
 use Rattle.engineering.specs.Engineering.{Engineered, value, text}
-use Rattle.calls.specs.Extraction.{extractBy}
-use Rattle.calls.specs.Engineering.{engineerBy}
+use Rattle.extraction.specs.Extraction.{extractBy}
+use Rattle.extraction.specs.Engineering.{engineerBy}
 use Rattle.surveying.specs.declared.asking.Question.{Question}
 use Rattle.surveying.specs.declared.asking.Question.the-variants.{Identify, Extract, Engineer}
 use Rattle.surveying.specs.declared.asking.Told.{Told}

@@ -1,8 +1,8 @@
 // What a question tells of a packet.
-use calls::engineer::engineer_in;
-use calls::extract::extract_in;
 use curves::ints::size;
 use engineering::engineer::Engineered;
+use extraction::engineer::engineer_in;
+use extraction::extract::extract_in;
 use identification::Identified;
 use identification::identify_in;
 use outcomes::Refusal;
