@@ -1,0 +1,1 @@
+// The rows that the verdicts of tables' rows speak of.
