@@ -1,19 +1,26 @@
 -- What a verdict of reason 11 says of the rows that it speaks of: none is good and of the kind asked.
 use mathlib.Core.Path.{_≡_, refl, ap, sym, _∙_}
 use mathlib.Core.Bool.{Bool, true, false, cond, _&&_}
-use mathlib.Core.List.{List, [], _∷_, map, List·Memᴰ, List·Memᴰ·head, List·Memᴰ·tail}
-use Prim.Native.Nat.{ℕ, zero, suc, _+_, _*_, _/_, _%_, _≤_, _<_}
+use mathlib.Core.List.{List, [], _∷_, map, List·Memᴰ, List·Memᴰ·head, List·Memᴰ·tail, List·Memᴰ·not-nil, List·Memᴰ·eq-of-singleton}
+use Prim.Native.Nat.{ℕ, zero, suc, _+_, _-_, _*_, _/_, _%_, _≤_, _<_}
 use native.Mathlib.Omega.{arith}
 use lib.Dec.{eqb}
+use lib.ListN.{getD}
 use borrow.Author.Tests.{eq-eqb}
 use Rattle.laws.specs.Lists.{any, orElse, first}
 use Rattle.laws.proofs.Cases.{bool-cases, false-of, false≢true}
 use Rattle.laws.proofs.Tests.{any-keep, any-mem}
 use Rattle.schemas.specs.Reasons.{verdict as verdictOf}
-use Rattle.verdicts.specs.Facts.{Naming, Count}
-use Rattle.verdicts.specs.Entries.{Entry, own, facts}
+use Rattle.lines.specs.Lines.{Line, linesOf}
+use Rattle.schemas.specs.declared.Table.{Table}
+use Rattle.schemas.specs.declared.Table.the-variants.{Pid, Pic, Plf, Pcf, Caf, Cap, Txf, Txp, Ocf, Ocp}
+use Rattle.formed.specs.Formed.{formed}
+use Rattle.verdicts.specs.Facts.{Naming, Count, pidFacts, picFacts, plfFacts, pcfFacts, cafFacts, capFacts, txfFacts, txpFacts, ocfFacts, ocpFacts, factsOf}
+use Rattle.verdicts.specs.Entries.{Entry, bad, fine, readingOf, own, said, facts, carried, allRows}
 use Rattle.verdicts.specs.Steps.{holds}
 use Rattle.verdicts.specs.Verdicts.{tally, shared, countCell, circle, ofKind, asked, nameCell, judge, verdict}
+use Rattle.verdicts.specs.Places.{textAt, noLine, entryAt}
+use Rattle.verdicts.proofs.EntryLaws.{row-of}
 use Rattle.verdicts.proofs.VerdictLaw.{verdict-law}
 use Rattle.causes.specs.Causes.{reasonOf, columnIn}
 
@@ -76,3 +83,55 @@ module _ (rows : List Entry) (e : Entry) where
       let w = first-some (nameCell rows isGood) (facts e .names) (λ q. omega arith) in
       let c = unmet-cell (w .0) (verdict rows e) (w .2 ∙ sym v) r in
       (w .0, record { among = w .1; column = omega (arith, c .1); none = other-kind (w .0) (c .0) })
+
+-- ---- rows of the tables
+
+-- a count's column is one of its table's
+counts-low : (t : Table) (line : List ℕ) {c : Count} → List·Memᴰ c (factsOf t line .counts) → c .column < 256
+unfolding factsOf pidFacts picFacts plfFacts pcfFacts cafFacts capFacts txfFacts txpFacts ocfFacts ocpFacts
+counts-low Pid line m = absurd (List·Memᴰ·not-nil m)
+counts-low Pic line m = absurd (List·Memᴰ·not-nil m)
+counts-low Plf line m = absurd (List·Memᴰ·not-nil m)
+counts-low Pcf line m = absurd (List·Memᴰ·not-nil m)
+counts-low Caf line m = rw (List·Memᴰ·eq-of-singleton m) (omega arith)
+counts-low Cap line m = absurd (List·Memᴰ·not-nil m)
+counts-low Txf line m = rw (List·Memᴰ·eq-of-singleton m) (omega arith)
+counts-low Txp line m = absurd (List·Memᴰ·not-nil m)
+counts-low Ocf line m = rw (List·Memᴰ·eq-of-singleton m) (omega arith)
+counts-low Ocp line m = absurd (List·Memᴰ·not-nil m)
+
+-- a row that isn't well-formed counts nothing
+said-low : (t : Table) (line : Line) (b : Bool) (v : ℕ) {c : Count} → List·Memᴰ c (said (cond b (fine (factsOf t (line .bytes))) (bad v)) .counts) → c .column < 256
+said-low t line true v m = counts-low t (line .bytes) m
+said-low t line false v m = absurd (List·Memᴰ·not-nil m)
+
+or-some : (a b : ℕ) → (a ≡ 0 → ⊥) → orElse a b ≡ a
+or-some zero b h = absurd (h refl)
+or-some (suc a) b h = refl
+
+tenth-first : (rows : List Entry) (l : List Count) → ((c : Count) → List·Memᴰ c l → c .column < 256) → Tenth (first (map (countCell rows) l))
+unfolding countCell
+tenth-first rows [] h = record { below = omega arith; above = λ z. absurd (z refl) }
+tenth-first rows (c ∷ l) h =
+    go (eqb (tally rows (c .group)) (c .number)) (h c (List·Memᴰ·head refl)) (tenth-first rows l (λ d m. h d (List·Memᴰ·tail m)))
+  where
+    go : (b : Bool) → c .column < 256 → Tenth (first (map (countCell rows) l)) → Tenth (orElse (cond b 0 (2560 + c .column)) (first (map (countCell rows) l)))
+    go true low r = r
+    go false low r = rw (or-some (2560 + c .column) (first (map (countCell rows) l)) (λ z. omega arith)) (record { below = omega arith; above = λ _. omega arith })
+
+row-low : (texts : List (List ℕ)) (u r : ℕ) (c : Count) → List·Memᴰ c (facts (entryAt texts u r) .counts) → c .column < 256
+unfolding entryAt readingOf
+row-low texts u r c m =
+    let table = getD carried u Ocp in
+    let line = getD (linesOf (textAt texts u)) (r - 1) noLine in
+    said-low table line (eqb (formed table line) 0) (formed table line) m
+
+same-counts : (e x : Entry) → e ≡ x → ((c : Count) → List·Memᴰ c (facts x .counts) → c .column < 256) → (c : Count) → List·Memᴰ c (facts e .counts) → c .column < 256
+same-counts e x q f c i = f c (rw q at i)
+
+-- THE LAW OF REASON 11 for rows of the tables
+pub unmet-row : (texts : List (List ℕ)) (e : Entry) → List·Memᴰ e (allRows texts) → own (e .reading) ≡ 0 → reasonOf (verdict (allRows texts) e) ≡ 11
+    → (n : Naming) × Unmet (allRows texts) e n
+unmet-row texts e m z r =
+    let low = same-counts e (entryAt texts (e .table) (e .row)) (row-of texts e m .1) (row-low texts (e .table) (e .row)) in
+    unmet (allRows texts) e z (tenth-first (allRows texts) (facts e .counts) low) r

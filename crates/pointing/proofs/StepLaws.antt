@@ -5,7 +5,7 @@ use mathlib.Core.List.{List, [], _∷_}
 use Prim.Native.Nat.{ℕ, zero, suc, _+_, _-_, _/_, _%_, _≤_, _<_}
 use native.Mathlib.Omega.{arith}
 use lib.Dec.{eqb}
-use lib.ListN.{getD}
+use lib.ListN.{length, getD}
 use borrow.Author.Tests.{eq-eqb, ne-eqb}
 use Rattle.laws.specs.Prefix.{allFrom}
 use Rattle.symbols.specs.Symbols.{noId}
@@ -128,3 +128,25 @@ module _ (passes : ℕ → Bool) (lo n : ℕ) where
   pub search-end : n ≤ lo → NoMore ≡ firstOf (allFrom passes lo (n - lo))
   unfolding firstOf allFrom
   search-end h = let z : n - lo ≡ 0 = omega arith in rw z
+
+-- nothing is counted yet
+pub count-start : (passes : ℕ → Bool) (n : ℕ) → 0 + length (allFrom passes 0 (n - 0)) ≡ length (allFrom passes 0 n)
+count-start passes n = let z : n - 0 ≡ n = omega arith in rw z (omega arith)
+
+-- what is counted so far, and what is left
+module _ (passes : ℕ → Bool) (count lo n : ℕ) (all : ℕ) (so-far : count + length (allFrom passes lo (n - lo)) ≡ all) where
+  pub count-here : lo < n → passes lo ≡ true → count + 1 + length (allFrom passes (lo + 1) (n - (lo + 1))) ≡ all
+  unfolding allFrom
+  count-here h e =
+      let z : length (allFrom passes lo (n - lo)) ≡ suc (length (allFrom passes (lo + 1) (n - (lo + 1)))) = rw (left passes lo n h, e) in
+      omega arith
+
+  pub count-more : lo < n → passes lo ≡ false → count + length (allFrom passes (lo + 1) (n - (lo + 1))) ≡ all
+  count-more h e = rw (← search-more passes lo n h e) so-far
+
+  pub count-end : n ≤ lo → count ≡ all
+  unfolding allFrom
+  count-end h =
+      let z : n - lo ≡ 0 = omega arith in
+      let q : length (allFrom passes lo (n - lo)) ≡ 0 = rw z in
+      omega arith

@@ -6,6 +6,7 @@ use crate::names::names_at;
 use arrays::half_at;
 ghost use mathlib.Core.Path.{_≡_};
 ghost use Prim.Native.Nat.{_-_};
+ghost use lib.ListN.{length};
 ghost use Rattle.laws.specs.Prefix.{allFrom};
 ghost use Rattle.pointing.specs.Pointing.{pointsTo, firstOf};
 
@@ -51,4 +52,21 @@ pub fn next_cause(halves: &[u16], bytes: &[u8], cells: &[u16], n: usize, i: usiz
         j += 1;
     }
     Cause::NoMore
+}
+
+// How many of n rows the verdict of row i speaks of.
+pub fn count_causes(halves: &[u16], bytes: &[u8], cells: &[u16], n: usize, i: usize) -> usize
+    ensures { λ r. ⌜ r ≡ length (allFrom (pointsTo (now (halves .entry)) (now (bytes .entry)) (now (cells .entry)) i) 0 n) ⌝ }
+{
+    let mut count: usize = 0;
+    let mut j: usize = 0;
+    while j < n {
+        if points_to(halves, bytes, cells, i, j) {
+            count += 1;
+            j += 1;
+        } else {
+            j += 1;
+        }
+    }
+    count
 }
