@@ -101,7 +101,8 @@ counts-low Ocf line m = rw (List·Memᴰ·eq-of-singleton m) (omega arith)
 counts-low Ocp line m = absurd (List·Memᴰ·not-nil m)
 
 -- a row that isn't well-formed counts nothing
-said-low : (t : Table) (line : Line) (b : Bool) (v : ℕ) {c : Count} → List·Memᴰ c (said (cond b (fine (factsOf t (line .bytes))) (bad v)) .counts) → c .column < 256
+said-low : (t : Table) (line : Line) (b : Bool) (v : ℕ) {c : Count}
+    → List·Memᴰ c (said (cond b (fine (factsOf t (line .bytes))) (bad v)) .counts) → c .column < 256
 said-low t line true v m = counts-low t (line .bytes) m
 said-low t line false v m = absurd (List·Memᴰ·not-nil m)
 
@@ -117,7 +118,9 @@ tenth-first rows (c ∷ l) h =
   where
     go : (b : Bool) → c .column < 256 → Tenth (first (map (countCell rows) l)) → Tenth (orElse (cond b 0 (2560 + c .column)) (first (map (countCell rows) l)))
     go true low r = r
-    go false low r = rw (or-some (2560 + c .column) (first (map (countCell rows) l)) (λ z. omega arith)) (record { below = omega arith; above = λ _. omega arith })
+    go false low r =
+        rw (or-some (2560 + c .column) (first (map (countCell rows) l)) (λ z. omega arith))
+        (record { below = omega arith; above = λ _. omega arith })
 
 row-low : (texts : List (List ℕ)) (u r : ℕ) (c : Count) → List·Memᴰ c (facts (entryAt texts u r) .counts) → c .column < 256
 unfolding entryAt readingOf
@@ -126,7 +129,8 @@ row-low texts u r c m =
     let line = getD (linesOf (textAt texts u)) (r - 1) noLine in
     said-low table line (eqb (formed table line) 0) (formed table line) m
 
-same-counts : (e x : Entry) → e ≡ x → ((c : Count) → List·Memᴰ c (facts x .counts) → c .column < 256) → (c : Count) → List·Memᴰ c (facts e .counts) → c .column < 256
+same-counts : (e x : Entry) → e ≡ x → ((c : Count) → List·Memᴰ c (facts x .counts) → c .column < 256)
+    → (c : Count) → List·Memᴰ c (facts e .counts) → c .column < 256
 same-counts e x q f c i = f c (rw q at i)
 
 -- THE LAW OF REASON 11 for rows of the tables

@@ -2,7 +2,7 @@
 use Prim.Native.Nat.{ℕ}
 use Prim.Native.String.{String}
 use mathlib.Core.Path.{_≡_, refl}
-use mathlib.Core.Bool.{true, false}
+use mathlib.Core.Bool.{Bool, true, false}
 use mathlib.Core.List.{List, [], _∷_, _++_, map}
 use Rattle.laws.specs.Text.{ascii}
 use Rattle.numbers.specs.Number.{digitOf, digitOn, after, spelt, meaning, numberOf}
@@ -16,7 +16,7 @@ use Rattle.rows.specs.Records.{column, cafRow, capRow}
 use Rattle.formed.specs.Contradictions.{isReal, cafContradiction, contradiction}
 use Rattle.formed.specs.Formed.{orContradiction, formed}
 use Rattle.verdicts.specs.Key.{parameter, keyWords, sameKey}
-use Rattle.verdicts.specs.Facts.{whole, itself, Naming, factsOf, cafFacts, capFacts}
+use Rattle.verdicts.specs.Facts.{whole, itself, Naming, Facts, factsOf, cafFacts, capFacts}
 use Rattle.verdicts.specs.Entries.{Entry, bad, fine, readingOf, entriesOf, entriesFrom, allRows}
 use Rattle.verdicts.specs.Steps.{twin, holds, belongs, rivals, namesAt, counts}
 use Rattle.verdicts.specs.Verdicts.{shared, sound, tally, countCell, follows, next, leads, circle}
@@ -66,12 +66,14 @@ unfolding
 fromBytes = record { miscounted = refl; counted = refl }
 
 -- pcf row r, which meets every condition or none
+abbrev pcfSays : String → List Naming → Bool → Facts
+pcfSays name named met = record { keys = parameter (nameOf (ascii name)) ∷ []; names = named; counts = []; groups = []; meets = λ c. met }
+
 abbrev pcfRow : ℕ → String → List Naming → Entry
-pcfRow r name named =
-    record { table = 3; row = r; reading = fine (record { keys = parameter (nameOf (ascii name)) ∷ []; names = named; counts = []; groups = []; meets = λ c. true }) }
+pcfRow r name named = record { table = 3; row = r; reading = fine (pcfSays name named true) }
 
 abbrev odd : ℕ → String → Entry
-odd r name = record { table = 3; row = r; reading = fine (record { keys = parameter (nameOf (ascii name)) ∷ []; names = []; counts = []; groups = []; meets = λ c. false }) }
+odd r name = record { table = 3; row = r; reading = fine (pcfSays name [] false) }
 
 abbrev valid : String → Naming
 valid name = record { column = 8; key = parameter (nameOf (ascii name)); kind = itself whole; chained = true }

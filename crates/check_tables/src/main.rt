@@ -1,47 +1,82 @@
-// Imports the tables of directories, and says of each row that isn't good why.
+// Imports the tables of directories, and says of each row that isn't good why, and what it leans on.
+mod counts;
+mod leans;
+mod order;
+mod places;
 mod rows;
+mod texts;
 
+use counts::say_counts;
 use files::arguments::LONGEST;
 use files::arguments::say_argument;
 use files::directory::SPACE;
+use files::directory::directory_error;
 use files::directory::load_directory;
 use files::directory::tables_in;
-use import::Imported;
-use import::import;
-use rows::say_rows;
-use tables::MOST_CELLS;
+use judged::judge_kept;
+use kept::BYTES;
+use kept::HALVES;
+use kept::Keeping;
+use kept::LINKS;
+use kept::PLACES;
+use kept::WORDS;
+use kept::keep;
+use order::say_rows;
 use tables::TABLES;
 use words::refusals::say_refused;
-use words::say;
 use words::say::words;
 
-fn say_counts(rows: usize, good: usize) {
-    say::number(rows);
-    words(b" rows, ");
-    say::number(good);
-    words(b" good\n");
+fn say_usage() {
+    words(b"usage: check_tables DIR ..\n");
 }
 
-fn judge(tables: [&[u8]; TABLES]) {
-    let mut cells = [0u16; MOST_CELLS];
-    match import(tables, &mut cells) {
-        Imported::Done(rows, good) => {
-            say_rows(tables, &cells);
-            say_counts(rows, good);
-        }
-        Imported::TooLong(table) => say_refused(1, table.0),
-        Imported::TooManyRows(table) => say_refused(2, table.0),
-        Imported::TooFewCells => say_refused(3, 0),
+// How the program is called, and what it prints.
+fn say_help() {
+    say_usage();
+    words(
+        b"Each DIR has pid.dat, pic.dat, plf.dat, pcf.dat, caf.dat, cap.dat, txf.dat, txp.dat, ocf.dat and ocp.dat.\n",
+    );
+    words(
+        b"A line is printed for each row that is not good, a cause before what leans on it: first rows of reasons 1 to 8,\n",
+    );
+    words(
+        b"then those of reasons 9, 10 and 12, then those of reason 11, each after the row that it names.\n",
+    );
+}
+
+// The rows that are kept are judged, and what their verdicts lean on is said.
+fn judge(tables: [&[u8]; TABLES], halves: &[u16], bytes: &[u8], rows: usize) {
+    let mut cells = [0u16; PLACES];
+    judge_kept(halves, bytes, &mut cells, rows);
+    say_rows(tables, halves, bytes, &cells, rows);
+    say_counts(&cells, rows);
+}
+
+fn check_tables(tables: [&[u8]; TABLES]) {
+    let mut symbols = [0u64; WORDS];
+    let mut links = [0u16; LINKS];
+    let mut halves = [0u16; HALVES];
+    let mut bytes = [0u8; BYTES];
+    match keep(tables, &mut symbols, &mut links, &mut halves, &mut bytes) {
+        Keeping::Done(rows, _) => judge(tables, &halves, &bytes, rows),
+        Keeping::TooLong(table) => say_refused(1, table),
+        Keeping::TooManyRows(table) => say_refused(2, table),
+        Keeping::NoRoom => say_refused(3, 0),
     }
 }
 
+// Where there is no such directory, a hint follows the line that says so.
 fn check_directory(directory: &[u8]) {
     let mut memory = [0u8; SPACE];
     let space: &mut [u8] = &mut memory;
     let loaded = load_directory(directory, space);
     let ends = loaded.ends;
     if loaded.whole {
-        judge(tables_in(space, ends));
+        check_tables(tables_in(space, ends));
+        return;
+    }
+    if directory_error(directory) != 0 {
+        say_usage();
     }
 }
 
@@ -50,6 +85,7 @@ fn check_argument(k: usize) {
     let length = os::arg(k, &mut directory);
     if os::errno() != 0 {
         words(b"the name of the directory is too long\n");
+        say_usage();
         return;
     }
     check_directory(&directory[..length]);
@@ -68,7 +104,7 @@ fn check_arguments(count: usize) {
 fn main() {
     let count = os::arg_count();
     if count < 2 {
-        words(b"usage: check_tables DIR ..\n");
+        say_help();
         return;
     }
     check_arguments(count);

@@ -1,3 +1,4 @@
 pub mod HoldLaws
 pub mod NameLaws
 pub mod PointLaws
+pub mod TableLaws

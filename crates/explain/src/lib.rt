@@ -1,1 +1,1 @@
-// The rows that the verdicts of tables' rows speak of.
+// No code: of tables that are kept and judged, the rows that a row points to are those that its verdict speaks of.

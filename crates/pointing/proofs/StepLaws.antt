@@ -11,7 +11,8 @@ use Rattle.laws.specs.Prefix.{allFrom}
 use Rattle.symbols.specs.Symbols.{noId}
 use Rattle.kept.specs.Stored.{ownColumn, key1Column, key2Column, name1Column, name2Column, groupColumn, code1Column, code2Column, countColumn}
 use Rattle.pointing.specs.declared.Cause.the-variants.{Row, NoMore}
-use Rattle.pointing.specs.Pointing.{inColumn, hasKey, sharesBy, soundBy, countedBy, namedBy, standsAt, isChained, namedAtBy, followerBy, pointsTo, firstOf}
+use Rattle.pointing.specs.Pointing.{inColumn, hasKey, sharesBy, soundBy, countedBy, namedBy}
+use Rattle.pointing.specs.Pointing.{standsAt, isChained, namedAtBy, followerBy, pointsTo, firstOf}
 
 module _ (halves : List ℕ) where
   module _ (id j : ℕ) where
@@ -81,7 +82,8 @@ module _ (halves : List ℕ) where
         unfolding countedBy
         counts-other e = rw (← count, ne-eqb x 0 some, ← group, ← key1, ne-eqb g k e)
 
-    module _ (a b : Bool) (one : a ≡ isChained bytes code1Column i) (two : b ≡ isChained bytes code2Column i) (r : Bool) (named : r ≡ namedBy halves i a b j) where
+    module _ (a b : Bool) (one : a ≡ isChained bytes code1Column i) (two : b ≡ isChained bytes code2Column i)
+        (r : Bool) (named : r ≡ namedBy halves i a b j) where
       pub follows-sound : r ≡ true → (s : Bool) → s ≡ soundBy halves cells j → s ≡ followerBy halves bytes cells i j
       unfolding followerBy
       follows-sound t s e = rw (← one, ← two, ← named, t, ← e)

@@ -41,7 +41,14 @@ pub fn points_to(halves: &[u16], bytes: &[u8], cells: &[u16], i: usize, j: usize
 }
 
 // The first row of n, from a place on, that the verdict of row i speaks of.
-pub fn next_cause(halves: &[u16], bytes: &[u8], cells: &[u16], n: usize, i: usize, from: usize) -> Cause
+pub fn next_cause(
+    halves: &[u16],
+    bytes: &[u8],
+    cells: &[u16],
+    n: usize,
+    i: usize,
+    from: usize,
+) -> Cause
     ensures { λ r. ⌜ r ≡ firstOf (allFrom (pointsTo (now (halves .entry)) (now (bytes .entry)) (now (cells .entry)) i) from (n - from)) ⌝ }
 {
     let mut j = from;

@@ -9,9 +9,6 @@ use Rattle.pointing.specs.Pointing.{pointsTo, firstOf}
 use Rattle.pointing.proofs.StepLaws.{search-here, search-more, search-end}
 use Rattle.pointing.proofs.next_cause.Statement.{statement}
 use Rattle.pointing.proofs.next_cause.Tie as tie
-use Rattle.pointing.proofs.next_cause.Reads as reads
-use Rattle.pointing.proofs.next_cause.Lts as lts
-use Rattle.pointing.proofs.points_to.Reads as points-to-reads
 
 abbrev Inv-loop : tie.InvT-loop
 Inv-loop halves bytes cells n i from j₀ j = allFrom (pointsTo halves bytes cells i) j (n - j) ≡ allFrom (pointsTo halves bytes cells i) from (n - from)
@@ -19,31 +16,28 @@ Inv-loop halves bytes cells n i from j₀ j = allFrom (pointsTo halves bytes cel
 abbrev μ-loop : tie.MeasureT-loop
 μ-loop halves bytes cells n i from j₀ j = n - j
 
--- src/lib.rt:47:5
 loop-holds : tie.Need-loop-holds Inv-loop μ-loop
 loop-holds c = refl
 
--- src/lib.rt:48:12
 points-to-requires : tie.Need-points-to-requires Inv-loop μ-loop
 points-to-requires c κs = search needs
 
--- src/lib.rt:49:13
 returns : tie.Need-returns Inv-loop μ-loop
-returns c = search-here _ _ _ (c .before .before .loop-test .taken) (sym (c .before .points-to .ensures) ∙ c .if1 .taken) ∙ ap firstOf (c .before .before .before .loop .inv)
+returns c =
+    search-here _ _ _ (c .before .before .loop-test .taken) (sym (c .before .points-to .ensures) ∙ c .if1 .taken) ∙ ap firstOf
+    (c .before .before .before .loop .inv)
 
--- src/lib.rt:51:9
 add-j : tie.Need-add-j Inv-loop μ-loop
 add-j c = omega arith
 
--- src/lib.rt:47:5
 loop-less : tie.Need-loop-less Inv-loop μ-loop
 loop-less c = omega arith
 
--- src/lib.rt:47:5
 loop-again : tie.Need-loop-again Inv-loop μ-loop
-loop-again c = sym (search-more _ _ _ (c .before .before .loop-test .taken) (sym (c .before .points-to .ensures) ∙ c .if1 .left)) ∙ c .before .before .before .loop .inv
+loop-again c =
+    sym (search-more _ _ _ (c .before .before .loop-test .taken) (sym (c .before .points-to .ensures) ∙ c .if1 .left)) ∙ c .before .before .before
+    .loop .inv
 
--- src/lib.rt:43:1
 returns-2 : tie.Need-returns-2 Inv-loop μ-loop
 returns-2 c = search-end _ _ _ (c .loop-test .left) ∙ ap firstOf (c .before .loop .inv)
 

@@ -3,53 +3,39 @@ use Rattle.pointing.proofs.StepLaws.{points-shares, points-counted, poi
 use borrow.Author.Needs.{needs}
 use Rattle.pointing.proofs.points_to.Statement.{statement}
 use Rattle.pointing.proofs.points_to.Tie as tie
-use Rattle.pointing.proofs.points_to.Reads as reads
-use Rattle.pointing.proofs.points_to.Lts as lts
-use Rattle.arrays.proofs.half_at.Reads as half-at-reads
-use Rattle.pointing.proofs.keys.is_counted.Reads as is-counted-reads
-use Rattle.pointing.proofs.keys.shares.Reads as shares-reads
-use Rattle.pointing.proofs.names.follows.Reads as follows-reads
-use Rattle.pointing.proofs.names.names_at.Reads as names-at-reads
 
--- src/lib.rt:25:9
 half-at-requires : tie.Need-half-at-requires
 half-at-requires c κs = search needs
 
--- src/lib.rt:28:9
 shares-requires : tie.Need-shares-requires
 shares-requires c κs = search needs
 
--- src/lib.rt:28:9
 returns : tie.Need-returns
 returns c = points-shares _ _ _ _ _ _ (c .before .before .half-at .ensures) (c .before .if1 .taken) _ (c .shares .ensures)
 
--- src/lib.rt:31:9
 is-counted-requires : tie.Need-is-counted-requires
 is-counted-requires c κs = search needs
 
--- src/lib.rt:31:9
 returns-2 : tie.Need-returns-2
 returns-2 c = points-counted _ _ _ _ _ _ (c .before .before .before .half-at .ensures) (c .before .if2 .taken) _ (c .is-counted .ensures)
 
--- src/lib.rt:34:9
 names-at-requires : tie.Need-names-at-requires
 names-at-requires c κs = search needs
 
--- src/lib.rt:34:9
 returns-3 : tie.Need-returns-3
 returns-3 c = points-named _ _ _ _ _ _ (c .before .before .before .before .half-at .ensures) (c .before .if3 .taken) _ (c .names-at .ensures)
 
--- src/lib.rt:37:9
 follows-requires : tie.Need-follows-requires
 follows-requires c κs = search needs
 
--- src/lib.rt:37:9
 returns-4 : tie.Need-returns-4
-returns-4 c = points-follower _ _ _ _ _ _ (c .before .before .before .before .before .half-at .ensures) (c .before .if4 .taken) _ (c .follows .ensures)
+returns-4 c =
+    points-follower _ _ _ _ _ _ (c .before .before .before .before .before .half-at .ensures) (c .before .if4 .taken) _ (c .follows .ensures)
 
--- src/lib.rt:22:1
 returns-5 : tie.Need-returns-5
-returns-5 c = points-none _ _ _ _ _ _ (c .before .before .before .before .half-at .ensures) (c .before .before .before .if1 .left) (c .before .before .if2 .left) (c .before .if3 .left) (c .if4 .left)
+returns-5 c =
+    points-none _ _ _ _ _ _ (c .before .before .before .before .half-at .ensures) (c .before .before .before .if1 .left)
+    (c .before .before .if2 .left) (c .before .if3 .left) (c .if4 .left)
 
 pub points-to-spec : {M : Type 1} → statement M
 points-to-spec =

@@ -3,39 +3,31 @@ use Rattle.pointing.proofs.StepLaws.{counts-none, counts-member, counts
 use borrow.Author.Needs.{needs}
 use Rattle.pointing.proofs.keys.is_counted.Statement.{statement}
 use Rattle.pointing.proofs.keys.is_counted.Tie as tie
-use Rattle.pointing.proofs.keys.is_counted.Reads as reads
-use Rattle.pointing.proofs.keys.is_counted.Lts as lts
-use Rattle.pointing.proofs.keys.byte.Reads as byte-reads
-use Rattle.pointing.proofs.keys.half.Reads as half-reads
-use Rattle.pointing.proofs.keys.is_sound.Reads as is-sound-reads
 
--- src/keys.rt:72:8
 byte-requires : tie.Need-byte-requires
 byte-requires c κs = search needs
 
--- src/keys.rt:73:9
 returns : tie.Need-returns
 returns c = counts-none _ _ _ _ _ _ (c .before .byte .ensures) (c .if1 .taken)
 
--- src/keys.rt:75:8
 half-requires : tie.Need-half-requires
 half-requires c κs = search needs
 
--- src/keys.rt:75:34
 half-requires-2 : tie.Need-half-requires-2
 half-requires-2 c κs = search needs
 
--- src/keys.rt:76:9
 is-sound-requires : tie.Need-is-sound-requires
 is-sound-requires c κs = search needs
 
--- src/keys.rt:76:9
 returns-2 : tie.Need-returns-2
-returns-2 c = counts-member _ _ _ _ _ _ (c .before .before .before .before .before .byte .ensures) (c .before .before .before .before .if1 .left) _ _ (c .before .before .before .half .ensures) (c .before .before .half2 .ensures) (c .before .if2 .taken) _ (c .is-sound .ensures)
+returns-2 c =
+    counts-member _ _ _ _ _ _ (c .before .before .before .before .before .byte .ensures) (c .before .before .before .before .if1 .left) _ _
+    (c .before .before .before .half .ensures) (c .before .before .half2 .ensures) (c .before .if2 .taken) _ (c .is-sound .ensures)
 
--- src/keys.rt:69:1
 returns-3 : tie.Need-returns-3
-returns-3 c = counts-other _ _ _ _ _ _ (c .before .before .before .before .byte .ensures) (c .before .before .before .if1 .left) _ _ (c .before .before .half .ensures) (c .before .half2 .ensures) (c .if2 .left)
+returns-3 c =
+    counts-other _ _ _ _ _ _ (c .before .before .before .before .byte .ensures) (c .before .before .before .if1 .left) _ _
+    (c .before .before .half .ensures) (c .before .half2 .ensures) (c .if2 .left)
 
 pub is-counted-spec : {M : Type 1} → statement M
 is-counted-spec =

@@ -7,47 +7,41 @@ use Rattle.pointing.proofs.StepLaws.{follows-sound, follows-not}
 use borrow.Author.Needs.{needs}
 use Rattle.pointing.proofs.names.follows.Statement.{statement}
 use Rattle.pointing.proofs.names.follows.Tie as tie
-use Rattle.pointing.proofs.names.follows.Reads as reads
-use Rattle.pointing.proofs.names.follows.Lts as lts
-use Rattle.manners.proofs.naming_chained.Reads as naming-chained-reads
-use Rattle.pointing.proofs.keys.byte.Reads as byte-reads
-use Rattle.pointing.proofs.keys.is_sound.Reads as is-sound-reads
-use Rattle.pointing.proofs.names.names.Reads as names-reads
 
 chained : (a : Bool) (k m : ℕ) → a ≡ mannerAt k .chained → k ≡ m → a ≡ mannerAt m .chained
 chained a k m e q = e ∙ ap (λ (x : ℕ). mannerAt x .chained) q
 
--- src/names.rt:49:30
 byte-requires : tie.Need-byte-requires
 byte-requires c κs = search needs
 
--- src/names.rt:49:9
 naming-chained-requires : tie.Need-naming-chained-requires
 naming-chained-requires c κs = search needs
 
--- src/names.rt:50:30
 byte-requires-2 : tie.Need-byte-requires-2
 byte-requires-2 c κs = search needs
 
--- src/names.rt:50:9
 naming-chained-requires-2 : tie.Need-naming-chained-requires-2
 naming-chained-requires-2 c κs = search needs
 
--- src/names.rt:51:8
 names-requires : tie.Need-names-requires
 names-requires c κs = search needs
 
--- src/names.rt:52:9
 is-sound-requires : tie.Need-is-sound-requires
 is-sound-requires c κs = search needs
 
--- src/names.rt:52:9
 returns : tie.Need-returns
-returns c = follows-sound _ _ _ _ _ _ _ (chained _ _ _ (c .before .before .before .before .before .naming-chained .ensures) (c .before .before .before .before .before .before .byte .ensures)) (chained _ _ _ (c .before .before .before .naming-chained2 .ensures) (c .before .before .before .before .byte2 .ensures)) _ (c .before .before .names .ensures) (c .before .if1 .taken) _ (c .is-sound .ensures)
+returns c =
+    follows-sound _ _ _ _ _ _ _
+    (chained _ _ _ (c .before .before .before .before .before .naming-chained .ensures) (c .before .before .before .before .before .before .byte .ensures))
+    (chained _ _ _ (c .before .before .before .naming-chained2 .ensures) (c .before .before .before .before .byte2 .ensures)) _
+    (c .before .before .names .ensures) (c .before .if1 .taken) _ (c .is-sound .ensures)
 
--- src/names.rt:46:1
 returns-2 : tie.Need-returns-2
-returns-2 c = follows-not _ _ _ _ _ _ _ (chained _ _ _ (c .before .before .before .before .naming-chained .ensures) (c .before .before .before .before .before .byte .ensures)) (chained _ _ _ (c .before .before .naming-chained2 .ensures) (c .before .before .before .byte2 .ensures)) _ (c .before .names .ensures) (c .if1 .left)
+returns-2 c =
+    follows-not _ _ _ _ _ _ _
+    (chained _ _ _ (c .before .before .before .before .naming-chained .ensures) (c .before .before .before .before .before .byte .ensures))
+    (chained _ _ _ (c .before .before .naming-chained2 .ensures) (c .before .before .before .byte2 .ensures)) _ (c .before .names .ensures)
+    (c .if1 .left)
 
 pub follows-spec : {M : Type 1} → statement M
 follows-spec =

@@ -3,19 +3,13 @@ use mathlib.Core.Path.{_∙_}
 use borrow.Author.Needs.{needs}
 use Rattle.pointing.proofs.names.holds_asked.Statement.{statement}
 use Rattle.pointing.proofs.names.holds_asked.Tie as tie
-use Rattle.pointing.proofs.names.holds_asked.Reads as reads
-use Rattle.pointing.proofs.names.holds_asked.Lts as lts
-use Rattle.pointing.proofs.keys.has_key.Reads as has-key-reads
 
--- src/names.rt:21:9
 has-key-requires : tie.Need-has-key-requires
 has-key-requires c κs = search needs
 
--- src/names.rt:21:9
 returns : tie.Need-returns
 returns c = rw (c .before .if1 .taken) (c .has-key .ensures)
 
--- src/names.rt:17:1
 returns-2 : tie.Need-returns-2
 returns-2 c = rw (c .if1 .left)
 

@@ -3,34 +3,26 @@ use Rattle.pointing.proofs.StepLaws.{named-first, named-second}
 use borrow.Author.Needs.{needs}
 use Rattle.pointing.proofs.names.names.Statement.{statement}
 use Rattle.pointing.proofs.names.names.Tie as tie
-use Rattle.pointing.proofs.names.names.Reads as reads
-use Rattle.pointing.proofs.names.names.Lts as lts
-use Rattle.pointing.proofs.keys.half.Reads as half-reads
-use Rattle.pointing.proofs.names.holds_asked.Reads as holds-asked-reads
 
--- src/names.rt:30:33
 half-requires : tie.Need-half-requires
 half-requires c κs = search needs
 
--- src/names.rt:30:8
 holds-asked-requires : tie.Need-holds-asked-requires
 holds-asked-requires c κs = search needs
 
--- src/names.rt:31:9
 returns : tie.Need-returns
 returns c = named-first _ _ _ _ _ _ (c .before .before .half .ensures) _ (c .before .holds-asked .ensures) (c .if1 .taken)
 
--- src/names.rt:33:30
 half-requires-2 : tie.Need-half-requires-2
 half-requires-2 c κs = search needs
 
--- src/names.rt:33:5
 holds-asked-requires-2 : tie.Need-holds-asked-requires-2
 holds-asked-requires-2 c κs = search needs
 
--- src/names.rt:27:1
 returns-2 : tie.Need-returns-2
-returns-2 c = named-second _ _ _ _ _ _ (c .before .before .before .before .half .ensures) _ (c .before .before .before .holds-asked .ensures) (c .before .before .if1 .left) _ (c .before .half2 .ensures) _ (c .holds-asked2 .ensures)
+returns-2 c =
+    named-second _ _ _ _ _ _ (c .before .before .before .before .half .ensures) _ (c .before .before .before .holds-asked .ensures)
+    (c .before .before .if1 .left) _ (c .before .half2 .ensures) _ (c .holds-asked2 .ensures)
 
 pub names-spec : {M : Type 1} → statement M
 names-spec =

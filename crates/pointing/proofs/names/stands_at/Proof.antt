@@ -6,26 +6,20 @@ use Rattle.manners.specs.Manners.{mannerAt}
 use borrow.Author.Needs.{needs}
 use Rattle.pointing.proofs.names.stands_at.Statement.{statement}
 use Rattle.pointing.proofs.names.stands_at.Tie as tie
-use Rattle.pointing.proofs.names.stands_at.Reads as reads
-use Rattle.pointing.proofs.names.stands_at.Lts as lts
-use Rattle.manners.proofs.naming_column.Reads as naming-column-reads
-use Rattle.pointing.proofs.keys.byte.Reads as byte-reads
 
--- src/names.rt:33:19
 byte-requires : tie.Need-byte-requires
 byte-requires c κs = search needs
 
--- src/names.rt:33:5
 naming-column-requires : tie.Need-naming-column-requires
 naming-column-requires c κs = search needs
 
--- src/names.rt:33:5
 cast-result : tie.Need-cast-result
 cast-result c = search needs
 
--- src/names.rt:30:1
 returns : tie.Need-returns
-returns c = ap (λ (n : ℕ). eqb n (c .before .before .before .args .column)) (c .naming-column .ensures ∙ ap (λ (k : ℕ). mannerAt k .column) (c .before .byte .ensures))
+returns c =
+    ap (λ (n : ℕ). eqb n (c .before .before .before .args .column))
+    (c .naming-column .ensures ∙ ap (λ (k : ℕ). mannerAt k .column) (c .before .byte .ensures))
 
 pub stands-at-spec : {M : Type 1} → statement M
 stands-at-spec = tie.close (tie.spec byte-requires naming-column-requires cast-result returns)

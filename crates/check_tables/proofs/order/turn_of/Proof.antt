@@ -1,0 +1,19 @@
+-- By the reason.
+use Rattle.check_tables.proofs.OrderLaws.{turn-good, turn-formed, turn-naming, turn-keyed}
+use Rattle.check_tables.proofs.order.turn_of.Statement.{statement}
+use Rattle.check_tables.proofs.order.turn_of.Tie as tie
+
+returns : tie.Need-returns
+returns c = turn-good _ (c .if1 .taken)
+
+returns-2 : tie.Need-returns-2
+returns-2 c = turn-formed _ (c .before .if1 .left) (c .if2 .taken)
+
+returns-3 : tie.Need-returns-3
+returns-3 c = turn-naming _ (c .before .before .if1 .left) (c .before .if2 .left) (c .if3 .taken)
+
+returns-4 : tie.Need-returns-4
+returns-4 c = turn-keyed _ (c .before .before .if1 .left) (c .before .if2 .left) (c .if3 .left)
+
+pub turn-of-spec : {M : Type 1} → statement M
+turn-of-spec = tie.close (tie.spec returns returns-2 returns-3 returns-4)
