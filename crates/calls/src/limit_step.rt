@@ -1,8 +1,6 @@
 // A parameter's limit state after a packet.
 use crate::ask::ask;
 use accepting::step::Answer;
-use accepting::step::Answer;
-use accepting::step::Stepped;
 use accepting::step::Stepped;
 use answering::Answered;
 use answering::Call;

@@ -22,7 +22,8 @@ use Rattle.manners.specs.Manners.{Manner, mannerOf, mannerAt, codeOf}
 use Rattle.keys.specs.Held.{namedOf, keysOf}
 use Rattle.keys.proofs.Fitting.{Listed, NamesFit}
 use Rattle.meaning.specs.Kept.{Known, rowAt}
-use Rattle.kept.specs.Stored.{places, name1Column, name2Column, code1Column, code2Column, namedId}
+use Rattle.arrays.specs.Room.{mostPlaces}
+use Rattle.kept.specs.Stored.{name1Column, name2Column, code1Column, code2Column, namedId}
 use Rattle.judged.proofs.Held.{coding, Held, column-at}
 use Rattle.pointing.specs.Pointing.{inColumn, hasKey, namedBy, namedAtBy}
 use Rattle.explain.proofs.HoldLaws.{holds-by, nothing-held}
@@ -74,7 +75,7 @@ module _ (rows : List Entry) (words links : List ℕ) (count : ℕ) (halves byte
     abbrev o : Entry
     o = rowAt rows j
 
-    inside : i < places
+    inside : i < mostPlaces
     inside = omega (arith, h .stored .few)
 
     -- a test of manners, and a key that is held

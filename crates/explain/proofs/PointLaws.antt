@@ -19,7 +19,7 @@ use Rattle.verdicts.specs.Verdicts.{sound, verdict}
 use Rattle.keys.specs.Held.{countOf, keysOf}
 use Rattle.keys.proofs.Fitting.{CountsFit}
 use Rattle.meaning.specs.Kept.{keyId, Known, AllKnown, none, more, noEntry, rowAt}
-use Rattle.kept.specs.Stored.{places, ownColumn, key1Column, groupColumn, countColumn}
+use Rattle.kept.specs.Stored.{ownColumn, key1Column, groupColumn, countColumn}
 use Rattle.judged.proofs.Held.{coding, Held, column-at}
 use Rattle.judged.proofs.KeptLaws.{own-kept}
 use Rattle.causes.specs.Causes.{counted, speaksOf, causes}

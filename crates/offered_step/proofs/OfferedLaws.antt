@@ -30,11 +30,11 @@ module _ (texts : List (List ℕ)) {r : Sizes} (h : saidSizes r ≡ sizesOf text
   unfolding afterSizes refusedBy numberOf placeOf
   fit-no-state e = by e
 
-  pub long-no-state : (table : ℕ) → r ≡ sizes.TooLong table → refusedBy (TableTooLong (record { 0 = table })) ≡ noState texts
+  pub long-no-state : (table : TableNumber) → r ≡ sizes.TooLong table → refusedBy (TableTooLong table) ≡ noState texts
   unfolding afterSizes refusedBy numberOf placeOf
   long-no-state table e = by e
 
-  pub many-no-state : (table : ℕ) → r ≡ sizes.TooManyRows table → refusedBy (TooManyRows (record { 0 = table })) ≡ noState texts
+  pub many-no-state : (table : TableNumber) → r ≡ sizes.TooManyRows table → refusedBy (TooManyRows table) ≡ noState texts
   unfolding afterSizes refusedBy numberOf placeOf
   many-no-state table e = by e
 

@@ -9,7 +9,6 @@ use outcomes::Refusal;
 use tables::Sizes;
 use tables::TABLES;
 use tables::check_sizes;
-use units::TableNumber;
 ghost use mathlib.Core.Path.{_≡_};
 ghost use mathlib.Core.List.{map};
 ghost use Rattle.outcomes.specs.Refusals.{refusedBy};
@@ -23,8 +22,8 @@ fn refuse_state(tables: [&[u8]; TABLES]) -> Refusal
 {
     match check_sizes(tables) {
         Sizes::Fit => Refusal::NoState,
-        Sizes::TooLong(table) => Refusal::TableTooLong(TableNumber(table)),
-        Sizes::TooManyRows(table) => Refusal::TooManyRows(TableNumber(table)),
+        Sizes::TooLong(table) => Refusal::TableTooLong(table),
+        Sizes::TooManyRows(table) => Refusal::TooManyRows(table),
     }
 }
 

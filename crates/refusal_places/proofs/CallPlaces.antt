@@ -47,7 +47,7 @@ module _ (rows : Rows) (ranges : InRanges rows) (p name : List ℕ) (k : ℕ) wh
   unfolding engineerBy
   engineer-small = small-then (extractBy rows p name k) _ extract-small (λ r _. value-small rows (nameOf name) (r .value))
 
-module _ (texts : List (List ℕ)) (ten : length texts ≡ 10) where
+module _ (texts : List (List ℕ)) (all : length texts ≡ tableCount) where
   pub asking-small : {A : Type 0} (ask : Rows → Outcome A) → ((rows : Rows) → InRanges rows → Small (ask rows)) → Small (asking texts ask)
   unfolding asking afterSizes sizesOf
   asking-small ask h =
