@@ -1,17 +1,14 @@
--- One law for each return: the turn of a row, a byte as it is shown, and rows counted by their reason.
+-- One law for each return: the turn of a row, rows counted by their reason, and whether a row is due.
 use mathlib.Core.Path.{_≡_, refl, ap, _∙_}
 use mathlib.Core.Bool.{Bool, true, false, cond, _&&_}
 use mathlib.Core.List.{List}
-use Prim.Native.Nat.{ℕ, zero, suc, _+_, _-_, _/_, _≤_, _<_}
+use Prim.Native.Nat.{ℕ, zero, suc, _+_, _/_, _≤_, _<_}
 use native.Mathlib.Omega.{arith}
 use lib.Dec.{eqb}
 use lib.ListN.{getD}
-use borrow.Author.Tests.{eq-eqb, ne-eqb, lt-ltb, le-ltb, le-leb, lt-leb}
+use borrow.Author.Tests.{eq-eqb, ne-eqb, lt-ltb, le-ltb}
 use Rattle.laws.specs.Prefix.{countWith}
-use Rattle.lines.specs.Columns.{printable}
-use Rattle.cells.specs.declared.TableCells.{TableCells}
-use Rattle.check_tables.specs.Order.{hasReason, turnOf, rowNumber, keyColumn}
-use Rattle.check_tables.specs.Shown.{shownAs}
+use Rattle.check_tables.specs.Order.{hasReason, turnOf}
 
 module _ (v : ℕ) where
   pub turn-good : v / 256 < 1 → 0 ≡ turnOf v
@@ -29,19 +26,6 @@ module _ (v : ℕ) where
   pub turn-keyed : 1 ≤ v / 256 → 9 ≤ v / 256 → (v / 256 ≡ 11 → ⊥) → 2 ≡ turnOf v
   unfolding turnOf
   turn-keyed a b e = rw (le-ltb _ _ a, le-ltb _ _ b, ne-eqb _ _ e)
-
-module _ (b : ℕ) where
-  pub shown-low : b < 32 → 63 ≡ shownAs b
-  unfolding shownAs printable
-  shown-low h = rw (lt-leb 32 b h)
-
-  pub shown-high : 32 ≤ b → 126 < b → 63 ≡ shownAs b
-  unfolding shownAs printable
-  shown-high l h = rw (le-leb 32 b l, lt-leb b 126 h)
-
-  pub shown-plain : 32 ≤ b → b ≤ 126 → b ≡ shownAs b
-  unfolding shownAs printable
-  shown-plain l h = rw (le-leb 32 b l, le-leb b 126 h)
 
 -- no row is passed
 pub counted-none : (cells : List ℕ) (reason : ℕ) → 0 ≡ countWith (hasReason cells reason) 0
@@ -66,34 +50,6 @@ module _ (cells : List ℕ) (reason i count : ℕ) (so-far : count ≡ countWith
   counted-not e =
       let y : i + 1 ≡ suc i = omega arith in
       rw (y, ← read, ne-eqb (x / 256) reason e, so-far)
-
--- the number of a row
-module _ (cells : TableCells) (i : ℕ) where
-  pub number-before : i < cells .start → 0 ≡ rowNumber cells i
-  unfolding rowNumber
-  number-before h = rw (lt-leb (cells .start) i h)
-
-  pub number-past : cells .start ≤ i → cells .end ≤ i → 0 ≡ rowNumber cells i
-  unfolding rowNumber
-  number-past l h = rw (le-leb (cells .start) i l, le-ltb i (cells .end) h)
-
-  pub number-in : cells .start ≤ i → i < cells .end → i - cells .start + 1 ≡ rowNumber cells i
-  unfolding rowNumber
-  number-in l h = rw (le-leb (cells .start) i l, lt-ltb i (cells .end) h)
-
--- the column of a named key
-module _ (reason column : ℕ) where
-  pub key-other : (reason ≡ 11 → ⊥) → column ≡ keyColumn reason column
-  unfolding keyColumn
-  key-other h = rw (ne-eqb _ _ h)
-
-  pub key-name : reason ≡ 11 → column ≡ 4 → 1 ≡ keyColumn reason column
-  unfolding keyColumn
-  key-name h e = rw (eq-eqb reason 11 h, eq-eqb column 4 e)
-
-  pub key-same : reason ≡ 11 → (column ≡ 4 → ⊥) → column ≡ keyColumn reason column
-  unfolding keyColumn
-  key-same h e = rw (eq-eqb reason 11 h, ne-eqb column 4 e)
 
 -- whether a row is due
 module _ (cells told : List ℕ) (i : ℕ) (v : ℕ) (cell : v ≡ getD cells i 0) (t : ℕ) (turn : t ≡ turnOf v) where

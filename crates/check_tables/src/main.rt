@@ -1,10 +1,6 @@
 // Imports the tables of directories, and says of each row that isn't good why, and what it leans on.
 mod counts;
-mod leans;
 mod order;
-mod places;
-mod rows;
-mod texts;
 
 use counts::say_counts;
 use files::arguments::LONGEST;

@@ -1,9 +1,9 @@
 // The rows that aren't good, a cause before what leans on it.
-use crate::rows::say_row;
 use arrays::byte_at;
 use arrays::half_at;
 use arrays::put_byte;
 use kept::PLACES;
+use leaning::say_row;
 use lines::columns::keep_at;
 use pointing::Cause;
 use pointing::next_cause;

@@ -1,8 +1,8 @@
 -- Where it stands among the table's cells.
-use Rattle.check_tables.proofs.OrderLaws.{number-before, number-past, number-in}
+use Rattle.leaning.proofs.ReturnLaws.{number-before, number-past, number-in}
 use borrow.Author.Needs.{needs}
-use Rattle.check_tables.proofs.places.row_number.Statement.{statement}
-use Rattle.check_tables.proofs.places.row_number.Tie as tie
+use Rattle.leaning.proofs.places.row_number.Statement.{statement}
+use Rattle.leaning.proofs.places.row_number.Tie as tie
 
 returns : tie.Need-returns
 returns c = number-before _ _ (c .if1 .taken)

@@ -27,7 +27,7 @@ fn say_at(bytes: &[u8], i: usize, column: usize) {
 }
 
 // "pcf 12: 2824: reason 11 at column 8 (VALID): "T5": no well-formed row has this name"
-pub(crate) fn say_row(
+pub fn say_row(
     tables: [&[u8]; TABLES],
     halves: &[u16],
     bytes: &[u8],

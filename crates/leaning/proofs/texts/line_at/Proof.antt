@@ -1,7 +1,7 @@
 -- The definition, call by call.
 use borrow.Author.Needs.{needs}
-use Rattle.check_tables.proofs.texts.line_at.Statement.{statement}
-use Rattle.check_tables.proofs.texts.line_at.Tie as tie
+use Rattle.leaning.proofs.texts.line_at.Statement.{statement}
+use Rattle.leaning.proofs.texts.line_at.Tie as tie
 
 next-line-requires : tie.Need-next-line-requires
 next-line-requires c κs = search needs

@@ -1,7 +1,7 @@
 -- By the byte.
-use Rattle.check_tables.proofs.OrderLaws.{shown-low, shown-high, shown-plain}
-use Rattle.check_tables.proofs.texts.shown.Statement.{statement}
-use Rattle.check_tables.proofs.texts.shown.Tie as tie
+use Rattle.leaning.proofs.ReturnLaws.{shown-low, shown-high, shown-plain}
+use Rattle.leaning.proofs.texts.shown.Statement.{statement}
+use Rattle.leaning.proofs.texts.shown.Tie as tie
 
 returns : tie.Need-returns
 returns c = shown-low _ (c .if1 .taken)

@@ -1,7 +1,7 @@
 -- The definition, call by call.
 use borrow.Author.Needs.{needs}
-use Rattle.check_tables.proofs.places.start_of.Statement.{statement}
-use Rattle.check_tables.proofs.places.start_of.Tie as tie
+use Rattle.leaning.proofs.places.start_of.Statement.{statement}
+use Rattle.leaning.proofs.places.start_of.Tie as tie
 
 half-column-requires : tie.Need-half-column-requires
 half-column-requires c κs = search needs

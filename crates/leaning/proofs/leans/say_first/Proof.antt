@@ -2,8 +2,8 @@
 use Prim.Native.Nat.{_-_, _≤_}
 use native.Mathlib.Omega.{arith}
 use borrow.Author.Needs.{needs}
-use Rattle.check_tables.proofs.leans.say_first.Statement.{statement}
-use Rattle.check_tables.proofs.leans.say_first.Tie as tie
+use Rattle.leaning.proofs.leans.say_first.Statement.{statement}
+use Rattle.leaning.proofs.leans.say_first.Tie as tie
 
 abbrev Inv-loop : tie.InvT-loop
 Inv-loop tables halves bytes cells n i verdict reason column from₀ k₀ from k = k ≤ 5

@@ -13,7 +13,7 @@ use words::say::words;
 ghost use mathlib.Core.Path.{_≡_};
 ghost use lib.Seq.{sets};
 ghost use Rattle.laws.specs.Values.{tabulate};
-ghost use Rattle.check_tables.specs.Shown.{shownAs, shownAt, lineIn};
+ghost use Rattle.leaning.specs.Shown.{shownAs, shownAt, lineIn};
 
 // A text is shown up to so many bytes.
 const SHOWN: usize = 64;

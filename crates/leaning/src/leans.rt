@@ -11,7 +11,7 @@ use words::reasons::say_reason;
 use words::say;
 use words::say::words;
 ghost use mathlib.Core.Path.{_≡_};
-ghost use Rattle.check_tables.specs.Order.{keyColumn};
+ghost use Rattle.leaning.specs.Places.{keyColumn};
 
 // At most so many rows are told one by one.
 const TOLD: usize = 5;
@@ -150,7 +150,7 @@ fn say_others(
 ) {
     say_reason(reason);
     if reason == 9 {
-        words(b", as does ");
+        words(b": ");
     } else {
         words(b": by VALID next is ");
     }

@@ -2,10 +2,10 @@
 use Prim.Native.Nat.{_-_}
 use native.Mathlib.Omega.{arith}
 use Rattle.laws.proofs.Values.{Writing, write-start, write-put, write-end}
-use Rattle.check_tables.specs.Shown.{shownAt}
+use Rattle.leaning.specs.Shown.{shownAt}
 use borrow.Author.Needs.{needs}
-use Rattle.check_tables.proofs.texts.put_shown.Statement.{statement}
-use Rattle.check_tables.proofs.texts.put_shown.Tie as tie
+use Rattle.leaning.proofs.texts.put_shown.Statement.{statement}
+use Rattle.leaning.proofs.texts.put_shown.Tie as tie
 
 abbrev Inv-loop : tie.InvT-loop
 Inv-loop text letters₀ n k₀ letters k = Writing (shownAt text) n letters₀ letters k

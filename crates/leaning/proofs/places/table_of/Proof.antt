@@ -1,7 +1,7 @@
 -- The definition, call by call.
 use borrow.Author.Needs.{needs}
-use Rattle.check_tables.proofs.places.table_of.Statement.{statement}
-use Rattle.check_tables.proofs.places.table_of.Tie as tie
+use Rattle.leaning.proofs.places.table_of.Statement.{statement}
+use Rattle.leaning.proofs.places.table_of.Tie as tie
 
 byte-column-requires : tie.Need-byte-column-requires
 byte-column-requires c κs = search needs

@@ -15,7 +15,7 @@ use words::say::words;
 ghost use mathlib.Core.Path.{_≡_};
 ghost use Rattle.kept.specs.Stored.{startColumn, tableColumn};
 ghost use Rattle.pointing.specs.Pointing.{inColumn};
-ghost use Rattle.check_tables.specs.Order.{rowNumber};
+ghost use Rattle.leaning.specs.Places.{rowNumber};
 
 // The column of where lines start.
 const START: u8 = 7;

@@ -1,7 +1,7 @@
 -- By the reason and the column.
-use Rattle.check_tables.proofs.OrderLaws.{key-other, key-name, key-same}
-use Rattle.check_tables.proofs.leans.text_column.Statement.{statement}
-use Rattle.check_tables.proofs.leans.text_column.Tie as tie
+use Rattle.leaning.proofs.ReturnLaws.{key-other, key-name, key-same}
+use Rattle.leaning.proofs.leans.text_column.Statement.{statement}
+use Rattle.leaning.proofs.leans.text_column.Tie as tie
 
 returns : tie.Need-returns
 returns c = key-other _ _ (c .if1 .taken)
