@@ -32,7 +32,6 @@ use Rattle.curve_values.specs.OffCurve.{isOffCurve}
 use Rattle.curve_values.specs.Scale.{scaleOf, onScale}
 use Rattle.texts.specs.Texts as ranges
 use Rattle.engineering.specs.Engineering.{Engineered, value, asValue, asText, byCategory, engineered}
-use Rattle.refusal_places.proofs.GoodRows.{ownerOf}
 use Rattle.at_verdicts.specs.OutOfRange.{isOutOfRange}
 use Rattle.at_verdicts.specs.OffCurve.{ByItsCurve, OffItsCurve, OutOfItsRange}
 use Rattle.at_verdicts.proofs.NumberLaws.{numberIn, Numbered, never-one, one-then, then-refused, first-only}

@@ -34,6 +34,7 @@ use Rattle.verdicts.specs.Places.{entryAt}
 use Rattle.verdicts.proofs.EntryLaws.{row-of}
 use Rattle.verdicts.proofs.GoodLaw.{good-law}
 use Rattle.verdicts.proofs.KeyLaws.{same-key-self}
+use Rattle.verdicts.proofs.OwnerLaws.{ownerOf}
 use Rattle.database.specs.Rows.{Row}
 use Rattle.database.specs.GoodRows.{rowsIn, isGood, goodRows, tableOf, inGroup, among, ofTables}
 use Rattle.refusal_places.proofs.GoodRows.{holder-line}

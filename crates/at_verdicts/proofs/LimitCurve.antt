@@ -20,9 +20,9 @@ use Rattle.verdicts.specs.Facts.{anyRow, through, Naming, Facts, factsOf, pcfFa
 use Rattle.verdicts.specs.Entries.{Entry, facts, allRows}
 use Rattle.verdicts.specs.Steps.{holds, namesAt}
 use Rattle.verdicts.specs.Verdicts.{ofKind}
+use Rattle.verdicts.proofs.OwnerLaws.{ownerOf}
 use Rattle.database.specs.Rows.{Row}
 use Rattle.database.specs.GoodRows.{ofTables}
-use Rattle.refusal_places.proofs.GoodRows.{ownerOf}
 use Rattle.at_verdicts.proofs.GoodRows.{entryOf}
 use Rattle.at_verdicts.proofs.NamedRows.{Named, found-good, found-holds, named-row}
 use Rattle.at_verdicts.proofs.ParameterRows.{held-by, ocf-name}

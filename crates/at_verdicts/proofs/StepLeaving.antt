@@ -21,13 +21,14 @@ use Rattle.readings.specs.Readings.{validity}
 use Rattle.curve_values.specs.Scale.{Scale}
 use Rattle.limit_state.specs.declared.state.LimitState.{LimitState}
 use Rattle.occurrences.specs.Values.{occurrencesFrom, rawsOf, valuesOn, scaleUnder, valuesOf}
+use Rattle.occurrences.proofs.WholeLaws.{no-string}
 use Rattle.at_verdicts.specs.Fields.{isThere}
 use Rattle.at_verdicts.specs.Placed.{plfOf, pcfOf}
 use Rattle.at_verdicts.specs.Taken.{Taken}
 use Rattle.at_verdicts.specs.StepValues.{StepLeaves}
 use Rattle.at_verdicts.proofs.NumberLaws.{numberIn, never-one}
 use Rattle.at_verdicts.proofs.ParameterRows.{parameter-width, ocf-parameter}
-use Rattle.at_verdicts.proofs.StepNumbers.{no-string, on-numbers}
+use Rattle.at_verdicts.proofs.StepNumbers.{on-numbers}
 use Rattle.at_verdicts.proofs.StepTaken.{valuesIn}
 use Rattle.at_verdicts.proofs.ValueLaws.{integer-is, integer-refused}
 use Rattle.at_verdicts.proofs.FieldCases.{headed-short, raw-out, raw-here}

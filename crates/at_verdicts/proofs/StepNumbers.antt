@@ -51,12 +51,6 @@ time-numbers numbers x y s head =
 
 -- The values of a parameter of PTC 1-4
 
-pub no-string : (ptc : ℕ) → isWhole ptc ≡ true → isString ptc ≡ false
-unfolding isString
-no-string ptc w =
-    let high : ptc ≤ 4 = leb-true ptc 4 (and-right (leb 1 ptc) (leb ptc 4) w) in
-    or-none (ne-eqb ptc 7 (λ e. omega arith)) (ne-eqb ptc 8 (λ e. omega arith))
-
 integer-numbers : (p : List ℕ) (plf : PlfRow) (pcf : PcfRow) (n : ℕ) → widthOf (pcf .ptc) (pcf .pfc) ≡ some n → isWhole (pcf .ptc) ≡ true
     → (k : ℕ) → Numbered checking (andThen (rawOf p plf pcf k) integerIn)
 unfolding integerIn

@@ -2,6 +2,7 @@
 mod counts;
 mod order;
 
+use arrays::PLACES;
 use counts::say_counts;
 use files::arguments::LONGEST;
 use files::arguments::say_argument;
@@ -14,7 +15,6 @@ use kept::BYTES;
 use kept::HALVES;
 use kept::Keeping;
 use kept::LINKS;
-use kept::PLACES;
 use kept::WORDS;
 use kept::keep;
 use order::say_rows;
@@ -55,8 +55,8 @@ fn check_tables(tables: [&[u8]; TABLES]) {
     let mut bytes = [0u8; BYTES];
     match keep(tables, &mut symbols, &mut links, &mut halves, &mut bytes) {
         Keeping::Done(rows, _) => judge(tables, &halves, &bytes, rows),
-        Keeping::TooLong(table) => say_refused(1, table),
-        Keeping::TooManyRows(table) => say_refused(2, table),
+        Keeping::TooLong(table) => say_refused(1, table.0),
+        Keeping::TooManyRows(table) => say_refused(2, table.0),
         Keeping::NoRoom => say_refused(3, 0),
     }
 }

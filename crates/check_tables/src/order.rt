@@ -1,8 +1,8 @@
 // The rows that aren't good, a cause before what leans on it.
+use arrays::PLACES;
 use arrays::byte_at;
 use arrays::half_at;
 use arrays::put_byte;
-use kept::PLACES;
 use leaning::say_row;
 use lines::columns::keep_at;
 use pointing::Cause;
