@@ -51,7 +51,8 @@ module _ (m : Memory) (t : ℕ) (bytes : List ℕ) where
   unfolding added
   add-small h l = rw (lt-ltb t areaCount h, lt-ltb (length (m .space)) (t * partSize + partSize) l)
 
-  pub add-full : t < areaCount → t * partSize + partSize ≤ length (m .space) → t * partSize + partSize < getD (m .ends) t 0 + length bytes → unread m ≡ added m t bytes
+  pub add-full : t < areaCount → t * partSize + partSize ≤ length (m .space) → t * partSize + partSize < getD (m .ends) t 0 + length bytes
+      → unread m ≡ added m t bytes
   unfolding added
   add-full h l k =
       rw (lt-ltb t areaCount h, le-ltb (length (m .space)) (t * partSize + partSize) l, lt-ltb (t * partSize + partSize) (getD (m .ends) t 0 + length bytes) k)

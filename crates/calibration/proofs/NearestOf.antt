@@ -47,7 +47,8 @@ module _ (side : Side) (xs : List ℤ) (v : ℤ) (n : ℕ) where
         omega arith,
         h,
         more _
-            (λ k l m. false-of (nearer side (getD xs k (pos 0)) (getD xs n (pos 0))) (λ f. false≢true (sym (g .2 k l m) ∙ nearer-trans side (getD xs k (pos 0)) (getD xs n (pos 0)) (getD xs i (pos 0)) f e)))
+            (λ k l m. false-of (nearer side (getD xs k (pos 0)) (getD xs n (pos 0)))
+            (λ f. false≢true (sym (g .2 k l m) ∙ nearer-trans side (getD xs k (pos 0)) (getD xs n (pos 0)) (getD xs i (pos 0)) f e)))
             (λ _. nearer-irrefl side (getD xs n (pos 0))),
       ))
       (λ e. (omega (arith, g .0), g .1, more _ (g .2) (λ _. e)))
@@ -57,7 +58,8 @@ unfolding nearestOf better
 nearest side xs v zero = λ k h l. absurd (omega arith)
 nearest side xs v (suc n) =
     let g = nearest side xs v n in
-    cond-cases (Nearest side xs v (suc n)) (passes side v (getD xs n (pos 0))) (on side xs v n (nearestOf side xs v n) g) (off side xs v n (nearestOf side xs v n) g)
+    cond-cases (Nearest side xs v (suc n)) (passes side v (getD xs n (pos 0))) (on side xs v n (nearestOf side xs v n) g)
+    (off side xs v n (nearestOf side xs v n) g)
 
 module _ (xs : List ℤ) (v : ℤ) where
   pub not-above-nearest : Nearest NotAbove xs v (length xs) (notAbove xs v)

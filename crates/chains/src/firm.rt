@@ -81,7 +81,8 @@ fn is_firm(next: &[u16], firm: &[u8], depths: &mut [u16; PLACES], n: usize, i: u
 
 // Marks each of the first n rows whose chain ends within so many rows, each of them firm, with 1, the others with 0.
 pub fn mark_firm(next: &[u16], firm: &[u8], chains: &mut [u8], within: usize, n: usize)
-    ensures { λ _. ⌜ now (chains .exit) ≡ sets (now (chains .entry)) 0 (tabulate (λ i. flag (firmFrom (now (next .entry)) (now (firm .entry)) within i)) 0 n) ⌝ }
+    ensures { λ _. ⌜ now (chains .exit) ≡ sets (now (chains .entry)) 0
+        (tabulate (λ i. flag (firmFrom (now (next .entry)) (now (firm .entry)) within i)) 0 n) ⌝ }
 {
     let mut depths = [0u16; PLACES];
     let mut i: usize = 0;

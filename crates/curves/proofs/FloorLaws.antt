@@ -60,10 +60,12 @@ neg-floor (suc k) d h = ap (λ (n : ℕ). negℤ (pos n)) (ap (λ (n : ℕ). n /
 pub floor-exact : (z : ℤ) (d : ℕ) → 0 < d → floorDiv (z *ℤ pos d) d ≡ z
 unfolding floorDiv
 floor-exact (pos n) d h = ap pos (mul-div-cancel n h)
-floor-exact (negsuc n) d h = sym (neg-floor (suc n * d) d h) ∙ ap (λ (k : ℕ). negℤ (pos k)) (mul-add-div-right h (suc n) (d - 1) ∙ ap (λ (k : ℕ). suc n + k) (div-eq-of-lt {n = d - 1} {m = d} (omega arith)) ∙ add-zero (suc n))
+floor-exact (negsuc n) d h = sym (neg-floor (suc n * d) d h) ∙ ap (λ (k : ℕ). negℤ (pos k))
+    (mul-add-div-right h (suc n) (d - 1) ∙ ap (λ (k : ℕ). suc n + k) (div-eq-of-lt {n = d - 1} {m = d} (omega arith)) ∙ add-zero (suc n))
 
 -- a product of two integers divided, by their magnitudes
-pub floor-differ : (a b : ℤ) (m d : ℕ) → m ≡ natAbs a * natAbs b → 0 < d → (not (nonNeg a) ≡ not (nonNeg b) → ⊥) → negℤ (pos ((m + (d - 1)) / d)) ≡ floorDiv (a *ℤ b) d
+pub floor-differ : (a b : ℤ) (m d : ℕ) → m ≡ natAbs a * natAbs b → 0 < d → (not (nonNeg a) ≡ not (nonNeg b) → ⊥) → negℤ (pos ((m + (d - 1)) / d)) ≡ floorDiv
+    (a *ℤ b) d
 floor-differ (pos a) (pos b) m d e h n = absurd (n refl)
 floor-differ (pos a) (negsuc b) m d e h n = ap (λ (k : ℕ). negℤ (pos ((k + (d - 1)) / d))) e ∙ neg-floor (a * suc b) d h
 floor-differ (negsuc a) (pos b) m d e h n = ap (λ (k : ℕ). negℤ (pos ((k + (d - 1)) / d))) e ∙ neg-floor (suc a * b) d h

@@ -72,7 +72,8 @@ distance (negsuc a) (negsuc b) e = let h = ltb-true b a e in simp (le-ltb (suc a
 pub gap-fits : (a b : ℤ) → natAbs a ≤ 2 ^ 32 → natAbs b ≤ 2 ^ 32 → SFits w64 (toZ w64 (ofZ w64 a) -ℤ toZ w64 (ofZ w64 b))
 gap-fits a b h k = rw (through a (omega arith), through b (omega arith)) (fits-size (a -ℤ b) (omega (arith, size-minus a b)))
 
-pub gap-is : (a b : ℤ) {r : ℤ} → natAbs a ≤ 2 ^ 32 → natAbs b ≤ 2 ^ 32 → mag r < 2 ^ 63 → r ≡ toZ w64 (ofZ w64 a) -ℤ toZ w64 (ofZ w64 b) → toZ w64 (ofZ w64 r) ≡ a -ℤ b
+pub gap-is : (a b : ℤ) {r : ℤ} → natAbs a ≤ 2 ^ 32 → natAbs b ≤ 2 ^ 32 → mag r < 2 ^ 63 → r ≡ toZ w64 (ofZ w64 a) -ℤ toZ w64 (ofZ w64 b) → toZ w64
+    (ofZ w64 r) ≡ a -ℤ b
 gap-is a b h k f e = kept f (e ∙ ap₂ _-ℤ_ (through a (omega arith)) (through b (omega arith)))
 
 -- two tests that differ, and two that don't

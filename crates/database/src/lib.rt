@@ -116,7 +116,8 @@ pub fn list_members(
     group: Symbol,
     places: &mut [usize; MOST_MEMBERS],
 ) -> usize
-    ensures { λ r. ⌜ r ≡ length (placesFrom (now (columns .entry)) (keyed (now (words .entry)) (now (links .entry)) (now (columns .entry)) firstColumn group)) ⌝ }
+    ensures { λ r. ⌜ r ≡ length (placesFrom (now (columns .entry))
+        (keyed (now (words .entry)) (now (links .entry)) (now (columns .entry)) firstColumn group)) ⌝ }
     ensures { λ _. ⌜ now (places .exit) ≡ sets (now (places .entry)) 0
         (placesFrom (now (columns .entry)) (keyed (now (words .entry)) (now (links .entry)) (now (columns .entry)) firstColumn group)) ⌝ }
     ensures { λ r. ⌜ r ≤ 1024 ⌝ }

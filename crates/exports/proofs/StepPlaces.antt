@@ -12,7 +12,8 @@ use Rattle.refusal_places.proofs.SmallLaws.{no-place}
 use Rattle.refusal_places.proofs.CallPlaces.{asking-small, step-of-small}
 use Rattle.offered_step.specs.OfferedStep.{noState, limitStepFrom}
 
-pub step-from-small : (texts : List (List ℕ)) → length texts ≡ tableCount → (p name : List ℕ) (offered : Option LimitState) → Small (limitStepFrom texts p name offered)
+pub step-from-small : (texts : List (List ℕ)) → length texts ≡ tableCount → (p name : List ℕ) (offered : Option LimitState) → Small
+    (limitStepFrom texts p name offered)
 unfolding limitStepFrom noState
 step-from-small texts all p name none = asking-small texts all (λ rows. refused 34 0) (λ rows ranges. no-place 34)
 step-from-small texts all p name (some s) = step-of-small texts all p name s

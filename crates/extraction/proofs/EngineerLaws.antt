@@ -41,11 +41,13 @@ module _ (rows : Rows) (name : Name) (z : ℤ) where
 
 -- by the kind of the raw value
 module _ (rows : Rows) (name : Name) {raw : code.Value} where
-  pub raw-number : (z : ℤ) → raw ≡ value.Number z → {w : ℤ} {o : Outcome Engineered} → o ≡ ofValue rows name (number w) → w ≡ z → o ≡ ofValue rows name (valueOf raw)
+  pub raw-number : (z : ℤ) → raw ≡ value.Number z → {w : ℤ} {o : Outcome Engineered} → o ≡ ofValue rows name (number w) → w ≡ z → o ≡ ofValue rows name
+      (valueOf raw)
   unfolding valueOf
   raw-number z e h v = rw e (rw v at h)
 
-  pub raw-part : (from : ByteOffset) (bytes : ℕ) → raw ≡ value.Part from bytes → saidEngineered (is.Is (value.Part from bytes)) ≡ ofValue rows name (valueOf raw)
+  pub raw-part : (from : ByteOffset) (bytes : ℕ) → raw ≡ value.Part from bytes → saidEngineered (is.Is (value.Part from bytes)) ≡ ofValue rows name
+      (valueOf raw)
   unfolding valueOf ofValue saidEngineered
   raw-part from bytes e = rw e
 

@@ -65,7 +65,8 @@ pub fn engineer_in(
     name: &[u8],
     occurrence: usize,
 ) -> Engineered
-    ensures { λ r. ⌜ saidEngineered r ≡ engineerBy (answers (database (map now (tables .entry)) (now (words .entry)) (now (links .entry)) (now (columns .entry))))
+    ensures { λ r. ⌜ saidEngineered r ≡ engineerBy (answers (database (map now (tables .entry)) (now (words .entry)) (now (links .entry))
+        (now (columns .entry))))
         (now (p .entry)) (now (name .entry)) occurrence ⌝ }
 {
     match extract_in(tables, words, links, columns, p, name, occurrence) {

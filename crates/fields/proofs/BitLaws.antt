@@ -26,7 +26,14 @@ unfolding numberAt
 number-add p at n zero = simp (add-zero, pow-zero, mul-one)
 number-add p at n (suc m) =
     rw (add-suc)
-    (omega (arith, number-add p at n m, ap (bitAt p) (add-assoc at n m), ap (λ (x : ℕ). numberAt p at n * x) (pow-suc 2 m), mul-assoc (numberAt p at n) (2 ^ m) 2))
+    (omega (
+      arith,
+      number-add p at n m,
+      ap (bitAt p) (add-assoc at n m),
+      ap (λ (x : ℕ). numberAt p at n * x) (pow-suc 2 m),
+      mul-assoc (numberAt p at n)
+          (2 ^ m) 2,
+    ))
 
 -- m bits of the byte k, after its first l
 pub number-byte : (p : List ℕ) (k l m : ℕ) → l + m ≤ 8 → numberAt p (k * 8 + l) m ≡ getD p k 0 / 2 ^ (8 - (l + m)) % 2 ^ m

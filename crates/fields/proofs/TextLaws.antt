@@ -84,7 +84,8 @@ pub part-at : (p : List ℕ) (from n i : ℕ) → from + n ≤ length p → i < 
 part-at p from n i h k = rw (← part-in p from n h) (rw (getD-take, getD-drop))
 
 -- a part depends on the number of bytes and on its own bytes alone
-pub part-same : (p q : List ℕ) (from n : ℕ) → length p ≡ length q → ((i : ℕ) → i < n → getD p (from + i) 0 ≡ getD q (from + i) 0) → partAt p from n ≡ partAt q from n
+pub part-same : (p q : List ℕ) (from n : ℕ) → length p ≡ length q → ((i : ℕ) → i < n → getD p (from + i) 0 ≡ getD q (from + i) 0)
+    → partAt p from n ≡ partAt q from n
 part-same p q from n e h =
     bool-cases (leb (from + n) (length p))
     (λ t. let k = leb-is t in

@@ -54,7 +54,8 @@ ends-length s [] = refl
 ends-length s (g ∷ gots) = ap suc (ends-length (suc s) gots)
 
 -- the ends of the tables so far stand before zeros
-module _ (t : ℕ) (gots : List Got) (count : length gots ≡ t) (below : t < tableCount) (ends : List ℕ) (sofar : ends ≡ endsBy 0 gots ++ replicate (tableCount - t) 0) where
+module _ (t : ℕ) (gots : List Got) (count : length gots ≡ t) (below : t < tableCount) (ends : List ℕ)
+    (sofar : ends ≡ endsBy 0 gots ++ replicate (tableCount - t) 0) where
   one-left : ends ≡ endsBy 0 gots ++ 0 ∷ replicate (tableCount - (t + 1)) 0
   one-left =
       let m : tableCount - t ≡ suc (tableCount - (t + 1)) = omega arith in
@@ -174,7 +175,8 @@ module _ {loaded : Loaded} {before after : List ℕ} (l : LoadedInto loaded befo
   apart = record { own = λ t. subst (In t) (sym (end-is t)) (by-in t (answerFor (l .answers) t)) }
 
   -- a table is the bytes that were read, at the start of its part
-  pub table-is : (t count : ℕ) → t < tableCount → answerFor (l .answers) t ≡ Bytes count → tableIn after (loaded .ends) t ≡ take count (drop (t * partSize) after)
+  pub table-is : (t count : ℕ) → t < tableCount → answerFor (l .answers) t ≡ Bytes count → tableIn after (loaded .ends) t ≡ take count
+      (drop (t * partSize) after)
   unfolding tableIn
   table-is t count h is =
       let few : count ≤ partSize = subst (λ (g : Got). Within g partSize) is (l .within t) in

@@ -47,7 +47,8 @@ module _ (t : ℕ) (got : Got) (space part : List ℕ) (below : t < tableCount) 
         within = within-part got (midOf a (a + partSize - a) space) part partSize (omega arith) r;
         room = λ no. absurd (false≢true (sym no ∙ has-room));
         missing =
-            λ m. ap (λ (l : List ℕ). putMid (t * partSize) (t * partSize + partSize - t * partSize) space l) (as-it-was got (midOf a (a + partSize - a) space) part r m)
+            λ m. ap (λ (l : List ℕ). putMid (t * partSize) (t * partSize + partSize - t * partSize) space l)
+            (as-it-was got (midOf a (a + partSize - a) space) part r m)
             ∙ put-same a (a + partSize - a) space;
         front = take-put a (a + partSize - a) space part (omega arith);
         rest = drop-put a (a + partSize) space part (omega arith) fits size;
@@ -59,7 +60,8 @@ module _ (t : ℕ) {got : Got} {before after : List ℕ} (into : TableInto t got
   ahead h k l =
       let i = u * partSize + k in
       let below : u * partSize + k < t * partSize = omega arith in
-      sym (getD-take (t * partSize) after i 0 below) ∙ ap (λ (s : List ℕ). getD s (u * partSize + k) 0) (into .front) ∙ getD-take (t * partSize) before i 0 below
+      sym (getD-take (t * partSize) after i 0 below) ∙ ap (λ (s : List ℕ). getD s (u * partSize + k) 0) (into .front) ∙ getD-take
+      (t * partSize) before i 0 below
 
   behind : t < u → SamePart before after u
   behind h k l =

@@ -64,7 +64,8 @@ pub fn count_rows(
     counts: &mut [u16],
     n: usize,
 )
-    ensures { λ _. ⌜ now (counts .exit) ≡ sets (now (counts .entry)) 0 (tabulate (λ i. countOf (getD (now (columns .entry)) i 0) (getD (now (numbers .entry)) i 0) (under (now (tallies .entry)) (now (keys .entry)) i)) 0 n) ⌝ }
+    ensures { λ _. ⌜ now (counts .exit) ≡ sets (now (counts .entry)) 0
+        (tabulate (λ i. countOf (getD (now (columns .entry)) i 0) (getD (now (numbers .entry)) i 0) (under (now (tallies .entry)) (now (keys .entry)) i)) 0 n) ⌝ }
 {
     let mut i: usize = 0;
     while i < n {

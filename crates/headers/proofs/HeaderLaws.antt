@@ -82,7 +82,8 @@ module _ (p : List ℕ) where
         unfolding headOf
         refused-data f n = rw (le-ltb _ _ g, le-ltb _ _ h, clear .0, clear .1, eq-eqb _ _ l, f, lt-ltb _ _ n)
 
-        pub heading-is : (b : Bool) (a n : ℕ) → b ≡ flagged p → a ≡ apid p → n ≡ sequenceCount p → (b ≡ false) ⊎ ((b ≡ true) × (9 ≤ length p)) → told b a n ≡ headOf p
+        pub heading-is : (b : Bool) (a n : ℕ) → b ≡ flagged p → a ≡ apid p → n ≡ sequenceCount p → (b ≡ false) ⊎ ((b ≡ true) × (9 ≤ length p))
+            → told b a n ≡ headOf p
         unfolding headOf
         heading-is b a n f i c w =
             rw (le-ltb _ _ g, le-ltb _ _ h, clear .0, clear .1, eq-eqb _ _ l, ← f, ← i, ← c)

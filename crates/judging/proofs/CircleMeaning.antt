@@ -71,11 +71,13 @@ module _ (rows : List Entry) (w : Arrays) (layer : ℕ → ℕ) (v : Resolved ro
       nothing : chainOf ≡ noRow → next rows (rowAt rows i) ≡ [] → NextIs
       row : (j : ℕ) → j < length rows → sound rows (rowAt rows j) ≡ true → chainOf ≡ j → next rows (rowAt rows i) ≡ rowAt rows j ∷ [] → NextIs
 
-    none-next : ((j : ℕ) → j < length rows → follows (rowAt rows i) (rowAt rows j) ≡ true → sound rows (rowAt rows j) ≡ true → ⊥) → next rows (rowAt rows i) ≡ []
+    none-next : ((j : ℕ) → j < length rows → follows (rowAt rows i) (rowAt rows j) ≡ true → sound rows (rowAt rows j) ≡ true → ⊥) → next rows
+        (rowAt rows i) ≡ []
     unfolding next
     none-next h =
         keep-none noEntry (λ o. follows (rowAt rows i) o && sound rows o) rows
-        (λ j q. bool-cases (follows (rowAt rows i) (rowAt rows j) && sound rows (rowAt rows j)) (λ t. absurd (h j q (and-left _ _ t) (and-right (follows (rowAt rows i) (rowAt rows j)) _ t))) (λ t. t))
+        (λ j q. bool-cases (follows (rowAt rows i) (rowAt rows j) && sound rows (rowAt rows j))
+        (λ t. absurd (h j q (and-left _ _ t) (and-right (follows (rowAt rows i) (rowAt rows j)) _ t))) (λ t. t))
 
     unlinked : mannerAt (code1 w i) .chained ≡ false → chainOf ≡ noRow
     unfolding nextOf
@@ -122,7 +124,9 @@ module _ (rows : List Entry) (w : Arrays) (layer : ℕ → ℕ) (v : Resolved ro
         or-none false = refl
 
         go : (x : Named rows (code1 w i) (row1 w i)) → v .named i p formed .one ≡ x → NextIs
-        go (absent e) q = nothing (unlinked (no-code (code1 w i) e)) (none-next (λ j b g s. false≢true (sym (follows-one (rowAt rows j) ∙ ap (λ y. any (λ n. holds (rowAt rows j) (n .key) && n .chained) (namesIn y)) q) ∙ g)))
+        go (absent e) q = nothing (unlinked (no-code (code1 w i) e))
+            (none-next (λ j b g s. false≢true (sym (follows-one (rowAt rows j) ∙ ap
+            (λ y. any (λ n. holds (rowAt rows j) (n .key) && n .chained) (namesIn y)) q) ∙ g)))
         go (present n e r) q = by (mannerAt (code1 w i) .chained) refl
           where
             here : (o : Entry) → follows (rowAt rows i) o ≡ ((holds o (n .key) && n .chained) || false)
@@ -130,7 +134,8 @@ module _ (rows : List Entry) (w : Arrays) (layer : ℕ → ℕ) (v : Resolved ro
 
             by : (b : Bool) → mannerAt (code1 w i) .chained ≡ b → NextIs
             by true c = linked n r c (λ o. here o ∙ rw (r .chained, c) (or-none (holds o (n .key))))
-            by false c = nothing (unlinked c) (none-next (λ j b g s. false≢true (sym (here (rowAt rows j) ∙ rw (r .chained, c) (never (holds (rowAt rows j) (n .key)))) ∙ g)))
+            by false c = nothing (unlinked c) (none-next (λ j b g s. false≢true
+                (sym (here (rowAt rows j) ∙ rw (r .chained, c) (never (holds (rowAt rows j) (n .key)))) ∙ g)))
               where
                 never : (b : Bool) → ((b && false) || false) ≡ false
                 never true = refl
@@ -138,7 +143,8 @@ module _ (rows : List Entry) (w : Arrays) (layer : ℕ → ℕ) (v : Resolved ro
 
   -- a chain as the arrays lead it
   module _ (nexts : List ℕ) (are : (i : ℕ) → i < length rows → getD nexts i noRow ≡ nextOf (w .sound) (code1 w i) (row1 w i)) where
-    pub comes-is : (n i z : ℕ) → i < length rows → own (rowAt rows i .reading) ≡ 0 → z < length rows → leads n rows (rowAt rows i) (rowAt rows z) ≡ comesTo nexts z n i
+    pub comes-is : (n i z : ℕ) → i < length rows → own (rowAt rows i .reading) ≡ 0 → z < length rows → leads n rows (rowAt rows i)
+        (rowAt rows z) ≡ comesTo nexts z n i
     unfolding leads comesTo
     comes-is zero i z p e q = refl
     comes-is (suc n) i z p e q = rw (are i p) (go (next-is i p e) (λ j b s. comes-is n j z b (sound-formed rows (rowAt rows j) s) q))
@@ -156,7 +162,8 @@ module _ (rows : List Entry) (w : Arrays) (layer : ℕ → ℕ) (v : Resolved ro
 
         go : NextIs i p e → ((j : ℕ) → j < length rows → sound rows (rowAt rows j) ≡ true → leads n rows (rowAt rows j) (rowAt rows z) ≡ comesTo nexts z n j)
             → any (λ o. twin o (rowAt rows z) || leads n rows o (rowAt rows z)) (next rows (rowAt rows i))
-            ≡ cond (eqb (nextOf (w .sound) (code1 w i) (row1 w i)) noRow) false (cond (eqb (nextOf (w .sound) (code1 w i) (row1 w i)) z) true (comesTo nexts z n (nextOf (w .sound) (code1 w i) (row1 w i))))
+            ≡ cond (eqb (nextOf (w .sound) (code1 w i) (row1 w i)) noRow) false
+            (cond (eqb (nextOf (w .sound) (code1 w i) (row1 w i)) z) true (comesTo nexts z n (nextOf (w .sound) (code1 w i) (row1 w i))))
         go (nothing a b) ih = rw (a, b)
         go (row j l s a b) ih = rw (a, b, ne-eqb j noRow (omega (arith, v .few)), twin-place j l) (choose (eqb j z) (ih j l s))
 

@@ -121,7 +121,8 @@ module _ (rows : List Entry) (w : Arrays) (layer : ℕ → ℕ) (v : Resolved ro
       ends : mannerAt (code1 w i) .chained ≡ false → getD next i noRow ≡ noRow → Link i
       broken : mannerAt (code1 w i) .chained ≡ true → (code1 w i ≡ 0 → ⊥) → getD next i noRow ≡ noRow
           → ((n : Naming) → Answers rows n (code1 w i) (row1 w i) → NeverMet n) → Link i
-      on : mannerAt (code1 w i) .chained ≡ true → (code1 w i ≡ 0 → ⊥) → getD next i noRow ≡ row1 w i → (row1 w i ≡ noRow → ⊥) → row1 w i < length rows → layer (row1 w i) ≡ 1 → Link i
+      on : mannerAt (code1 w i) .chained ≡ true → (code1 w i ≡ 0 → ⊥) → getD next i noRow ≡ row1 w i → (row1 w i ≡ noRow → ⊥) → row1 w i < length rows
+          → layer (row1 w i) ≡ 1 → Link i
 
     some-code : (c : ℕ) → mannerAt c .chained ≡ true → c ≡ 0 → ⊥
     some-code c t e = false≢true (sym (no-code c e) ∙ t)
@@ -268,7 +269,12 @@ module _ (rows : List Entry) (w : Arrays) (layer : ℕ → ℕ) (v : Resolved ro
             → (eqb (getD firm i 0) 1 && rest n i) ≡ true
         first-good b two (ends c q) x k ih =
             let up : (o : Entry) → goodIn rows n o ≡ true → isGood rows o ≡ true = within-good n (omega arith) in
-            and-both (from-firm i p (record { base = b; link = rw c (first-clean i p e c x ∙ eq-eqb _ 0 (cell-up (goodIn rows n) (isGood rows) up x k)); second = two })) (rw q)
+            and-both (from-firm i p (record {
+              base = b;
+              link = rw c
+                  (first-clean i p e c x ∙ eq-eqb _ 0 (cell-up (goodIn rows n) (isGood rows) up x k));
+              second = two;
+            })) (rw q)
         first-good b two (broken c z q f) (absent a) k ih = absurd (z a)
         first-good b two (broken c z q f) (present m a r) k ih =
             absurd (false≢true (sym (f m r (goodIn rows n) (within-good n (omega arith))) ∙ unless-zero _ (verdictOf 11 (m .column)) (omega arith) k))
@@ -295,7 +301,8 @@ module _ (rows : List Entry) (w : Arrays) (layer : ℕ → ℕ) (v : Resolved ro
         let c = v .layers .quiet i p e in
         let u : mannerAt (code1 w i) .chained ≡ false = no-code (code1 w i) (c .0) in
         let q : getD next i noRow ≡ noRow = nexts i p ∙ rw u in
-        alone-firm longest i (omega arith) q ∙ firm-says i p ∙ rw (u, eq-eqb (code1 w i) 0 (c .0), eq-eqb (code2 w i) 0 (c .1)) (and-all (eqb (baseIn rows (rowAt rows i)) 0)) ∙ quiet-good i p (c .0) (c .1)
+        alone-firm longest i (omega arith) q ∙ firm-says i p ∙ rw (u, eq-eqb (code1 w i) 0 (c .0), eq-eqb (code2 w i) 0 (c .1))
+        (and-all (eqb (baseIn rows (rowAt rows i)) 0)) ∙ quiet-good i p (c .0) (c .1)
       where
         and-all : (b : Bool) → (b && true) ≡ b
         and-all true = refl

@@ -69,7 +69,8 @@ module _ (rows : List Entry) (w : Arrays) (layer : ℕ → ℕ) (v : Resolved ro
   by-marks : (most : ℕ) (g : List ℕ) → Says rows w layer v most g → 1 ≤ most → (i : ℕ) → i < n → layer i ≤ most + 1
       → finalAt kinds bases (w .codes1) (w .found1) (w .codes2) (w .found2) g i ≡ verdict rows (rowAt rows i)
   by-marks most g says some i p l =
-      final-is rows w layer v most g says i p (λ c f. low (mannerAt (code1 w i) .chained) refl c f) (λ c f. omega (arith, v .layers .below2 i p c f)) (getD bases i 0) (bases-are i p)
+      final-is rows w layer v most g says i p (λ c f. low (mannerAt (code1 w i) .chained) refl c f) (λ c f. omega (arith, v .layers .below2 i p c f))
+      (getD bases i 0) (bases-are i p)
     where
       low : (b : Bool) → mannerAt (code1 w i) .chained ≡ b → (code1 w i ≡ 0 → ⊥) → (row1 w i ≡ noRow → ⊥) → layer (row1 w i) ≤ most
       low true t c f = omega (arith, v .layers .along i p t .1 f)

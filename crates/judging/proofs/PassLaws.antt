@@ -21,7 +21,8 @@ bases-law own sound counts next before n circles base c b = rw (← c) b
 -- an array filled from the front
 pub filled-at : (fill : ℕ) (f : ℕ → ℕ) (n i d : ℕ) → n ≤ mostPlaces → i < n → getD (filled fill f n) i d ≡ f i
 filled-at fill f n i d few h =
-    any-default (filled fill f n) i d 0 (rw (length-sets, length-replicate) (omega arith)) ∙ written-at f (replicate mostPlaces fill) n (rw length-replicate few) i h
+    any-default (filled fill f n) i d 0 (rw (length-sets, length-replicate) (omega arith)) ∙ written-at f (replicate mostPlaces fill) n
+    (rw length-replicate few) i h
 
 module _ (kinds base codes1 found1 codes2 found2 next : List ℕ) (n : ℕ) (before : List ℕ) where
   pub chained-law : (clean firm chained : List ℕ)

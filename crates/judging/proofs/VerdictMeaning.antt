@@ -40,17 +40,20 @@ baseIn rows e =
     (orElse (first (map (countCell rows) (facts e .counts)))
     (cond (circle rows e) (verdictOf 12 8) 0)))
 
-judge-split : (rows : List Entry) (good : Entry → Bool) (e : Entry) → judge rows good e ≡ orElse (baseIn rows e) (first (map (nameCell rows good) (facts e .names)))
+judge-split : (rows : List Entry) (good : Entry → Bool) (e : Entry) → judge rows good e ≡ orElse (baseIn rows e)
+    (first (map (nameCell rows good) (facts e .names)))
 unfolding judge
 judge-split rows good e =
     sym
     (or-else-assoc (own (e .reading)) _ _
-    ∙ ap (orElse (own (e .reading))) (or-else-assoc (cond (shared rows e) (verdictOf 9 0) 0) _ _ ∙ ap (orElse (cond (shared rows e) (verdictOf 9 0) 0)) (or-else-assoc (first (map (countCell rows) (facts e .counts))) _ _)))
+    ∙ ap (orElse (own (e .reading))) (or-else-assoc (cond (shared rows e) (verdictOf 9 0) 0) _ _ ∙ ap (orElse (cond (shared rows e) (verdictOf 9 0) 0))
+    (or-else-assoc (first (map (countCell rows) (facts e .counts))) _ _)))
 
 pub verdict-split : (rows : List Entry) (e : Entry) → verdict rows e ≡ orElse (baseIn rows e) (first (map (nameCell rows (isGood rows)) (facts e .names)))
 verdict-split rows e = verdict-law rows e ∙ judge-split rows (isGood rows) e
 
-pub judge-zero : (rows : List Entry) (good : Entry → Bool) (e : Entry) → judge rows good e ≡ 0 → (baseIn rows e ≡ 0) × (first (map (nameCell rows good) (facts e .names)) ≡ 0)
+pub judge-zero : (rows : List Entry) (good : Entry → Bool) (e : Entry) → judge rows good e ≡ 0 → (baseIn rows e ≡ 0) ×
+    (first (map (nameCell rows good) (facts e .names)) ≡ 0)
 judge-zero rows good e z = or-else-zero (baseIn rows e) _ (sym (judge-split rows good e) ∙ z)
 
 -- without reasons a row is sound
@@ -83,8 +86,10 @@ module _ (rows : List Entry) (w : Arrays) (layer : ℕ → ℕ) (v : Resolved ro
       nine false r = refl
 
       go : (k : ℕ) → own (rowAt rows i .reading) ≡ k
-          → orElse k (orElse (cond (eqb (flag (sound rows (rowAt rows i))) 1) 0 (verdictOf 9 0)) (orElse (getD (w .counts) i 0) (cond (comesTo nexts i (length rows) i) (verdictOf 12 8) 0)))
-          ≡ orElse k (orElse (cond (shared rows (rowAt rows i)) (verdictOf 9 0) 0) (orElse (first (map (countCell rows) (facts (rowAt rows i) .counts))) (cond (circle rows (rowAt rows i)) (verdictOf 12 8) 0)))
+          → orElse k (orElse (cond (eqb (flag (sound rows (rowAt rows i))) 1) 0 (verdictOf 9 0))
+          (orElse (getD (w .counts) i 0) (cond (comesTo nexts i (length rows) i) (verdictOf 12 8) 0)))
+          ≡ orElse k (orElse (cond (shared rows (rowAt rows i)) (verdictOf 9 0) 0)
+          (orElse (first (map (countCell rows) (facts (rowAt rows i) .counts))) (cond (circle rows (rowAt rows i)) (verdictOf 12 8) 0)))
       go zero e = rw (sound-unshared rows (rowAt rows i) e, v .counted i p e, circle-is rows w layer v nexts are i p e) (nine (shared rows (rowAt rows i)) _)
       go (suc k) e = refl
 

@@ -32,7 +32,8 @@ fn next_of(sound: &[u8], code: u8, found: u16) -> u16
 
 // The next rows of the first n rows.
 pub(crate) fn next_rows(sound: &[u8], codes: &[u8], found: &[u16], next: &mut [u16], n: usize)
-    ensures { λ _. ⌜ now (next .exit) ≡ sets (now (next .entry)) 0 (tabulate (λ i. nextOf (now (sound .entry)) (getD (now (codes .entry)) i 0) (getD (now (found .entry)) i noRow)) 0 n) ⌝ }
+    ensures { λ _. ⌜ now (next .exit) ≡ sets (now (next .entry)) 0
+        (tabulate (λ i. nextOf (now (sound .entry)) (getD (now (codes .entry)) i 0) (getD (now (found .entry)) i noRow)) 0 n) ⌝ }
 {
     let mut i: usize = 0;
     while i < n {
@@ -69,7 +70,9 @@ pub(crate) fn base_rows(
     base: &mut [u16],
     n: usize,
 )
-    ensures { λ _. ⌜ now (base .exit) ≡ sets (now (base .entry)) 0 (tabulate (λ i. baseOf (getD (now (own .entry)) i 0) (getD (now (sound .entry)) i 0) (getD (now (counts .entry)) i 0) (getD (now (circles .entry)) i 0)) 0 n) ⌝ }
+    ensures { λ _. ⌜ now (base .exit) ≡ sets (now (base .entry)) 0
+        (tabulate (λ i. baseOf (getD (now (own .entry)) i 0) (getD (now (sound .entry)) i 0) (getD (now (counts .entry)) i 0)
+        (getD (now (circles .entry)) i 0)) 0 n) ⌝ }
 {
     let mut i: usize = 0;
     while i < n {

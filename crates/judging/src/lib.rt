@@ -22,7 +22,9 @@ const LONGEST: usize = PLACES + 1;
 
 // Reasons 1 to 10 and 12 of the first n rows, by the next row of each.
 fn judge_bases(own: &[u16], sound: &[u8], counts: &[u16], next: &[u16], base: &mut [u16], n: usize)
-    ensures { λ _. ⌜ now (base .exit) ≡ sets (now (base .entry)) 0 (tabulate (λ i. baseOf (getD (now (own .entry)) i 0) (getD (now (sound .entry)) i 0) (getD (now (counts .entry)) i 0) (getD (circlesOf (now (next .entry)) n) i 0)) 0 n) ⌝ }
+    ensures { λ _. ⌜ now (base .exit) ≡ sets (now (base .entry)) 0
+        (tabulate (λ i. baseOf (getD (now (own .entry)) i 0) (getD (now (sound .entry)) i 0) (getD (now (counts .entry)) i 0)
+        (getD (circlesOf (now (next .entry)) n) i 0)) 0 n) ⌝ }
 {
     let mut circles = [0u8; PLACES];
     mark_circles(next, &mut circles, n);
@@ -41,7 +43,9 @@ fn chained_rows(
     chained: &mut [u8],
     n: usize,
 )
-    ensures { λ _. ⌜ now (chained .exit) ≡ sets (now (chained .entry)) 0 (tabulate (chainedAt (now (kinds .entry)) (now (base .entry)) (now (codes1 .entry)) (now (found1 .entry)) (now (codes2 .entry)) (now (found2 .entry)) (now (next .entry)) n) 0 n) ⌝ }
+    ensures { λ _. ⌜ now (chained .exit) ≡ sets (now (chained .entry)) 0
+        (tabulate (chainedAt (now (kinds .entry)) (now (base .entry)) (now (codes1 .entry)) (now (found1 .entry)) (now (codes2 .entry)) (now (found2 .entry))
+        (now (next .entry)) n) 0 n) ⌝ }
 {
     let mut clean = [0u8; PLACES];
     let mut firm = [0u8; PLACES];
@@ -73,7 +77,9 @@ fn good_rows(
     good: &mut [u8],
     n: usize,
 )
-    ensures { λ _. ⌜ now (good .exit) ≡ sets (now (good .entry)) 0 (tabulate (goodAt (now (kinds .entry)) (now (base .entry)) (now (codes1 .entry)) (now (found1 .entry)) (now (codes2 .entry)) (now (found2 .entry)) (now (next .entry)) n) 0 n) ⌝ }
+    ensures { λ _. ⌜ now (good .exit) ≡ sets (now (good .entry)) 0
+        (tabulate (goodAt (now (kinds .entry)) (now (base .entry)) (now (codes1 .entry)) (now (found1 .entry)) (now (codes2 .entry)) (now (found2 .entry))
+        (now (next .entry)) n) 0 n) ⌝ }
 {
     let mut chained = [0u8; PLACES];
     let mut cells = [0u16; PLACES];
@@ -114,7 +120,9 @@ fn judge_names(
     cells: &mut [u16],
     n: usize,
 )
-    ensures { λ _. ⌜ now (cells .exit) ≡ sets (now (cells .entry)) 0 (tabulate (cellAt (now (kinds .entry)) (now (base .entry)) (now (codes1 .entry)) (now (found1 .entry)) (now (codes2 .entry)) (now (found2 .entry)) (now (next .entry)) n) 0 n) ⌝ }
+    ensures { λ _. ⌜ now (cells .exit) ≡ sets (now (cells .entry)) 0
+        (tabulate (cellAt (now (kinds .entry)) (now (base .entry)) (now (codes1 .entry)) (now (found1 .entry)) (now (codes2 .entry)) (now (found2 .entry))
+        (now (next .entry)) n) 0 n) ⌝ }
 {
     let mut good = [0u8; PLACES];
     good_rows(
@@ -144,7 +152,9 @@ fn judge_kinds(
     cells: &mut [u16],
     n: usize,
 )
-    ensures { λ _. ⌜ now (cells .exit) ≡ sets (now (cells .entry)) 0 (cellsBy (now (own .entry)) (now (sound .entry)) (now (counts .entry)) (now (codes1 .entry)) (now (found1 .entry)) (now (codes2 .entry)) (now (found2 .entry)) n (now (kinds .entry))) ⌝ }
+    ensures { λ _. ⌜ now (cells .exit) ≡ sets (now (cells .entry)) 0
+        (cellsBy (now (own .entry)) (now (sound .entry)) (now (counts .entry)) (now (codes1 .entry)) (now (found1 .entry)) (now (codes2 .entry))
+        (now (found2 .entry)) n (now (kinds .entry))) ⌝ }
 {
     let mut next = [NO_ROW; PLACES];
     let mut base = [0u16; PLACES];
@@ -177,7 +187,9 @@ pub fn judge_rows(
     cells: &mut [u16],
     n: usize,
 )
-    ensures { λ _. ⌜ now (cells .exit) ≡ sets (now (cells .entry)) 0 (cellRows (now (own .entry)) (now (sound .entry)) (now (counts .entry)) (now (codes1 .entry)) (now (found1 .entry)) (now (codes2 .entry)) (now (found2 .entry)) (now (marks .entry)) n) ⌝ }
+    ensures { λ _. ⌜ now (cells .exit) ≡ sets (now (cells .entry)) 0
+        (cellRows (now (own .entry)) (now (sound .entry)) (now (counts .entry)) (now (codes1 .entry)) (now (found1 .entry)) (now (codes2 .entry))
+        (now (found2 .entry)) (now (marks .entry)) n) ⌝ }
 {
     let mut kinds = [0u8; PLACES];
     kind_rows(marks, codes1, found1, codes2, found2, &mut kinds, n);

@@ -20,7 +20,8 @@ pub sizes-taken : (texts : List (List ℕ)) → sizesOf texts ≡ fit → (tooLo
 unfolding sizesOf
 sizes-taken texts e = go (eqb (tooLong texts) 0) (eqb (tooManyRows texts) 0) refl refl e
   where
-    go : (a b : Bool) → eqb (tooLong texts) 0 ≡ a → eqb (tooManyRows texts) 0 ≡ b → cond a (cond b fit (refusedBy 2 (tooManyRows texts))) (refusedBy 1 (tooLong texts)) ≡ fit
+    go : (a b : Bool) → eqb (tooLong texts) 0 ≡ a → eqb (tooManyRows texts) 0 ≡ b → cond a (cond b fit (refusedBy 2 (tooManyRows texts)))
+        (refusedBy 1 (tooLong texts)) ≡ fit
         → (tooLong texts ≡ 0) × (tooManyRows texts ≡ 0)
     go true true p q e = (eqb-true _ _ p, eqb-true _ _ q)
     go true false p q e = absurd (let z : _≡_ {A = ℕ} 0 1 = cc in omega arith)
@@ -46,7 +47,8 @@ module _ (s : Arrays) where
 
 -- the rows are kept, after the links were cleared
 pub keeps-rows : (texts : List (List ℕ)) (words links halves bytes cleared words₁ links₁ halves₁ bytes₁ : List ℕ) (rows symbols : ℕ) → sizesOf texts ≡ fit
-    → hasPlaces (arrays words links 0 halves bytes) ≡ true → cleared ≡ replicate (length links) 0 → rows ≡ length (allRows texts) → Stored (allRows texts) words₁ links₁ symbols halves₁ bytes₁
+    → hasPlaces (arrays words links 0 halves bytes) ≡ true → cleared ≡ replicate (length links) 0 → rows ≡ length (allRows texts) → Stored
+    (allRows texts) words₁ links₁ symbols halves₁ bytes₁
     → Situations texts halves₁ bytes₁ rows → SameSizes (arrays words cleared 0 halves bytes) (arrays words₁ links₁ symbols halves₁ bytes₁) → Bytes texts
     → KeepsRows texts (arrays words links 0 halves bytes) (arrays words₁ links₁ 0 halves₁ bytes₁) rows symbols
 keeps-rows texts words links halves bytes cleared words₁ links₁ halves₁ bytes₁ rows symbols f p e c s t z b =

@@ -41,7 +41,8 @@ pub fn keep(
     halves: &mut [u16],
     bytes: &mut [u8],
 ) -> Keeping
-    ensures { λ r. ⌜ Keeps (map now (tables .entry)) (arrays (now (words .entry)) (now (links .entry)) 0 (now (halves .entry)) (now (bytes .entry))) (arrays (now (words .exit)) (now (links .exit)) 0 (now (halves .exit)) (now (bytes .exit))) r ⌝ }
+    ensures { λ r. ⌜ Keeps (map now (tables .entry)) (arrays (now (words .entry)) (now (links .entry)) 0 (now (halves .entry)) (now (bytes .entry)))
+        (arrays (now (words .exit)) (now (links .exit)) 0 (now (halves .exit)) (now (bytes .exit))) r ⌝ }
 {
     match check_sizes(tables) {
         Sizes::TooLong(table) => Keeping::TooLong(table),
@@ -59,7 +60,8 @@ fn keep_fitting(
     bytes: &mut [u8],
 ) -> Keeping
     requires { ⌜ sizesOf (map now tables) ≡ fit ⌝ }
-    ensures { λ r. ⌜ Keeps (map now (tables .entry)) (arrays (now (words .entry)) (now (links .entry)) 0 (now (halves .entry)) (now (bytes .entry))) (arrays (now (words .exit)) (now (links .exit)) 0 (now (halves .exit)) (now (bytes .exit))) r ⌝ }
+    ensures { λ r. ⌜ Keeps (map now (tables .entry)) (arrays (now (words .entry)) (now (links .entry)) 0 (now (halves .entry)) (now (bytes .entry)))
+        (arrays (now (words .exit)) (now (links .exit)) 0 (now (halves .exit)) (now (bytes .exit))) r ⌝ }
 {
     if words.len() < WORDS {
         return Keeping::NoRoom;

@@ -39,7 +39,8 @@ pub fn kind_rows(
     kinds: &mut [u8],
     n: usize,
 )
-    ensures { λ _. ⌜ now (kinds .exit) ≡ sets (now (kinds .entry)) 0 (tabulate (kindsAt (now (marks .entry)) (now (codes1 .entry)) (now (found1 .entry)) (now (codes2 .entry)) (now (found2 .entry))) 0 n) ⌝ }
+    ensures { λ _. ⌜ now (kinds .exit) ≡ sets (now (kinds .entry)) 0
+        (tabulate (kindsAt (now (marks .entry)) (now (codes1 .entry)) (now (found1 .entry)) (now (codes2 .entry)) (now (found2 .entry))) 0 n) ⌝ }
 {
     let mut i: usize = 0;
     while i < n {

@@ -108,11 +108,13 @@ module _ (f : ℕ → Bool) (i : ℕ) (own : f i ≡ true) where
       before : i ≡ n → anyWith other n ≡ ltb 0 (countWith f n)
       before e = any-with-same other f n (λ j p. rw (ne-eqb i j (λ q. omega arith))) ∙ any-count f n
 
-      later : (t : Bool) → anyWith other n ≡ ltb 1 (countWith f n) → 0 < countWith f n → (t || anyWith other n) ≡ ltb 1 (cond t (suc (countWith f n)) (countWith f n))
+      later : (t : Bool) → anyWith other n ≡ ltb 1 (countWith f n) → 0 < countWith f n → (t || anyWith other n) ≡ ltb 1
+          (cond t (suc (countWith f n)) (countWith f n))
       later true r s = sym (lt-ltb 1 (suc (countWith f n)) (omega arith))
       later false r s = r
 
-      go : Dec (i ≡ n) → (i < n → anyWith other n ≡ ltb 1 (countWith f n)) → ((not (eqb i n) && f n) || anyWith other n) ≡ ltb 1 (cond (f n) (suc (countWith f n)) (countWith f n))
+      go : Dec (i ≡ n) → (i < n → anyWith other n ≡ ltb 1 (countWith f n)) → ((not (eqb i n) && f n) || anyWith other n) ≡ ltb 1
+          (cond (f n) (suc (countWith f n)) (countWith f n))
       go (yes e) r = let o : f n ≡ true = ap f (sym e) ∙ own in rw (eq-eqb i n e, o) (before e ∙ less-suc (countWith f n))
       go (no z) r = rw (ne-eqb i n z) (later (f n) (r (omega (arith, z))) (count-some f i n (omega (arith, z)) own))
 

@@ -54,7 +54,8 @@ module _ (f : ℕ → Bool) where
       let m : ℕ = lastWith f n - 1 in
       bool-cases (ltb i (lastWith f n))
       (λ q. bool-cases (ltb i m)
-      (λ r. absurd (false≢true (sym (none m (ltb-true i m r) (omega (arith, ltb-true i (lastWith f n) q, w .within))) ∙ w .hit m (omega (arith, ltb-true i (lastWith f n) q)))))
+      (λ r. absurd (false≢true (sym (none m (ltb-true i m r) (omega (arith, ltb-true i (lastWith f n) q, w .within))) ∙ w .hit m
+      (omega (arith, ltb-true i (lastWith f n) q)))))
       (λ r. omega (arith, ltb-true i (lastWith f n) q, ltb-false i m r)))
       (λ q. absurd (false≢true (sym (w .none i (ltb-false i (lastWith f n) q) p) ∙ e)))
 

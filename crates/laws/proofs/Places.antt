@@ -44,12 +44,14 @@ module _ {A : Type 0} (d : A) (f : A → Bool) where
   keep-places [] = refl
   keep-places (a ∷ l) = go (f a) (keep-places l) ∙ sym (count-front (λ i. f (getD (a ∷ l) i d)) (length l))
     where
-      go : (t : Bool) → length (keep f l) ≡ countWith (λ i. f (getD l i d)) (length l) → length (cond t (a ∷ keep f l) (keep f l)) ≡ cond t (suc (countWith (λ i. f (getD l i d)) (length l))) (countWith (λ i. f (getD l i d)) (length l))
+      go : (t : Bool) → length (keep f l) ≡ countWith (λ i. f (getD l i d)) (length l) → length (cond t (a ∷ keep f l) (keep f l)) ≡ cond t
+          (suc (countWith (λ i. f (getD l i d)) (length l))) (countWith (λ i. f (getD l i d)) (length l))
       go true e = ap suc e
       go false e = e
 
   -- the elements that pass stand at the places that pass
-  all-up : (g : ℕ → Bool) (lo n : ℕ) (a : A) (l : List A) → map (λ i. getD (a ∷ l) i d) (allFrom g (suc lo) n) ≡ map (λ i. getD l i d) (allFrom (λ i. g (suc i)) lo n)
+  all-up : (g : ℕ → Bool) (lo n : ℕ) (a : A) (l : List A) → map (λ i. getD (a ∷ l) i d) (allFrom g (suc lo) n) ≡ map (λ i. getD l i d)
+      (allFrom (λ i. g (suc i)) lo n)
   unfolding allFrom
   all-up g lo zero a l = refl
   all-up g lo (suc n) a l = let r : suc lo + 1 ≡ suc (lo + 1) = omega arith in rw r (go (g (suc lo)) (all-up g (lo + 1) n a l))
@@ -67,7 +69,8 @@ module _ {A : Type 0} (d : A) (f : A → Bool) where
     where
       go : (t : Bool) → keep f l ≡ map (λ i. getD (a ∷ l) i d) (allFrom (λ i. f (getD (a ∷ l) i d)) 1 (length l))
           → cond t (a ∷ keep f l) (keep f l)
-          ≡ map (λ i. getD (a ∷ l) i d) (cond t (0 ∷ allFrom (λ i. f (getD (a ∷ l) i d)) (0 + 1) (length l)) (allFrom (λ i. f (getD (a ∷ l) i d)) (0 + 1) (length l)))
+          ≡ map (λ i. getD (a ∷ l) i d) (cond t (0 ∷ allFrom (λ i. f (getD (a ∷ l) i d)) (0 + 1) (length l))
+          (allFrom (λ i. f (getD (a ∷ l) i d)) (0 + 1) (length l)))
       go true e = ap (λ (m : List A). a ∷ m) e
       go false e = e
 

@@ -65,7 +65,8 @@ module _ (f : ℕ → ℕ) where
     written = sets-eq (tabulate f 0 n) xs 0 (omega (arith, tabulate-length 0 n)) ∙ rw (zero-add, tabulate-length 0 n)
 
     pub written-at : (i : ℕ) → i < n → getD (sets xs 0 (tabulate f 0 n)) i 0 ≡ f i
-    written-at i h = rw (written, List·getD-append (tabulate f 0 n) (drop n xs) 0 i (omega (arith, tabulate-length 0 n))) (tabulate-at 0 n i h ∙ ap f (omega arith))
+    written-at i h = rw (written, List·getD-append (tabulate f 0 n) (drop n xs) 0 i (omega (arith, tabulate-length 0 n)))
+        (tabulate-at 0 n i h ∙ ap f (omega arith))
 
     pub written-past : (i : ℕ) → n ≤ i → getD (sets xs 0 (tabulate f 0 n)) i 0 ≡ getD xs i 0
     written-past i h =

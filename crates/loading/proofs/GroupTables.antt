@@ -23,7 +23,8 @@ use Rattle.tables.proofs.SizeLaws.{few}
 use Rattle.kept.proofs.KeepingLaws.{sizes-taken}
 
 -- a row of table u that is counted in a group
-pub group-table : (u : ℕ) (line : List ℕ) (g : Key) → u < tableCount → any (sameKey g) (factsOf (carriedAt u) line .groups) ≡ true → u ≡ tableIndex (groupTable g)
+pub group-table : (u : ℕ) (line : List ℕ) (g : Key) → u < tableCount → any (sameKey g) (factsOf (carriedAt u) line .groups) ≡ true → u ≡ tableIndex
+    (groupTable g)
 group-table u line g h e =
     let w = any-witness (sameKey g) (factsOf (carriedAt u) line .groups) e in
     sym (index-is u h) ∙ ap tableIndex (counted-in (carriedAt u) line (w .1) ∙ ap groupTable (sym (same-key-is g (w .0) (w .2))))

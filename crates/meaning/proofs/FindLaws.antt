@@ -54,7 +54,11 @@ module _ (c : Coding) (symbols : List Symbol) (rows : List Entry) (formed key1 k
     unfolding holderOf
     found-none e j p =
         let s = or-else-zero (lastWith (hasId formed key2 id) n) (lastWith (hasId formed key1 id) n) e in
-        holder j p ∙ rw (last-tells (hasId formed key1 id) n .none j (omega (arith, s .1)) p, last-tells (hasId formed key2 id) n .none j (omega (arith, s .0)) p)
+        holder j p ∙ rw (
+          last-tells (hasId formed key1 id) n .none j (omega (arith, s .1)) p,
+          last-tells (hasId formed key2 id) n .none j
+              (omega (arith, s .0)) p,
+        )
 
     found-is : (j : ℕ) → found ≡ j + 1 → (j < n) × (holds (rowAt rows j) k ≡ true)
     unfolding holderOf

@@ -65,7 +65,8 @@ module _ (c : Coding) (symbols : List Symbol) (k : Key) (h : Known c symbols k) 
       c .exact k l (h .fits) f
       ∙ same-test (sameSymbol (c .symbolOf k) (c .symbolOf l)) (eqb (keyId c symbols l) id)
       (λ e. eq-eqb (keyId c symbols l) id (ap (λ (s : Symbol). idOf s symbols) (sym (same-is (c .symbolOf k) (c .symbolOf l) e))))
-      (λ e. ap (sameSymbol (c .symbolOf k)) (sym (ids-tell (c .symbolOf k) (c .symbolOf l) symbols (h .numbered) (sym (eqb-true (keyId c symbols l) id e)))) ∙ same-self (c .symbolOf k))
+      (λ e. ap (sameSymbol (c .symbolOf k)) (sym (ids-tell (c .symbolOf k) (c .symbolOf l) symbols (h .numbered) (sym (eqb-true (keyId c symbols l) id e))))
+      ∙ same-self (c .symbolOf k))
 
   -- what is kept for the first of some keys is the id of k just where that is k
   pub id-first : (ks : List Key) → AllKnown c symbols ks → (x : ℕ) → x ≡ firstId c symbols ks → eqb x id ≡ firstIs k ks
@@ -82,7 +83,8 @@ module _ (c : Coding) (symbols : List Symbol) (k : Key) (h : Known c symbols k) 
       same-test (s && eqb f 1) s (λ q. and-left s (eqb f 1) q)
       (λ q. and-both q (eq-eqb f 1 (p ∙ ap (λ (u : ℕ). flag (eqb u 0)) (n q))))
 
-  module _ (formed key1 key2 group : List ℕ) (i : ℕ) (e : Entry) (w : KeptRow c symbols e (getD formed i 0) (getD key1 i 0) (getD key2 i 0) (getD group i 0)) where
+  module _ (formed key1 key2 group : List ℕ) (i : ℕ) (e : Entry)
+      (w : KeptRow c symbols e (getD formed i 0) (getD key1 i 0) (getD key2 i 0) (getD group i 0)) where
     first-has : hasId formed key1 id i ≡ firstIs k (facts e .keys)
     unfolding hasId
     first-has =

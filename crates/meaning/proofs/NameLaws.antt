@@ -42,7 +42,8 @@ module _ (rows : List Entry) (k : Key) where
     by-places : any good (keep (λ o. holds o k && test o) rows) ≡ anyWith (λ i. f (rowAt rows i)) n
     by-places = any-keep (λ o. holds o k && test o) good rows ∙ any-places noEntry f rows
 
-    pub held-any : (found : ℕ) → Finds rows k found → any good (keep (λ o. holds o k && test o) rows) ≡ (ltb 0 found && (test (foundRow found) && good (foundRow found)))
+    pub held-any : (found : ℕ) → Finds rows k found → any good (keep (λ o. holds o k && test o) rows) ≡
+        (ltb 0 found && (test (foundRow found) && good (foundRow found)))
     held-any zero w = by-places ∙ any-none n (λ i. f (rowAt rows i)) (λ i p. rw (w .none refl i p))
     held-any (suc j) w =
         let e : suc j - 1 ≡ j = omega arith in
@@ -90,7 +91,8 @@ module _ (rows : List Entry) (k : Key) where
           omega (arith, w .only i p h (unshared rows (rowAt rows i) s))
 
       go : (t : Bool) → sound rows (rowAt rows j) ≡ t → map (rowAt rows) (allFrom passes 0 n) ≡ cond t (rowAt rows j ∷ []) []
-      go true s = ap (map (rowAt rows)) (all-one passes 0 n j (omega arith) (omega (arith, here .0)) (and-both (is (rowAt rows j) ∙ here .1) s) (λ i p q r. one i (omega arith) r))
+      go true s = ap (map (rowAt rows)) (all-one passes 0 n j (omega arith) (omega (arith, here .0)) (and-both (is (rowAt rows j) ∙ here .1) s)
+          (λ i p q r. one i (omega arith) r))
       go false s =
           ap (map (rowAt rows))
           (all-none passes 0 n

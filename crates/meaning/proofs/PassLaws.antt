@@ -32,7 +32,8 @@ pub record Fresh (symbols : List Symbol) (xs : List ℕ) : Type 0 where
 
 module _ (symbols : List Symbol) (formed key1 key2 : List ℕ) (n : ℕ) (few : n ≤ 32767) where
   -- how many rows hold a key: first keys counted, then second keys
-  pub holders-by : (xs ys zs : List ℕ) → Fresh symbols xs → Counted formed key1 xs ys n → Counted formed key2 ys zs n → ById symbols (holdersOf formed key1 key2 n) zs
+  pub holders-by : (xs ys zs : List ℕ) → Fresh symbols xs → Counted formed key1 xs ys n → Counted formed key2 ys zs n → ById symbols
+      (holdersOf formed key1 key2 n) zs
   unfolding holdersOf
   holders-by xs ys zs z v w =
       record {
@@ -45,7 +46,8 @@ module _ (symbols : List Symbol) (formed key1 key2 : List ℕ) (n : ℕ) (few : 
       }
 
   -- the row that holds it: noted in the same order
-  pub holder-by : (xs ys zs : List ℕ) → Fresh symbols xs → Noted formed key1 xs ys (min n 65535) → Noted formed key2 ys zs (min n 65535) → ById symbols (holderOf formed key1 key2 n) zs
+  pub holder-by : (xs ys zs : List ℕ) → Fresh symbols xs → Noted formed key1 xs ys (min n 65535) → Noted formed key2 ys zs (min n 65535) → ById symbols
+      (holderOf formed key1 key2 n) zs
   unfolding holderOf
   holder-by xs ys zs z v w =
       record {
@@ -54,7 +56,9 @@ module _ (symbols : List Symbol) (formed key1 key2 : List ℕ) (n : ℕ) (few : 
         at = λ id h.
             let e : min n 65535 ≡ n = omega arith in
             w .at id (omega (arith, w .size))
-            ∙ ap (orElse (lastWith (hasId formed key2 id) (min n 65535))) (v .at id (omega (arith, v .size, w .size)) ∙ ap (orElse (lastWith (hasId formed key1 id) (min n 65535))) (z .clear id) ∙ none (lastWith (hasId formed key1 id) (min n 65535)))
+            ∙ ap (orElse (lastWith (hasId formed key2 id) (min n 65535)))
+            (v .at id (omega (arith, v .size, w .size)) ∙ ap (orElse (lastWith (hasId formed key1 id) (min n 65535))) (z .clear id) ∙ none
+            (lastWith (hasId formed key1 id) (min n 65535)))
             ∙ ap (λ (m : ℕ). orElse (lastWith (hasId formed key2 id) m) (lastWith (hasId formed key1 id) m)) e;
       }
     where
@@ -62,7 +66,8 @@ module _ (symbols : List Symbol) (formed key1 key2 : List ℕ) (n : ℕ) (few : 
       none zero = refl
       none (suc a) = refl
 
-module _ (c : Coding) (symbols : List Symbol) (rows : List Entry) (formed key1 key2 group : List ℕ) (kept : Kept c symbols rows formed key1 key2 group) (few : length rows ≤ 32767) where
+module _ (c : Coding) (symbols : List Symbol) (rows : List Entry) (formed key1 key2 group : List ℕ) (kept : Kept c symbols rows formed key1 key2 group)
+    (few : length rows ≤ 32767) where
   abbrev n : ℕ
   n = length rows
 
@@ -75,7 +80,12 @@ module _ (c : Coding) (symbols : List Symbol) (rows : List Entry) (formed key1 k
       → Fresh symbols r₀ → Noted formed key1 r₀ r₁ (min n 65535) → Noted formed key2 r₁ rowsOf (min n 65535)
       → Judged c symbols rows sounds tallies rowsOf
   judged h₀ h₁ holders s₀ sounds t₀ tallies r₀ r₁ rowsOf hz ha hb room f tz t rz ra rb =
-      record { soundAt = sounds-at; tallyAt = tally-at; finds = finds-law c symbols rows formed key1 key2 group kept rowsOf (holder-by symbols formed key1 key2 n few r₀ r₁ rowsOf rz ra rb) }
+      record {
+        soundAt = sounds-at;
+        tallyAt = tally-at;
+        finds = finds-law c symbols rows formed key1 key2 group kept rowsOf
+            (holder-by symbols formed key1 key2 n few r₀ r₁ rowsOf rz ra rb);
+      }
     where
       sounds-at : (i : ℕ) → i < n → getD sounds i 0 ≡ flag (sound rows (rowAt rows i))
       sounds-at i p =
@@ -86,4 +96,11 @@ module _ (c : Coding) (symbols : List Symbol) (rows : List Entry) (formed key1 k
       tally-at g h =
           let b = id-below (c .symbolOf g) symbols (h .numbered) in
           let e = t .at (keyId c symbols g) (omega (arith, tz .wide)) in
-          omega (arith, e, tz .clear (keyId c symbols g), count-within (hasId sounds group (keyId c symbols g)) n, tally-law c symbols rows formed key1 key2 group kept g h sounds sounds-at)
+          omega (
+            arith,
+            e,
+            tz .clear (keyId c symbols g),
+            count-within (hasId sounds group
+                (keyId c symbols g)) n,
+            tally-law c symbols rows formed key1 key2 group kept g h sounds sounds-at,
+          )

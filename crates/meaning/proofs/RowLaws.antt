@@ -45,7 +45,8 @@ second : {A : Type 0} (l m : List A) (d : A) (j : ℕ) → length l ≤ j → ge
 second l m d j h = let e : j ≡ length l + (j - length l) = omega arith in ap (λ (k : ℕ). getD (l ++ m) k d) e ∙ getD-append-add l m (j - length l) d
 
 -- the tables of later rows are no lower
-from-above : (n : ℕ) (tables : List Table) (texts : List (List ℕ)) (d : Entry) (j : ℕ) → j < length (entriesFrom n tables texts) → n ≤ getD (entriesFrom n tables texts) j d .table
+from-above : (n : ℕ) (tables : List Table) (texts : List (List ℕ)) (d : Entry) (j : ℕ) → j < length (entriesFrom n tables texts) → n ≤ getD
+    (entriesFrom n tables texts) j d .table
 unfolding entriesFrom
 from-above n [] texts d j h = absurd (omega arith)
 from-above n (table ∷ tables) [] d j h = absurd (omega arith)
@@ -138,17 +139,20 @@ groups-single Ocf line = no-group
 groups-single Ocp line = one-group
 
 -- a row that isn't well-formed says nothing
-formed-part : {A : Type 0} (P : List A → Type 0) (part : Facts → List A) (fs : Facts) (v : ℕ) (z : Bool) → P (part fs) → P (part (said (bad v))) → P (part (said (cond z (fine fs) (bad v))))
+formed-part : {A : Type 0} (P : List A → Type 0) (part : Facts → List A) (fs : Facts) (v : ℕ) (z : Bool) → P (part fs) → P (part (said (bad v))) → P
+    (part (said (cond z (fine fs) (bad v))))
 formed-part P part fs v true a b = a
 formed-part P part fs v false a b = b
 
 entry-apart : (t : Table) (u r : ℕ) (line : Line) → Apart (facts (entry t u r line) .keys)
 unfolding readingOf
-entry-apart t u r line = formed-part Apart (λ f. f .keys) (factsOf t (line .bytes)) (formed t line) (eqb (formed t line) 0) (keys-apart t (line .bytes)) zero-keys
+entry-apart t u r line = formed-part Apart (λ f. f .keys) (factsOf t (line .bytes)) (formed t line) (eqb (formed t line) 0)
+    (keys-apart t (line .bytes)) zero-keys
 
 entry-single : (t : Table) (u r : ℕ) (line : Line) → AtMostOne (facts (entry t u r line) .groups)
 unfolding readingOf
-entry-single t u r line = formed-part AtMostOne (λ f. f .groups) (factsOf t (line .bytes)) (formed t line) (eqb (formed t line) 0) (groups-single t (line .bytes)) no-group
+entry-single t u r line = formed-part AtMostOne (λ f. f .groups) (factsOf t (line .bytes)) (formed t line) (eqb (formed t line) 0)
+    (groups-single t (line .bytes)) no-group
 
 module _ (texts : List (List ℕ)) where
   abbrev rows : List Entry

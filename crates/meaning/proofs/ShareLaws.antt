@@ -46,12 +46,14 @@ module _ (c : Coding) (symbols : List Symbol) (rows : List Entry) (formed key1 k
         (λ j p. holds-once c symbols k h formed key1 key2 group j (rowAt rows j) (kept .row j p) (kept .tables .apart j p))
 
     -- another row than i, which holds the key, holds it just where more than one row does
-    pub others-hold : (i : ℕ) → i < n → holds (rowAt rows i) k ≡ true → anyWith (λ j. not (eqb i j) && holds (rowAt rows j) k) n ≡ ltb 1 (holdersOf formed key1 key2 n id)
+    pub others-hold : (i : ℕ) → i < n → holds (rowAt rows i) k ≡ true → anyWith (λ j. not (eqb i j) && holds (rowAt rows j) k) n ≡ ltb 1
+        (holdersOf formed key1 key2 n id)
     others-hold i p e = others-count (λ j. holds (rowAt rows j) k) i e n p ∙ ap (ltb 1) holders-count
 
   module _ (holders : List ℕ) (hs : ById symbols (holdersOf formed key1 key2 n) holders) where
     -- the holders of the key whose id a row has
-    pub under-key : (ids : List ℕ) (i : ℕ) (k : Key) → Known c symbols k → getD ids i 0 ≡ keyId c symbols k → under holders ids i ≡ holdersOf formed key1 key2 n (keyId c symbols k)
+    pub under-key : (ids : List ℕ) (i : ℕ) (k : Key) → Known c symbols k → getD ids i 0 ≡ keyId c symbols k
+        → under holders ids i ≡ holdersOf formed key1 key2 n (keyId c symbols k)
     under-key ids i k h e =
         ap (λ (z : ℕ). getD holders z 0) e
         ∙ hs .at (keyId c symbols k) (omega (arith, id-below (c .symbolOf k) symbols (h .numbered), hs .wide))
@@ -67,7 +69,8 @@ module _ (c : Coding) (symbols : List Symbol) (rows : List Entry) (formed key1 k
       own-key k e = e
 
       by-keys :
-          (ks : List Key) → facts (rowAt rows i) .keys ≡ ks → Apart ks → AllKnown c symbols ks → getD key1 i 0 ≡ firstId c symbols ks → getD key2 i 0 ≡ firstId c symbols (drop 1 ks)
+          (ks : List Key) → facts (rowAt rows i) .keys ≡ ks → Apart ks → AllKnown c symbols ks → getD key1 i 0 ≡ firstId c symbols ks
+          → getD key2 i 0 ≡ firstId c symbols (drop 1 ks)
           → anyWith (λ j. not (eqb i j) && any (holds (rowAt rows j)) ks) n ≡ (ltb 1 (under holders key1 i) || ltb 1 (under holders key2 i))
       by-keys [] q zero-keys none a b =
           any-none n (λ j. not (eqb i j) && false) (λ j r. and-false (not (eqb i j))) ∙ sym (rw (under-none key1 i a, under-none key2 i b))
@@ -93,7 +96,8 @@ module _ (c : Coding) (symbols : List Symbol) (rows : List Entry) (formed key1 k
           let w = kept .row i p in
           sym (some-kept (rivals e) rows)
           ∙ any-places noEntry (rivals e) rows
-          ∙ any-with-same (λ j. not (twin e (rowAt rows j)) && any (holds (rowAt rows j)) (facts e .keys)) (λ j. not (eqb i j) && any (holds (rowAt rows j)) (facts e .keys)) n
+          ∙ any-with-same (λ j. not (twin e (rowAt rows j)) && any (holds (rowAt rows j)) (facts e .keys))
+          (λ j. not (eqb i j) && any (holds (rowAt rows j)) (facts e .keys)) n
           (λ j q. ap (λ (t : Bool). not t && any (holds (rowAt rows j)) (facts e .keys)) (kept .tables .places i j p q))
           ∙ by-keys (facts e .keys) refl (kept .tables .apart i p) (w .known) (w .key1) (w .key2)
 

@@ -22,7 +22,8 @@ use Rattle.meaning.specs.Kept.{Coding, keyId, Known, noEntry, rowAt, Kep
 use Rattle.meaning.proofs.TestLaws.{flag-is}
 use Rattle.meaning.proofs.KeyLaws.{belongs-id}
 
-module _ (c : Coding) (symbols : List Symbol) (rows : List Entry) (formed key1 key2 group : List ℕ) (kept : Kept c symbols rows formed key1 key2 group) (g : Key) (h : Known c symbols g) where
+module _ (c : Coding) (symbols : List Symbol) (rows : List Entry) (formed key1 key2 group : List ℕ) (kept : Kept c symbols rows formed key1 key2 group)
+    (g : Key) (h : Known c symbols g) where
   abbrev n : ℕ
   n = length rows
 
@@ -39,7 +40,8 @@ module _ (c : Coding) (symbols : List Symbol) (rows : List Entry) (formed key1 k
         (sym (ap (λ (z : ℕ). eqb z 1) (is i p) ∙ flag-is (test (rowAt rows i))))
 
     -- THE LAW OF GROUPS: the rows of a group that pass are those that the links of its id meet, in their order
-    pub members-law : (firsts₀ nexts₀ firsts nexts : List ℕ) → Chained marks group firsts₀ nexts₀ firsts nexts 0 n → n ≤ length nexts₀ → id < length firsts₀ → getD firsts₀ id 0 ≡ 0
+    pub members-law : (firsts₀ nexts₀ firsts nexts : List ℕ) → Chained marks group firsts₀ nexts₀ firsts nexts 0 n → n ≤ length nexts₀ → id < length firsts₀
+        → getD firsts₀ id 0 ≡ 0
         → keep (λ o. belongs o g && test o) rows ≡ map (rowAt rows) (chain nexts n (getD firsts id 0))
     members-law firsts₀ nexts₀ firsts nexts w room b z =
         keep-all noEntry (λ o. belongs o g && test o) rows
@@ -48,7 +50,8 @@ module _ (c : Coding) (symbols : List Symbol) (rows : List Entry) (formed key1 k
         ∙ sym (group-rows marks group firsts₀ nexts₀ n firsts nexts w room id b z))
 
   -- THE LAW OF REASON 10: a group has as many sound rows as a counter of their groups says
-  pub tally-law : (sounds : List ℕ) → ((i : ℕ) → i < n → getD sounds i 0 ≡ flag (sound rows (rowAt rows i))) → tally rows g ≡ countWith (hasId sounds group id) n
+  pub tally-law : (sounds : List ℕ) → ((i : ℕ) → i < n → getD sounds i 0 ≡ flag (sound rows (rowAt rows i))) → tally rows g ≡ countWith
+      (hasId sounds group id) n
   unfolding tally
   tally-law sounds is =
       keep-places noEntry (λ o. belongs o g && sound rows o) rows

@@ -55,7 +55,9 @@ pub fn final_rows(
     cells: &mut [u16],
     n: usize,
 )
-    ensures { λ _. ⌜ now (cells .exit) ≡ sets (now (cells .entry)) 0 (tabulate (finalAt (now (kinds .entry)) (now (base .entry)) (now (codes1 .entry)) (now (found1 .entry)) (now (codes2 .entry)) (now (found2 .entry)) (now (good .entry))) 0 n) ⌝ }
+    ensures { λ _. ⌜ now (cells .exit) ≡ sets (now (cells .entry)) 0
+        (tabulate (finalAt (now (kinds .entry)) (now (base .entry)) (now (codes1 .entry)) (now (found1 .entry)) (now (codes2 .entry)) (now (found2 .entry))
+        (now (good .entry))) 0 n) ⌝ }
 {
     let mut i: usize = 0;
     while i < n {

@@ -58,7 +58,9 @@ pub fn firm_rows(
     firm: &mut [u8],
     n: usize,
 )
-    ensures { λ _. ⌜ now (firm .exit) ≡ sets (now (firm .entry)) 0 (tabulate (firmAt (now (kinds .entry)) (now (base .entry)) (now (codes1 .entry)) (now (found1 .entry)) (now (codes2 .entry)) (now (found2 .entry)) (now (clean .entry)) (now (next .entry))) 0 n) ⌝ }
+    ensures { λ _. ⌜ now (firm .exit) ≡ sets (now (firm .entry)) 0
+        (tabulate (firmAt (now (kinds .entry)) (now (base .entry)) (now (codes1 .entry)) (now (found1 .entry)) (now (codes2 .entry)) (now (found2 .entry))
+        (now (clean .entry)) (now (next .entry))) 0 n) ⌝ }
 {
     let mut i: usize = 0;
     while i < n {

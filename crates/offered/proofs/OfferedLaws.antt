@@ -55,7 +55,8 @@ within-most most (pos n) e = leb-true n most e
 within-most most (negsuc n) e = absurd (false≢true e)
 
 module _ (zs : List ℤ) (e : areFields zs ≡ true) where
-  rest-1 : (isWithin 65535 (getD zs 1 (pos 0)) && (isWithin 65535 (getD zs 2 (pos 0)) && (isWithin 255 (getD zs 3 (pos 0)) && isWithin 255 (getD zs 4 (pos 0))))) ≡ true
+  rest-1 : (isWithin 65535 (getD zs 1 (pos 0)) && (isWithin 65535 (getD zs 2 (pos 0)) &&
+      (isWithin 255 (getD zs 3 (pos 0)) && isWithin 255 (getD zs 4 (pos 0))))) ≡ true
   unfolding areFields
   rest-1 = and-right (isWithin 1 (getD zs 0 (pos 0))) _ e
 

@@ -77,7 +77,8 @@ module _ (marks ids firsts₀ : List ℕ) where
             within = omega (arith, w .within);
             firstSize = size;
             nextSize = length-set nexts i x ∙ w .nextSize;
-            first = λ id. bool-cases (ltb id (length firsts₀)) (λ q. first-in id (ltb-true id (length firsts₀) q)) (λ q. first-out id (ltb-false id (length firsts₀) q));
+            first = λ id. bool-cases (ltb id (length firsts₀)) (λ q. first-in id (ltb-true id (length firsts₀) q))
+                (λ q. first-out id (ltb-false id (length firsts₀) q));
             next = λ j p q h. next-is j p q h (ℕ-discrete j i);
             rest = λ j p. getD-set-other nexts i j x 0 (λ q. omega (arith, w .within)) ∙ w .rest j p;
           }
@@ -116,12 +117,14 @@ module _ (marks ids firsts₀ : List ℕ) where
       chain-from (suc d) lo (suc steps) e s =
           go (f lo) refl (chain-from d (lo + 1) steps (omega arith) (omega arith)) (chain-from d (lo + 1) (suc steps) (omega arith) (omega arith))
         where
-          go : (t : Bool) → f lo ≡ t → chain nexts steps (firstFrom f 0 (lo + 1) d) ≡ allFrom f (lo + 1) d → chain nexts (suc steps) (firstFrom f 0 (lo + 1) d) ≡ allFrom f (lo + 1) d
+          go : (t : Bool) → f lo ≡ t → chain nexts steps (firstFrom f 0 (lo + 1) d) ≡ allFrom f (lo + 1) d → chain nexts (suc steps)
+              (firstFrom f 0 (lo + 1) d) ≡ allFrom f (lo + 1) d
               → chain nexts (suc steps) (cond t (lo + 1) (firstFrom f 0 (lo + 1) d)) ≡ cond t (lo ∷ allFrom f (lo + 1) d) (allFrom f (lo + 1) d)
           go true p r q =
               let a : lo + 1 - 1 ≡ lo = omega arith in
               let b : n - (lo + 1) ≡ d = omega arith in
-              rw (ne-eqb (lo + 1) 0 (λ z. omega arith), a) (ap (λ (l : List ℕ). lo ∷ l) (ap (chain nexts steps) (linked lo (omega arith) p ∙ ap (firstFrom f 0 (lo + 1)) b) ∙ r))
+              rw (ne-eqb (lo + 1) 0 (λ z. omega arith), a) (ap (λ (l : List ℕ). lo ∷ l)
+              (ap (chain nexts steps) (linked lo (omega arith) p ∙ ap (firstFrom f 0 (lo + 1)) b) ∙ r))
           go false p r q = q
 
       pub group-rows : chain nexts n (getD firsts id 0) ≡ allFrom f 0 n

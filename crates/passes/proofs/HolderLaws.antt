@@ -23,7 +23,8 @@ module _ (marks ids before : List ℕ) where
   unfolding lastWith
   noted-none = record { size = refl; at = λ id h. refl }
 
-  one-more : (xs : List ℕ) (i : ℕ) → Noted marks ids before xs i → (ys : List ℕ) → ys ≡ putMarked (getD marks i 0) (getD ids i 0) (i + 1) xs → Noted marks ids before ys (i + 1)
+  one-more : (xs : List ℕ) (i : ℕ) → Noted marks ids before xs i → (ys : List ℕ) → ys ≡ putMarked (getD marks i 0) (getD ids i 0) (i + 1) xs
+      → Noted marks ids before ys (i + 1)
   unfolding hasId
   one-more xs i w ys e =
       record {
@@ -34,7 +35,8 @@ module _ (marks ids before : List ℕ) where
             ∙ rw (last-more (hasId marks ids id) i) (go id (eqb (getD ids i 0) id && eqb (getD marks i 0) 1) h);
       }
     where
-      go : (id : ℕ) (t : Bool) → id < length before → cond t (i + 1) (getD xs id 0) ≡ orElse (cond t (i + 1) (lastWith (hasId marks ids id) i)) (getD before id 0)
+      go : (id : ℕ) (t : Bool) → id < length before → cond t (i + 1) (getD xs id 0) ≡ orElse (cond t (i + 1) (lastWith (hasId marks ids id) i))
+          (getD before id 0)
       go id true h = rw (add-one i)
       go id false h = w .at id h
 

@@ -30,7 +30,8 @@ pub fn mark_sound(
     sound: &mut [u8],
     n: usize,
 )
-    ensures { λ _. ⌜ Filled (soundAt (now (formed .entry)) (now (key1 .entry)) (now (key2 .entry)) (now (holders .entry))) (now (sound .entry)) (now (sound .exit)) n ⌝ }
+    ensures { λ _. ⌜ Filled (soundAt (now (formed .entry)) (now (key1 .entry)) (now (key2 .entry)) (now (holders .entry))) (now (sound .entry))
+        (now (sound .exit)) n ⌝ }
 {
     let mut i: usize = 0;
     while i < n {

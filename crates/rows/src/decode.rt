@@ -131,7 +131,8 @@ fn end_at(ends: &[usize], k: usize) -> usize
 
 // ALTXT starts as many bytes before its end as it has.
 pub fn txp_row(line: &[u8], ends: &[usize]) -> TxpRow
-    ensures { λ r. ⌜ r ≡ txpRowBy (columnIn (now (line .entry)) (now (ends .entry))) (getD (now (ends .entry)) 3 0 - length (columnIn (now (line .entry)) (now (ends .entry)) 3)) (getD (now (ends .entry)) 3 0) ⌝ }
+    ensures { λ r. ⌜ r ≡ txpRowBy (columnIn (now (line .entry)) (now (ends .entry)))
+        (getD (now (ends .entry)) 3 0 - length (columnIn (now (line .entry)) (now (ends .entry)) 3)) (getD (now (ends .entry)) 3 0) ⌝ }
 {
     let end = end_at(ends, 3);
     let text = column(line, ends, 3);

@@ -134,5 +134,6 @@ shape-walked columns few line ends e walk ended p q f =
     rw (p, q, f)
     (ap (λ (v : ℕ). cond (not ended || ltb longestRow (length line)) (verdict 1 0) (cond (foreignIn line) (verdict 2 0) v))
     (bool-cases (eqb (length (columnsOf line)) (length columns))
-    (λ t. rw t (reason-texts 0 columns (columnIn line ends) (columnsOf line) (eqb-true _ _ t) (λ j h. ap (columnIn line ends) (omega arith) ∙ column-is line ends j e (omega arith))))
+    (λ t. rw t (reason-texts 0 columns (columnIn line ends) (columnsOf line) (eqb-true _ _ t)
+    (λ j h. ap (columnIn line ends) (omega arith) ∙ column-is line ends j e (omega arith))))
     (λ n. rw n)))

@@ -41,7 +41,8 @@ pub fn verdict_of(reason: u8, column: u8) -> u16
 // The first reason of the columns, with its column, or 0.
 fn columns_verdict(line: &[u8], ends: &[usize], widths: &[u8], marks: &[u8], kinds: &[u8]) -> u16
     requires { ⌜ Alike (now widths) (now marks) (now kinds) ⌝ }
-    ensures { λ r. ⌜ r ≡ reasonFrom 0 (schemaFrom (now (widths .entry)) (now (marks .entry)) (now (kinds .entry))) (columnIn (now (line .entry)) (now (ends .entry))) ⌝ }
+    ensures { λ r. ⌜ r ≡ reasonFrom 0 (schemaFrom (now (widths .entry)) (now (marks .entry)) (now (kinds .entry)))
+        (columnIn (now (line .entry)) (now (ends .entry))) ⌝ }
 {
     let mut k: usize = 0;
     while k < widths.len() {
@@ -64,7 +65,8 @@ pub(crate) fn check_row(
     kinds: &[u8],
 ) -> u16
     requires { ⌜ Alike (now widths) (now marks) (now kinds) ⌝ }
-    ensures { λ r. ⌜ r ≡ shapeBy (schemaFrom (now (widths .entry)) (now (marks .entry)) (now (kinds .entry))) walk (length (now (line .entry))) (columnIn (now (line .entry)) (now (ends .entry))) ⌝ }
+    ensures { λ r. ⌜ r ≡ shapeBy (schemaFrom (now (widths .entry)) (now (marks .entry)) (now (kinds .entry))) walk (length (now (line .entry)))
+        (columnIn (now (line .entry)) (now (ends .entry))) ⌝ }
 {
     if walk.ended {
         if LONGEST_ROW < line.len() {

@@ -66,7 +66,8 @@ module _ (lows highs : List ℤ) (levels : List ℕ) (value : ℤ) where
     unfolding severityLeft checksIn
     end-within h f = rw (drop-of-length-le levels {i = i} h, f) at k
 
-    module _ (h : i < length levels) {low high : ℤ} {b : Bool} (l : low ≡ getD lows i (pos 0)) (g : high ≡ getD highs i (pos 0)) (e : b ≡ isViolated low high value) where
+    module _ (h : i < length levels) {low high : ℤ} {b : Bool} (l : low ≡ getD lows i (pos 0)) (g : high ≡ getD highs i (pos 0))
+        (e : b ≡ isViolated low high value) where
       abbrev next : Check
       next = record { level = getD levels i 0; low = getD lows i (pos 0); high = getD highs i (pos 0) }
 
@@ -140,4 +141,5 @@ stored-more (x ∷ xs) [] levels n low high level a b c = absurd (omega arith)
 stored-more (x ∷ xs) (y ∷ ys) [] n low high level a b c = absurd (omega arith)
 stored-more (x ∷ xs) (y ∷ ys) (v ∷ vs) zero low high level a b c = refl
 stored-more (x ∷ xs) (y ∷ ys) (v ∷ vs) (suc n) low high level a b c =
-    ap (λ (later : List Check). record { level = v; low = x; high = y } ∷ later) (stored-more xs ys vs n low high level (omega arith) (omega arith) (omega arith))
+    ap (λ (later : List Check). record { level = v; low = x; high = y } ∷ later)
+    (stored-more xs ys vs n low high level (omega arith) (omega arith) (omega arith))

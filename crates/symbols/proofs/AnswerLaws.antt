@@ -35,7 +35,8 @@ unfolding hasRoom
 room-is words links n r = rw (lt-ltb _ _ (r .few), lt-ltb _ _ (r .place), lt-ltb _ _ (r .link))
 
 -- arrays with room for `most` symbols
-pub room-sized : (words links : List ℕ) (most n : ℕ) → most ≤ 65535 → 4 * most ≤ length words → heads + 2 * most ≤ length links → n < most → hasRoom words links n ≡ true
+pub room-sized : (words links : List ℕ) (most n : ℕ) → most ≤ 65535 → 4 * most ≤ length words → heads + 2 * most ≤ length links → n < most
+    → hasRoom words links n ≡ true
 room-sized words links most n a b d h = room-is words links n (record { few = omega arith; place = omega arith; link = omega arith })
 
 module _ (words links : List ℕ) (k : Symbol) (at : ℕ) (is : at ≡ sought words links k) where

@@ -30,7 +30,8 @@ symbols-at words d (suc n) i h = go (ℕ-discrete i n) (λ q. symbols-at words d
     go : Dec (i ≡ n) → (i < n → getD (symbols words n) i d ≡ symbolAt words i) → getD (symbols words n ++ symbolAt words n ∷ []) i d ≡ symbolAt words i
     go (yes e) r =
         let p : i ≡ length (symbols words n) = omega (arith, symbols-length words n) in
-        ap (λ (j : ℕ). getD (symbols words n ++ symbolAt words n ∷ []) j d) p ∙ getD-append-seam (symbols words n) (symbolAt words n) [] d ∙ ap (symbolAt words) (sym e)
+        ap (λ (j : ℕ). getD (symbols words n ++ symbolAt words n ∷ []) j d) p ∙ getD-append-seam (symbols words n) (symbolAt words n) [] d ∙ ap
+        (symbolAt words) (sym e)
     go (no z) r =
         let q : i < n = omega (arith, z) in
         let p : i < length (symbols words n) = omega (arith, symbols-length words n) in
@@ -53,7 +54,12 @@ module _ (words links : List ℕ) (n : ℕ) (t : Table words links n) (k : Symbo
   sought-some h =
       let w = sound words links n t k (sought words links k - 1) (omega arith) in
       let l = symbols-length words n in
-      omega (arith, w .0, place-first k k (symbols words n) (sought words links k - 1) (omega (arith, w .0)) (symbols-at words k n (sought words links k - 1) (w .0) ∙ w .1))
+      omega (
+        arith,
+        w .0,
+        place-first k k (symbols words n) (sought words links k - 1) (omega (arith, w .0))
+            (symbols-at words k n (sought words links k - 1) (w .0) ∙ w .1),
+      )
 
   -- THE LAW OF FINDING: in a table a key is found under its id
   pub found-id : found words links k ≡ idOf k (symbols words n)

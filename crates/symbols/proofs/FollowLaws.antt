@@ -21,7 +21,8 @@ module _ (words links : List ℕ) (k : Symbol) where
     unfolding follow
     step-none e = rw (eq-eqb (at place) 0 e)
 
-    pub step-here : (at place ≡ 0 → ⊥) → sameSymbol k (symbolAt words (at place - 1)) ≡ true → follow words links k (suc steps) trail place ≡ record { at = at place; place = place }
+    pub step-here : (at place ≡ 0 → ⊥) → sameSymbol k (symbolAt words (at place - 1)) ≡ true → follow words links k
+        (suc steps) trail place ≡ record { at = at place; place = place }
     unfolding follow
     step-here z e = rw (ne-eqb (at place) 0 z, e)
 
@@ -35,7 +36,8 @@ module _ (words links : List ℕ) (k : Symbol) where
   start place e = ap (follow words links k 65536 k) e
 
   -- the same by what was read, with some steps left
-  module _ (steps : ℕ) (trail : Symbol) (place : ℕ) (r : Trace) (inv : follow words links k steps trail place ≡ r) (some : 0 < steps) (x : ℕ) (is : x ≡ at place) where
+  module _ (steps : ℕ) (trail : Symbol) (place : ℕ) (r : Trace) (inv : follow words links k steps trail place ≡ r) (some : 0 < steps) (x : ℕ)
+      (is : x ≡ at place) where
     left : steps ≡ suc (steps - 1)
     left = omega arith
 
@@ -60,6 +62,7 @@ module _ (words links : List ℕ) (k : Symbol) where
           ap₂ (follow words links k (steps - 1)) g (f ∙ ap (λ (y : ℕ). linkFrom (y - 1) trail) is)
           ∙ sym (step-on (steps - 1) trail place filled (same ∙ e)) ∙ whole
 
-  pub spent : (steps : ℕ) (trail : Symbol) (place : ℕ) (r : Trace) → follow words links k steps trail place ≡ r → steps ≡ 0 → record { at = 0; place = place } ≡ r
+  pub spent : (steps : ℕ) (trail : Symbol) (place : ℕ) (r : Trace) → follow words links k steps trail place ≡ r → steps ≡ 0
+      → record { at = 0; place = place } ≡ r
   unfolding follow
   spent steps trail place r inv e = ap (λ (s : ℕ). follow words links k s trail place) (sym e) ∙ inv

@@ -36,7 +36,8 @@ module _ (words links : List ℕ) (n : ℕ) (t : Table words links n) (k : Symbo
   abbrev room : Bool
   room = hasRoom words links n
 
-  grows-new : sought words links k ≡ 0 → room ≡ true → Grows words links n k (putSymbol words n k) (putLink links n (followed words links k .place)) (record { id = n; count = n + 1 })
+  grows-new : sought words links k ≡ 0 → room ≡ true → Grows words links n k (putSymbol words n k) (putLink links n (followed words links k .place))
+      (record { id = n; count = n + 1 })
   grows-new z q =
       let r = room-tells words links n q in
       let s = symbols-length words n in
@@ -70,7 +71,8 @@ module _ (words links : List ℕ) (n : ℕ) (t : Table words links n) (k : Symbo
       go : (b : Bool) → isNew words links n k ≡ b
           → Grows words links n k (cond b (putSymbol words n k) words) (cond b (putLink links n (followed words links k .place)) links)
           (cond b (record { id = n; count = n + 1 }) (record { id = found words links k; count = n }))
-      go true e = grows-new (eqb-true (sought words links k) 0 (and-left (eqb (sought words links k) 0) room e)) (and-right (eqb (sought words links k) 0) room e)
+      go true e = grows-new (eqb-true (sought words links k) 0 (and-left (eqb (sought words links k) 0) room e))
+          (and-right (eqb (sought words links k) 0) room e)
       go false e = grows-old e
 
   -- THE LAW OF INTERNING

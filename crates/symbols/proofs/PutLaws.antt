@@ -151,13 +151,15 @@ module _ (words : List ℕ) (n : ℕ) (k : Symbol) where
       unfolding follow
       keeps l zero trail before p w i e = absurd (omega arith)
       keeps l (suc steps) trail before p w i e =
-          go (ℕ-discrete (getD links p 0) 0) (λ z q. keeps l steps (turned trail) (getD links p 0) (linkFrom (getD links p 0 - 1) trail) (reached-next words links n t w z trail) i q)
+          go (ℕ-discrete (getD links p 0) 0) (λ z q. keeps l steps (turned trail) (getD links p 0) (linkFrom (getD links p 0 - 1) trail)
+          (reached-next words links n t w z trail) i q)
         where
           Rest : Type 0
           Rest = (getD links p 0 ≡ 0 → ⊥) → follow words links l steps (turned trail) (linkFrom (getD links p 0 - 1) trail) .at ≡ i + 1
               → follow after later l steps (turned trail) (linkFrom (getD links p 0 - 1) trail) .at ≡ i + 1
 
-          some : Rest → (z : getD links p 0 ≡ 0 → ⊥) → (b : Bool) → sameSymbol l (symbolAt words (getD links p 0 - 1)) ≡ b → follow after later l (suc steps) trail p .at ≡ i + 1
+          some : Rest → (z : getD links p 0 ≡ 0 → ⊥) → (b : Bool) → sameSymbol l (symbolAt words (getD links p 0 - 1)) ≡ b → follow after later l
+              (suc steps) trail p .at ≡ i + 1
           some rest z true q =
               ap (λ x. x .at) (step-here after later l steps trail p (full w z) (ap (sameSymbol l) (same-symbol w z) ∙ q))
               ∙ same-link w z ∙ sym (ap (λ x. x .at) (step-here words links l steps trail p z q)) ∙ e
@@ -177,14 +179,16 @@ module _ (words : List ℕ) (n : ℕ) (k : Symbol) where
       gains zero trail before p w r e f = absurd (omega (arith, w .few, t .few))
       gains (suc steps) trail before p w r e f =
           go (ℕ-discrete (getD links p 0) 0)
-          (λ z. gains steps (turned trail) (getD links p 0) (linkFrom (getD links p 0 - 1) trail) (reached-next words links n t w z trail) (omega (arith, w .rises z)))
+          (λ z. gains steps (turned trail) (getD links p 0) (linkFrom (getD links p 0 - 1) trail) (reached-next words links n t w z trail)
+          (omega (arith, w .rises z)))
         where
           Rest : Type 0
           Rest = (getD links p 0 ≡ 0 → ⊥) → follow words links k steps (turned trail) (linkFrom (getD links p 0 - 1) trail) .at ≡ 0
               → follow words links k steps (turned trail) (linkFrom (getD links p 0 - 1) trail) .place ≡ end
               → follow after later k steps (turned trail) (linkFrom (getD links p 0 - 1) trail) .at ≡ n + 1
 
-          some : Rest → (z : getD links p 0 ≡ 0 → ⊥) → (b : Bool) → sameSymbol k (symbolAt words (getD links p 0 - 1)) ≡ b → follow after later k (suc steps) trail p .at ≡ n + 1
+          some : Rest → (z : getD links p 0 ≡ 0 → ⊥) → (b : Bool) → sameSymbol k (symbolAt words (getD links p 0 - 1)) ≡ b → follow after later k
+              (suc steps) trail p .at ≡ n + 1
           some rest z true q = absurd (z (sym (ap (λ x. x .at) (step-here words links k steps trail p z q)) ∙ e))
           some rest z false q =
               let s = step-on words links k steps trail p z q in
@@ -195,7 +199,8 @@ module _ (words : List ℕ) (n : ℕ) (k : Symbol) where
           here : getD later p 0 ≡ n + 1 → follow after later k (suc steps) trail p .at ≡ n + 1
           here l =
               let i : getD later p 0 - 1 ≡ n = omega arith in
-              ap (λ x. x .at) (step-here after later k steps trail p (λ q. omega arith) (ap (λ (j : ℕ). sameSymbol k (symbolAt after j)) i ∙ ap (sameSymbol k) put-new ∙ same-self k))
+              ap (λ x. x .at) (step-here after later k steps trail p (λ q. omega arith)
+              (ap (λ (j : ℕ). sameSymbol k (symbolAt after j)) i ∙ ap (sameSymbol k) put-new ∙ same-self k))
               ∙ l
 
           go : Dec (getD links p 0 ≡ 0) → Rest → follow after later k (suc steps) trail p .at ≡ n + 1
@@ -208,7 +213,8 @@ module _ (words : List ℕ) (n : ℕ) (k : Symbol) where
       unfolding followed
       found-old i h =
           ap (sought after later) (put-old i h)
-          ∙ keeps (symbolAt words i) 65536 (symbolAt words i) 0 (bucketOf (symbolAt words i)) (reached-first words links n t (symbolAt words i)) i (t .finds i h)
+          ∙ keeps (symbolAt words i) 65536 (symbolAt words i) 0 (bucketOf (symbolAt words i)) (reached-first words links n t (symbolAt words i)) i
+          (t .finds i h)
 
       found-new : sought after later (symbolAt after n) ≡ n + 1
       unfolding followed

@@ -44,10 +44,12 @@ module _ (words links : List ℕ) (n : ℕ) (t : Table words links n) where
 
   module _ (k : Symbol) where
     -- what is found is the key
-    sound-from : (steps : ℕ) (trail : Symbol) (before place : ℕ) → Reached before place → (i : ℕ) → follow words links k steps trail place .at ≡ i + 1 → (i < n) × (symbolAt words i ≡ k)
+    sound-from : (steps : ℕ) (trail : Symbol) (before place : ℕ) → Reached before place → (i : ℕ) → follow words links k steps trail place .at ≡ i + 1
+        → (i < n) × (symbolAt words i ≡ k)
     unfolding follow
     sound-from zero trail before place w i e = absurd (omega arith)
-    sound-from (suc steps) trail before place w i e = go (ℕ-discrete (at place) 0) (λ z q. sound-from steps (turned trail) (at place) (linkFrom (at place - 1) trail) (reached-next w z trail) i q)
+    sound-from (suc steps) trail before place w i e = go (ℕ-discrete (at place) 0)
+        (λ z q. sound-from steps (turned trail) (at place) (linkFrom (at place - 1) trail) (reached-next w z trail) i q)
       where
         Rest : Type 0
         Rest = (at place ≡ 0 → ⊥) → follow words links k steps (turned trail) (linkFrom (at place - 1) trail) .at ≡ i + 1 → (i < n) × (symbolAt words i ≡ k)
@@ -76,16 +78,20 @@ module _ (words links : List ℕ) (n : ℕ) (t : Table words links n) where
       pub empty : at place ≡ 0
       pub known : place < heads + 2 * n
 
-    ended-from : (steps : ℕ) (trail : Symbol) (before place : ℕ) → Reached before place → 65536 ≤ steps + before → follow words links k steps trail place .at ≡ 0
+    ended-from : (steps : ℕ) (trail : Symbol) (before place : ℕ) → Reached before place → 65536 ≤ steps + before
+        → follow words links k steps trail place .at ≡ 0
         → Ended (follow words links k steps trail place .place)
     ended-from zero trail before place w r e = absurd (omega (arith, w .few, t .few))
     ended-from (suc steps) trail before place w r e =
-        go (ℕ-discrete (at place) 0) (λ z q. ended-from steps (turned trail) (at place) (linkFrom (at place - 1) trail) (reached-next w z trail) (omega (arith, w .rises z)) q)
+        go (ℕ-discrete (at place) 0) (λ z q. ended-from steps (turned trail) (at place) (linkFrom (at place - 1) trail) (reached-next w z trail)
+        (omega (arith, w .rises z)) q)
       where
         Rest : Type 0
-        Rest = (at place ≡ 0 → ⊥) → follow words links k steps (turned trail) (linkFrom (at place - 1) trail) .at ≡ 0 → Ended (follow words links k steps (turned trail) (linkFrom (at place - 1) trail) .place)
+        Rest = (at place ≡ 0 → ⊥) → follow words links k steps (turned trail) (linkFrom (at place - 1) trail) .at ≡ 0 → Ended
+            (follow words links k steps (turned trail) (linkFrom (at place - 1) trail) .place)
 
-        some : Rest → (at place ≡ 0 → ⊥) → (b : Bool) → sameSymbol k (symbolAt words (at place - 1)) ≡ b → Ended (follow words links k (suc steps) trail place .place)
+        some : Rest → (at place ≡ 0 → ⊥) → (b : Bool) → sameSymbol k (symbolAt words (at place - 1)) ≡ b → Ended
+            (follow words links k (suc steps) trail place .place)
         some rest z true q = absurd (z (sym (ap (λ x. x .at) (step-here words links k steps trail place z q)) ∙ e))
         some rest z false q =
             let s = step-on words links k steps trail place z q in

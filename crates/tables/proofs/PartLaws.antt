@@ -19,7 +19,8 @@ module _ (f : ℕ → List ℕ) where
   unfolding Filled
   filled-none ts = tt
 
-  pub filled-more : (lo n : ℕ) (ts : List (RefT (List ℕ))) (t : RefT (List ℕ)) → n < length ts → Filled lo n ts → t .now ≡ f (lo + n) → Filled lo (suc n) (set ts n t)
+  pub filled-more : (lo n : ℕ) (ts : List (RefT (List ℕ))) (t : RefT (List ℕ)) → n < length ts → Filled lo n ts → t .now ≡ f (lo + n) → Filled lo (suc n)
+      (set ts n t)
   unfolding Filled
   filled-more lo n [] t h w e = absurd (not-suc-le-zero h)
   filled-more lo zero (x ∷ ts) t h w e = let z : lo + 0 ≡ lo = omega arith in (rw z at e, tt)

@@ -30,7 +30,8 @@ module _ (test : List ℕ → Bool) (texts : List (List ℕ)) (t : ℕ) where
   table-more h e = rw (split texts t [] h, e, add-one (t + 1))
 
 -- where the search finds nothing, the test holds of no table
-pub table-all : (test : List ℕ → Bool) (k : ℕ) (texts : List (List ℕ)) (t : ℕ) → firstTable test (suc k) texts ≡ 0 → t < length texts → test (getD texts t []) ≡ false
+pub table-all : (test : List ℕ → Bool) (k : ℕ) (texts : List (List ℕ)) (t : ℕ) → firstTable test (suc k) texts ≡ 0 → t < length texts → test
+    (getD texts t []) ≡ false
 unfolding firstTable
 table-all test k [] t e h = absurd (omega arith)
 table-all test k (s ∷ texts) t e h = go (test s) refl e t h (λ z n l. table-all test (suc k) texts n z l)
@@ -94,7 +95,8 @@ feeds-split (suc k) (b ∷ bs) = omega (arith, feeds-split k bs)
 feeds-few : (l : List ℕ) → feeds l ≤ length l
 unfolding feeds
 feeds-few [] = omega arith
-feeds-few (b ∷ bs) = cond-cases (λ (n : ℕ). n + feeds bs ≤ suc (length bs)) (eqb b lineFeed) (λ _. omega (arith, feeds-few bs)) (λ _. omega (arith, feeds-few bs))
+feeds-few (b ∷ bs) = cond-cases (λ (n : ℕ). n + feeds bs ≤ suc (length bs)) (eqb b lineFeed) (λ _. omega (arith, feeds-few bs))
+    (λ _. omega (arith, feeds-few bs))
 
 -- n line feeds are counted before place i
 pub record Counted (table : List ℕ) (n i : ℕ) : Type 0 where
@@ -128,7 +130,8 @@ unfolding lead onFirst
 front-length b c ls = go (eqb b lineFeed) (eqb c lineFeed) ls
   where
     go : (x y : Bool) (l : List Line)
-        → length (cond x (record { bytes = []; ended = true } ∷ cond y (record { bytes = []; ended = true } ∷ l) (onFirst c l)) (onFirst b (cond y (record { bytes = []; ended = true } ∷ l) (onFirst c l))))
+        → length (cond x (record { bytes = []; ended = true } ∷ cond y (record { bytes = []; ended = true } ∷ l) (onFirst c l))
+        (onFirst b (cond y (record { bytes = []; ended = true } ∷ l) (onFirst c l))))
         ≡ cond x 1 0 + length (cond y (record { bytes = []; ended = true } ∷ l) (onFirst c l))
     go true y l = omega arith
     go false true l = omega arith
@@ -141,7 +144,8 @@ unfolding linesOf feeds whole lead onFirst
 rows-by-feeds [] = refl
 rows-by-feeds (b ∷ []) = go (eqb b lineFeed)
   where
-    go : (x : Bool) → length {A = Line} (cond x (record { bytes = []; ended = true } ∷ []) (record { bytes = b ∷ []; ended = false } ∷ [])) ≡ cond x 1 0 + 0 + cond x 0 1
+    go : (x : Bool) → length {A = Line} (cond x (record { bytes = []; ended = true } ∷ [])
+        (record { bytes = b ∷ []; ended = false } ∷ [])) ≡ cond x 1 0 + 0 + cond x 0 1
     go true = refl
     go false = refl
 rows-by-feeds (b ∷ c ∷ bs) = omega (arith, front-length b c (linesOf bs), rows-by-feeds (c ∷ bs))

@@ -41,6 +41,7 @@ demand-3 texts edit u r is apart cells cells′ takes takes′ =
     }
 
 -- what import promises of its answer and of the cells after makes these the cells of `demand-3`
-pub import-writes : (texts : List (List ℕ)) (cells after : List ℕ) (answer : Imported) → answer ≡ importOf texts (length cells) → after ≡ cellsAfter texts cells answer
+pub import-writes : (texts : List (List ℕ)) (cells after : List ℕ) (answer : Imported) → answer ≡ importOf texts (length cells)
+    → after ≡ cellsAfter texts cells answer
     → after ≡ imported texts cells
 import-writes texts cells after answer p q = q ∙ ap (cellsAfter texts cells) p

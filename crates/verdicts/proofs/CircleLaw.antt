@@ -18,7 +18,8 @@ module _ (rows : List Entry) (z : Entry) where
   chain-of : (n : ℕ) (e : Entry) → leads n rows e z ≡ true → Chain rows z e
   unfolding leads
   chain-of zero e t = absurd (false≢true t)
-  chain-of (suc n) e t = let w = any-witness (λ o. twin o z || leads n rows o z) (next rows e) t in go (λ o. chain-of n o) (w .0) (w .1) (twin (w .0) z) refl (w .2)
+  chain-of (suc n) e t = let w = any-witness (λ o. twin o z || leads n rows o z) (next rows e) t in go (λ o. chain-of n o) (w .0) (w .1)
+      (twin (w .0) z) refl (w .2)
     where
       go : ((o : Entry) → leads n rows o z ≡ true → Chain rows z o) → (o : Entry) → List·Memᴰ o (next rows e)
           → (b : Bool) → twin o z ≡ b → (b || leads n rows o z) ≡ true → Chain rows z e

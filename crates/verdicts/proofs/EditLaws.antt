@@ -99,7 +99,8 @@ module _ (texts : List (List ℕ)) (edit : Edit texts) where
       (allRows texts) (allRows (edited texts edit))
   unfolding allRows
   rows-alike =
-      like-from (linesOf (edit .before)) (linesOf (edit .after)) (lineOf (edit .old)) (lineOf (edit .new)) 0 (edit .table) (edit .table) carried Ocp texts put (omega arith)
+      like-from (linesOf (edit .before)) (linesOf (edit .after)) (lineOf (edit .old)) (lineOf (edit .new)) 0 (edit .table)
+      (edit .table) carried Ocp texts put (omega arith)
       lines-old lines-put (sym line-old) (sym line-new)
 
   -- as many rows in each table
@@ -120,7 +121,8 @@ module _ (texts : List (List ℕ)) (edit : Edit texts) where
   other-line : (u r : ℕ) → 0 < r → (u ≡ edit .table → r ≡ number edit → ⊥) → Dec (u ≡ edit .table)
       → entryAt texts u r ≡ entryAt (edited texts edit) u r
   unfolding entryAt
-  other-line u r h n (yes e) = rw (e, lines-old, lines-new) (ap (entry _ (edit .table) r) (at-other (linesOf (edit .before)) _ _ _ noLine (r - 1) (λ q. n e (omega arith))))
+  other-line u r h n (yes e) = rw (e, lines-old, lines-new) (ap (entry _ (edit .table) r)
+      (at-other (linesOf (edit .before)) _ _ _ noLine (r - 1) (λ q. n e (omega arith))))
   other-line u r h n (no ne) = rw (text-other u ne)
 
   -- and says the same, unless it is the line

@@ -127,7 +127,8 @@ Found n tables y texts z e =
     × (e ≡ entry (getD tables u y) (n + u) (suc j) (getD (linesOf (textAt texts u)) j z))
 
 -- each row of the tables is so found
-from-in : (n : ℕ) (tables : List Table) (y : Table) (texts : List (List ℕ)) (z : Line) {e : Entry} → List·Memᴰ e (entriesFrom n tables texts) → Found n tables y texts z e
+from-in : (n : ℕ) (tables : List Table) (y : Table) (texts : List (List ℕ)) (z : Line) {e : Entry} → List·Memᴰ e (entriesFrom n tables texts)
+    → Found n tables y texts z e
 unfolding entriesFrom
 from-in n [] y texts z m = elim m [ ]
 from-in n (table ∷ tables) y [] z m = elim m [ ]

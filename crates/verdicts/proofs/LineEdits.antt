@@ -61,7 +61,16 @@ feed-before : (text : List ℕ) (i : ℕ) → (before old after : List ℕ) → 
     → whole before ≡ true → free old ≡ true → length (linesOf before) ≡ i → Cut (lineFeed ∷ text) (suc i)
 unfolding linesOf lead whole
 feed-before text i [] old after stood starts oneLine count =
-    record { before = lineFeed ∷ []; old = old; after = after; stood = ap (λ (l : List ℕ). lineFeed ∷ l) stood; starts = refl; oneLine = oneLine; count = ap suc count }
+    record {
+      before = lineFeed ∷ [];
+      old = old;
+      after = after;
+      stood = ap
+          (λ (l : List ℕ). lineFeed ∷ l) stood;
+      starts = refl;
+      oneLine = oneLine;
+      count = ap suc count;
+    }
 feed-before text i (c ∷ cs) old after stood starts oneLine count =
     record {
       before = lineFeed ∷ c ∷ cs;
@@ -97,7 +106,8 @@ pub record LineEdit (texts : List (List ℕ)) (u r : ℕ) (bytes : List ℕ) : T
   pub row : number edit ≡ r
   pub new : edit .new ≡ bytes
 
-pub line-edit : (texts : List (List ℕ)) (u r : ℕ) (bytes : List ℕ) → IsRow texts u r → getD (linesOf (textAt texts u)) (r - 1) noLine .ended ≡ true → free bytes ≡ true
+pub line-edit : (texts : List (List ℕ)) (u r : ℕ) (bytes : List ℕ) → IsRow texts u r → getD (linesOf (textAt texts u)) (r - 1) noLine .ended ≡ true
+    → free bytes ≡ true
     → LineEdit texts u r bytes
 line-edit texts u r bytes is h f =
     let c : Cut (textAt texts u) (r - 1) = cut (textAt texts u) (r - 1) h in

@@ -62,7 +62,18 @@ fromBytes = record { miscounted = refl; answered = refl; counted = refl; noRoom 
 -- pcf row r, which meets every condition
 abbrev pcfRow : ℕ → String → List Naming → Entry
 pcfRow r name named =
-    record { table = 3; row = r; reading = fine (record { keys = parameter (nameOf (ascii name)) ∷ []; names = named; counts = []; groups = []; meets = λ c. true }) }
+    record {
+      table = 3;
+      row = r;
+      reading = fine (record {
+        keys = parameter
+            (nameOf (ascii name)) ∷ [];
+        names = named;
+        counts = [];
+        groups = [];
+        meets = λ c. true;
+      });
+    }
 
 abbrev valid : String → Naming
 valid name = record { column = 8; key = parameter (nameOf (ascii name)); kind = itself whole; chained = true }
@@ -72,7 +83,18 @@ curtx name = record { column = 12; key = curve (curveNameOf (ascii name)); kind 
 
 -- a pcf row that meets no condition
 abbrev odd : ℕ → String → Entry
-odd r name = record { table = 3; row = r; reading = fine (record { keys = parameter (nameOf (ascii name)) ∷ []; names = []; counts = []; groups = []; meets = λ c. false }) }
+odd r name = record {
+  table = 3;
+  row = r;
+  reading = fine (record {
+    keys = parameter
+        (nameOf (ascii name)) ∷ [];
+    names = [];
+    counts = [];
+    groups = [];
+    meets = λ c. false;
+  });
+}
 
 -- a caf row that meets anyRow alone
 abbrev curveRow : String → Entry

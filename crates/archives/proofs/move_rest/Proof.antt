@@ -9,7 +9,8 @@ use Rattle.archives.proofs.move_rest.Statement.{statement}
 use Rattle.archives.proofs.move_rest.Tie as tie
 
 abbrev Inv-loop : tie.InvT-loop
-Inv-loop block₀ from to count i₀ block i = (block ≡ movedSo block₀ from i) × (length block ≡ length block₀) × (i ≤ count) × (count ≡ min to (length block₀) - from)
+Inv-loop block₀ from to count i₀ block i = (block ≡ movedSo block₀ from i) × (length block ≡ length block₀) × (i ≤ count) ×
+    (count ≡ min to (length block₀) - from)
 
 abbrev μ-loop : tie.MeasureT-loop
 μ-loop block₀ from to count i₀ block i = count - i

@@ -16,8 +16,11 @@ column-at-requires : tie.Need-column-at-requires
 column-at-requires c κs = search needs
 
 returns : tie.Need-returns
-returns c =
-    (keyed-in _ _ _ _ _ (c .before .before .wide .ensures .0 ∙ c .before .before .before .find .ensures) (c .before .if1 .taken) (c .column-at .ensures .0), c .column-at .ensures .1)
+returns c = (
+  keyed-in _ _ _ _ _ (c .before .before .wide .ensures .0 ∙ c .before .before .before .find .ensures) (c .before .if1 .taken)
+      (c .column-at .ensures .0),
+  c .column-at .ensures .1,
+)
 
 returns-2 : tie.Need-returns-2
 returns-2 c = (keyed-out _ _ _ _ _ (c .before .wide .ensures .0 ∙ c .before .before .find .ensures) (c .if1 .left), omega arith)

@@ -27,7 +27,8 @@ unfolding rowAt
 returns c =
     c .line-at .ensures
     ∙ ap₂ (λ (text : List ℕ) (start : ℕ). lineFrom text start .bytes)
-    (c .before .table-at .ensures ∙ ap (λ (t : ℕ). getD (map now (c .before .before .before .before .before .args .tables)) t []) (c .before .before .before .column-at .ensures .0))
+    (c .before .table-at .ensures ∙ ap (λ (t : ℕ). getD (map now (c .before .before .before .before .before .args .tables)) t [])
+    (c .before .before .before .column-at .ensures .0))
     (c .before .before .column-at2 .ensures .0)
 
 pub line-of-spec : {M : Type 1} → statement M

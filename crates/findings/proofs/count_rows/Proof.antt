@@ -10,7 +10,8 @@ use Rattle.findings.proofs.count_rows.Statement.{statement}
 use Rattle.findings.proofs.count_rows.Tie as tie
 
 abbrev Inv-loop : tie.InvT-loop
-Inv-loop columns keys numbers tallies counts₀ n i₀ counts i = Writing (λ k. countOf (getD columns k 0) (getD numbers k 0) (under tallies keys k)) n counts₀ counts i
+Inv-loop columns keys numbers tallies counts₀ n i₀ counts i = Writing
+    (λ k. countOf (getD columns k 0) (getD numbers k 0) (under tallies keys k)) n counts₀ counts i
 
 abbrev μ-loop : tie.MeasureT-loop
 μ-loop columns keys numbers tallies counts₀ n i₀ counts i = n - i

@@ -20,10 +20,12 @@ returns : tie.Need-returns
 returns c = bits-read _ _ _ _ (c .before .before .before .read-unsigned .ensures) _ (c .before .v .given .1)
 
 returns-2 : tie.Need-returns-2
-returns-2 c = let h = c .before .before .before .before .pre in absurd (bits-inside _ _ _ _ (c .before .before .read-unsigned .ensures) (h .0) (h .1) (h .2) (c .enum-told .given .1))
+returns-2 c = let h = c .before .before .before .before .pre in absurd
+    (bits-inside _ _ _ _ (c .before .before .read-unsigned .ensures) (h .0) (h .1) (h .2) (c .enum-told .given .1))
 
 returns-3 : tie.Need-returns-3
-returns-3 c = let h = c .before .before .before .before .pre in absurd (bits-wide _ _ _ _ (c .before .before .read-unsigned .ensures) (h .0) (h .1) (h .2) (c .enum-told2 .given .1))
+returns-3 c = let h = c .before .before .before .before .pre in absurd
+    (bits-wide _ _ _ _ (c .before .before .read-unsigned .ensures) (h .0) (h .1) (h .2) (c .enum-told2 .given .1))
 
 pub bits-spec : {M : Type 1} → statement M
 bits-spec =

@@ -34,15 +34,19 @@ add-if4 c = let h = c .bits2 .ensures .1 in omega arith
 
 returns-4 : tie.Need-returns-4
 unfolding saidHead refusedBy numberOf placeOf lengthField
-returns-4 c = refused-field _ (c .before .before .before .before .before .if1 .left) (c .before .before .before .before .if2 .left) (sym (c .before .before .before .bits .ensures .0) ∙ c .before .before .if3 .left) (λ z. c .if4 .taken (ap (λ x. x + 7) (c .before .bits2 .ensures .0) ∙ z))
+returns-4 c = refused-field _ (c .before .before .before .before .before .if1 .left) (c .before .before .before .before .if2 .left)
+    (sym (c .before .before .before .bits .ensures .0) ∙ c .before .before .if3 .left) (λ z. c .if4 .taken (ap (λ x. x + 7) (c .before .bits2 .ensures .0) ∙ z))
 
 bits-requires-3 : tie.Need-bits-requires-3
 bits-requires-3 c κs = search needs
 
 returns-5 : tie.Need-returns-5
 unfolding saidHead refusedBy numberOf placeOf lengthField flagged
-returns-5 c = refused-data _ (c .before .before .before .before .before .before .before .before .if1 .left) (c .before .before .before .before .before .before .before .if2 .left) (sym (c .before .before .before .before .before .before .bits .ensures .0) ∙ c .before .before .before .before .before .if3 .left)
-    (ap (λ x. x + 7) (sym (c .before .before .before .before .bits2 .ensures .0)) ∙ c .before .before .before .if4 .left) (ap (λ x. eqb x 1) (sym (c .before .before .bits3 .ensures .0)) ∙ c .before .if5 .taken) (c .if6 .taken)
+returns-5 c = refused-data _ (c .before .before .before .before .before .before .before .before .if1 .left)
+    (c .before .before .before .before .before .before .before .if2 .left)
+    (sym (c .before .before .before .before .before .before .bits .ensures .0) ∙ c .before .before .before .before .before .if3 .left)
+    (ap (λ x. x + 7) (sym (c .before .before .before .before .bits2 .ensures .0)) ∙ c .before .before .before .if4 .left)
+    (ap (λ x. eqb x 1) (sym (c .before .before .bits3 .ensures .0)) ∙ c .before .if5 .taken) (c .if6 .taken)
 
 bits-requires-4 : tie.Need-bits-requires-4
 bits-requires-4 c κs = search needs
@@ -58,8 +62,11 @@ cast-count c = let h = c .bits5 .ensures .1 in omega arith
 
 returns-6 : tie.Need-returns-6
 unfolding saidHead lengthField flagged apid sequenceCount
-returns-6 c = heading-is _ (c .before .before .before .before .before .before .before .before .before .if1 .left) (c .before .before .before .before .before .before .before .before .if2 .left) (sym (c .before .before .before .before .before .before .before .bits .ensures .0) ∙ c .before .before .before .before .before .before .if3 .left)
-    (ap (λ x. x + 7) (sym (c .before .before .before .before .before .bits2 .ensures .0)) ∙ c .before .before .before .before .if4 .left) _ _ _ (ap (λ x. eqb x 1) (c .before .before .before .bits3 .ensures .0)) (c .before .bits4 .ensures .0) (c .bits5 .ensures .0)
+returns-6 c = heading-is _ (c .before .before .before .before .before .before .before .before .before .if1 .left)
+    (c .before .before .before .before .before .before .before .before .if2 .left)
+    (sym (c .before .before .before .before .before .before .before .bits .ensures .0) ∙ c .before .before .before .before .before .before .if3 .left)
+    (ap (λ x. x + 7) (sym (c .before .before .before .before .before .bits2 .ensures .0)) ∙ c .before .before .before .before .if4 .left) _ _ _
+    (ap (λ x. eqb x 1) (c .before .before .before .bits3 .ensures .0)) (c .before .bits4 .ensures .0) (c .bits5 .ensures .0)
     (⊎-elim (λ u. inr (u .0 .taken, u .1 .left)) (λ u. inl (u .left)) (c .before .before .if5 .came))
 
 pub read-header-spec : {M : Type 1} → statement M

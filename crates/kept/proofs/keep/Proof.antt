@@ -19,7 +19,8 @@ enum-told : tie.Need-enum-told
 enum-told c = search needs
 
 keep-fitting-requires : tie.Need-keep-fitting-requires
-keep-fitting-requires c κs = sym (c .before .before .before .before .before .before .check-sizes .ensures) ∙ ap saidSizes (c .before .before .before .before .enum-told .given .1)
+keep-fitting-requires c κs = sym (c .before .before .before .before .before .before .check-sizes .ensures) ∙ ap saidSizes
+    (c .before .before .before .before .enum-told .given .1)
 
 returns : tie.Need-returns
 unfolding Keeps

@@ -11,19 +11,40 @@ use Rattle.kept.proofs.keep_fitting.Tie as tie
 
 returns : tie.Need-returns
 unfolding Keeps
-returns c = let s = c .before .before .before .before .before in let a = s .args in (s .pre, short-words (arrays (a .words .now) (a .links .now) 0 (a .halves .now) (a .bytes .now)) (c .if1 .taken), refl)
+returns c = let s = c .before .before .before .before .before in let a = s .args in (
+  s .pre,
+  short-words
+      (arrays (a .words .now) (a .links .now) 0 (a .halves .now) (a .bytes .now)) (c .if1 .taken),
+  refl,
+)
 
 returns-2 : tie.Need-returns-2
 unfolding Keeps
-returns-2 c = let s = c .before .before .before .before .before .before in let a = s .args in (s .pre, short-links (arrays (a .words .now) (a .links .now) 0 (a .halves .now) (a .bytes .now)) (c .before .if1 .left) (c .if2 .taken), refl)
+returns-2 c = let s = c .before .before .before .before .before .before in let a = s .args in (
+  s .pre,
+  short-links
+      (arrays (a .words .now) (a .links .now) 0 (a .halves .now) (a .bytes .now)) (c .before .if1 .left) (c .if2 .taken),
+  refl,
+)
 
 returns-3 : tie.Need-returns-3
 unfolding Keeps
-returns-3 c = let s = c .before .before .before .before .before .before .before in let a = s .args in (s .pre, short-halves (arrays (a .words .now) (a .links .now) 0 (a .halves .now) (a .bytes .now)) (c .before .before .if1 .left) (c .before .if2 .left) (c .if3 .taken), refl)
+returns-3 c = let s = c .before .before .before .before .before .before .before in let a = s .args in (
+  s .pre,
+  short-halves
+      (arrays (a .words .now) (a .links .now) 0 (a .halves .now) (a .bytes .now)) (c .before .before .if1 .left) (c .before .if2 .left) (c .if3 .taken),
+  refl,
+)
 
 returns-4 : tie.Need-returns-4
 unfolding Keeps
-returns-4 c = let s = c .before .before .before .before .before .before .before .before in let a = s .args in (s .pre, short-bytes (arrays (a .words .now) (a .links .now) 0 (a .halves .now) (a .bytes .now)) (c .before .before .before .if1 .left) (c .before .before .if2 .left) (c .before .if3 .left) (c .if4 .taken), refl)
+returns-4 c = let s = c .before .before .before .before .before .before .before .before in let a = s .args in (
+  s .pre,
+  short-bytes
+      (arrays (a .words .now) (a .links .now) 0 (a .halves .now) (a .bytes .now)) (c .before .before .before .if1 .left) (c .before .before .if2 .left)
+      (c .before .if3 .left) (c .if4 .taken),
+  refl,
+)
 
 clear-halves-requires : tie.Need-clear-halves-requires
 clear-halves-requires c κs = search needs
@@ -33,8 +54,12 @@ keep-tables-requires c κs =
     let s = c .before .before .before .before .before .before .before .before .before .before .before .before .before .before .before .before in
     let a = s .args in (
       sizes-taken _ (s .pre),
-      ready-cleared (a .words .now) (a .links .now) _ (a .halves .now) (a .bytes .now) (c .before .before .before .before .before .before .clear-halves .ensures)
-          (omega (arith, c .before .before .before .before .before .before .before .before .before .before .before .if1 .left)) (omega (arith, c .before .before .before .before .before .before .before .before .before .before .if2 .left)) (omega (arith, c .before .before .before .before .before .before .before .before .before .if3 .left)) (omega (arith, c .before .before .before .before .before .before .before .before .if4 .left)),
+      ready-cleared (a .words .now) (a .links .now) _ (a .halves .now) (a .bytes .now)
+          (c .before .before .before .before .before .before .clear-halves .ensures)
+          (omega (arith, c .before .before .before .before .before .before .before .before .before .before .before .if1 .left))
+          (omega (arith, c .before .before .before .before .before .before .before .before .before .before .if2 .left))
+          (omega (arith, c .before .before .before .before .before .before .before .before .before .if3 .left))
+          (omega (arith, c .before .before .before .before .before .before .before .before .if4 .left)),
     )
 
 same-length : tie.Need-same-length

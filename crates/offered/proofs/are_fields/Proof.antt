@@ -37,7 +37,8 @@ holds-requires-4 c κs = search needs
 returns-4 : tie.Need-returns-4
 returns-4 c =
     fields-3 _
-    (sym (c .before .before .before .before .before .before .before .holds .ensures) ∙ not-false _ (c .before .before .before .before .before .before .if1 .left))
+    (sym (c .before .before .before .before .before .before .before .holds .ensures) ∙ not-false _
+    (c .before .before .before .before .before .before .if1 .left))
     (sym (c .before .before .before .before .before .holds2 .ensures) ∙ not-false _ (c .before .before .before .before .if2 .left))
     (sym (c .before .before .before .holds3 .ensures) ∙ not-false _ (c .before .before .if3 .left))
     (sym (c .before .holds4 .ensures) ∙ not-true _ (c .if4 .taken))
@@ -48,7 +49,8 @@ holds-requires-5 c κs = search needs
 returns-5 : tie.Need-returns-5
 returns-5 c =
     c .holds5 .ensures ∙ fields-4 _
-    (sym (c .before .before .before .before .before .before .before .before .holds .ensures) ∙ not-false _ (c .before .before .before .before .before .before .before .if1 .left))
+    (sym (c .before .before .before .before .before .before .before .before .holds .ensures) ∙ not-false _
+    (c .before .before .before .before .before .before .before .if1 .left))
     (sym (c .before .before .before .before .before .before .holds2 .ensures) ∙ not-false _ (c .before .before .before .before .before .if2 .left))
     (sym (c .before .before .before .before .holds3 .ensures) ∙ not-false _ (c .before .before .before .if3 .left))
     (sym (c .before .before .holds4 .ensures) ∙ not-false _ (c .before .if4 .left))

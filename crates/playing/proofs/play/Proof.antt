@@ -13,7 +13,8 @@ use Rattle.playing.proofs.play.Statement.{statement}
 use Rattle.playing.proofs.play.Tie as tie
 
 abbrev Inv-loop : tie.InvT-loop
-Inv-loop tables words links columns name bytes showing replay₀ at₀ replay at = PlaysSo (answers (database (map now tables) words links columns)) name replay₀ bytes replay at
+Inv-loop tables words links columns name bytes showing replay₀ at₀ replay at = PlaysSo
+    (answers (database (map now tables) words links columns)) name replay₀ bytes replay at
 
 abbrev μ-loop : tie.MeasureT-loop
 μ-loop tables words links columns name bytes showing replay₀ at₀ replay at = length bytes - at

@@ -23,7 +23,8 @@ columns-verdict-requires c κs = search needs
 returns-3 : tie.Need-returns-3
 returns-3 c = let s = c .before .before .before .before .before .before .before .before .before .before .before in
     c .columns-verdict .ensures
-    ∙ shape-columns _ _ _ _ (c .before .before .before .before .before .if1 .taken) (c .before .before .before .before .if2 .left) (c .before .before .before .if3 .left)
+    ∙ shape-columns _ _ _ _ (c .before .before .before .before .before .if1 .taken) (c .before .before .before .before .if2 .left)
+    (c .before .before .before .if3 .left)
     (c .before .if4 .taken ∙ sym (schema-length _ _ _ (s .pre .marked) (s .pre .kinded)))
 
 verdict-of-requires-3 : tie.Need-verdict-of-requires-3
@@ -32,7 +33,8 @@ verdict-of-requires-3 c κs = search needs
 returns-4 : tie.Need-returns-4
 returns-4 c = let s = c .before .before .before .before .before .before .before .before .before .before .before in
     c .verdict-of3 .ensures
-    ∙ shape-count _ _ _ _ (c .before .before .before .before .before .if1 .taken) (c .before .before .before .before .if2 .left) (c .before .before .before .if3 .left)
+    ∙ shape-count _ _ _ _ (c .before .before .before .before .before .if1 .taken) (c .before .before .before .before .if2 .left)
+    (c .before .before .before .if3 .left)
     (λ e. c .before .if4 .left (e ∙ schema-length _ _ _ (s .pre .marked) (s .pre .kinded)))
 
 verdict-of-requires-4 : tie.Need-verdict-of-requires-4

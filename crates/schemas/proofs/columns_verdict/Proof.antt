@@ -46,7 +46,8 @@ verdict-of-requires c κs = tt
 returns : tie.Need-returns Inv-loop μ-loop
 returns c = let s = c .before .before .before .before .before .before .before .before .before .before .before .before .before .before in
     let is = c .before .before .column-reason .ensures ∙ ap (columnReason _) (c .before .before .before .before .before .before .column .ensures) in
-    c .verdict-of .ensures ∙ checking-stop _ _ _ (s .pre) _ _ (c .before .before .before .before .before .before .before .before .loop .inv) (c .before .before .before .before .before .before .before .loop-test .taken) _ is (c .before .if1 .taken)
+    c .verdict-of .ensures ∙ checking-stop _ _ _ (s .pre) _ _ (c .before .before .before .before .before .before .before .before .loop .inv)
+    (c .before .before .before .before .before .before .before .loop-test .taken) _ is (c .before .if1 .taken)
 
 add-k : tie.Need-add-k Inv-loop μ-loop
 add-k c = omega arith
@@ -57,7 +58,8 @@ loop-less c = omega arith
 loop-again : tie.Need-loop-again Inv-loop μ-loop
 loop-again c = let s = c .before .before .before .before .before .before .before .before .before .before .before .before .before in
     let is = c .before .column-reason .ensures ∙ ap (columnReason _) (c .before .before .before .before .before .column .ensures) in
-    checking-more _ _ _ (s .pre) _ _ (c .before .before .before .before .before .before .before .loop .inv) (c .before .before .before .before .before .before .loop-test .taken) _ is (c .if1 .left)
+    checking-more _ _ _ (s .pre) _ _ (c .before .before .before .before .before .before .before .loop .inv)
+    (c .before .before .before .before .before .before .loop-test .taken) _ is (c .if1 .left)
 
 returns-2 : tie.Need-returns-2 Inv-loop μ-loop
 returns-2 c = checking-end _ _ _ (c .before .before .before .before .before .before .before .pre) _ _ (c .before .loop .inv) (c .loop-test .left)

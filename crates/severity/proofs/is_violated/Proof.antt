@@ -26,7 +26,8 @@ returns c =
 returns-2 : tie.Need-returns-2
 returns-2 c =
     let s = c .before in
-    violated-above (s .args .lvalu) (s .args .hvalu) (s .args .value) _ (sym (ap₂ ltZ (value-word s) (low-word s)) ∙ c .if1 .left) (ap₂ ltZ (high-word s) (value-word s))
+    violated-above (s .args .lvalu) (s .args .hvalu) (s .args .value) _ (sym (ap₂ ltZ (value-word s) (low-word s)) ∙ c .if1 .left)
+    (ap₂ ltZ (high-word s) (value-word s))
 
 pub is-violated-spec : {M : Type 1} → statement M
 is-violated-spec = tie.close (tie.spec returns returns-2)

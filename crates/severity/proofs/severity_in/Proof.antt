@@ -44,7 +44,8 @@ returns c =
     let g = v .before in
     let l = g .before in
     let t = l .before .before in
-    hard-found _ _ _ _ _ _ (t .before .loop .inv .1) (t .loop-test .taken) (kept (l .limit-at .ok) (l .limit-at .ensures)) (kept (g .limit-at2 .ok) (g .limit-at2 .ensures)) (v .is-violated .ensures)
+    hard-found _ _ _ _ _ _ (t .before .loop .inv .1) (t .loop-test .taken) (kept (l .limit-at .ok) (l .limit-at .ensures))
+    (kept (g .limit-at2 .ok) (g .limit-at2 .ensures)) (v .is-violated .ensures)
     (c .before .if1 .taken) (c .if2 .taken)
     ∙ ap (severityIn _) (value-word (t .before .before .before))
 

@@ -41,7 +41,11 @@ wide-requires c κs = search needs
 -- src/lib.rt:107:13
 returns : tie.Need-returns Inv-loop μ-loop
 returns c = let l = c .before .before .before in
-    record { is = none _ _ _ _ _ _ _ (l .before .loop .inv) (l .loop-test .taken) _ (c .before .wide .ensures .0 ∙ c .before .before .half-at .ensures) (c .if1 .taken); small = omega arith }
+    record {
+      is = none _ _ _ _ _ _ _ (l .before .loop .inv) (l .loop-test .taken) _ (c .before .wide .ensures .0 ∙ c .before .before .half-at .ensures)
+          (c .if1 .taken);
+      small = omega arith;
+    }
 
 -- src/lib.rt:112:37
 sub-symbol-at : tie.Need-sub-symbol-at Inv-loop μ-loop
@@ -61,7 +65,11 @@ returns-2 c = let s = c .before .before in
     let e = s .before in
     let w = e .before in
     let l = w .before .before in
-    record { is = here _ _ _ _ _ _ _ (l .before .loop .inv) (l .loop-test .taken) _ (w .wide .ensures .0 ∙ w .before .half-at .ensures) (e .if1 .left) _ (s .symbol-at .ensures) (sym (c .before .same .ensures) ∙ c .if2 .taken); small = w .wide .ensures .1 }
+    record {
+      is = here _ _ _ _ _ _ _ (l .before .loop .inv) (l .loop-test .taken) _ (w .wide .ensures .0 ∙ w .before .half-at .ensures) (e .if1 .left) _
+          (s .symbol-at .ensures) (sym (c .before .same .ensures) ∙ c .if2 .taken);
+      small = w .wide .ensures .1;
+    }
 
 -- src/lib.rt:118:27
 sub-link-from : tie.Need-sub-link-from Inv-loop μ-loop
@@ -90,7 +98,8 @@ loop-again c = let d = c .before .before in
     let e = s .before in
     let w = e .before in
     let l = w .before .before in
-    on _ _ _ _ _ _ _ (l .before .loop .inv) (l .loop-test .taken) _ (w .wide .ensures .0 ∙ w .before .half-at .ensures) (e .if1 .left) _ (s .symbol-at .ensures) (sym (d .before .same .ensures) ∙ d .if2 .left) _ (c .before .link-from .ensures) _ (c .turned .ensures)
+    on _ _ _ _ _ _ _ (l .before .loop .inv) (l .loop-test .taken) _ (w .wide .ensures .0 ∙ w .before .half-at .ensures) (e .if1 .left) _
+    (s .symbol-at .ensures) (sym (d .before .same .ensures) ∙ d .if2 .left) _ (c .before .link-from .ensures) _ (c .turned .ensures)
 
 -- src/lib.rt:98:1
 returns-3 : tie.Need-returns-3 Inv-loop μ-loop

@@ -62,7 +62,8 @@ same-length-4 c = search needs
 -- src/lib.rt:151:9
 returns-2 : tie.Need-returns-2
 returns-2 c = let s = c .before .before .before .before in
-    intern-full _ _ _ _ (ap (λ x. x .at) (s .before .before .follow .ensures .is)) _ (omega (arith, s .if1 .left)) (sym (c .before .has-room .ensures) ∙ not-true _ (c .if2 .taken))
+    intern-full _ _ _ _ (ap (λ x. x .at) (s .before .before .follow .ensures .is)) _ (omega (arith, s .if1 .left))
+    (sym (c .before .has-room .ensures) ∙ not-true _ (c .if2 .taken))
 
 -- src/lib.rt:156:5
 put-requires : tie.Need-put-requires

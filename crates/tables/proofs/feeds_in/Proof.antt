@@ -34,8 +34,15 @@ loop-less c = omega arith
 
 loop-again : tie.Need-loop-again Inv-loop μ-loop
 loop-again c = let l = c .before .before in
-    let s = l .before .before .before in
-    (omega arith, omega (arith, c .feed .ensures .1), omega (arith, feeds-next (s .args .block .now) (l .before .loop .i) (l .loop-test .taken) (c .feed .ensures .0)))
+    let s = l .before .before .before in (
+      omega arith,
+      omega (arith, c .feed .ensures .1),
+      omega (
+        arith,
+        feeds-next (s .args .block .now) (l .before .loop .i) (l .loop-test .taken)
+            (c .feed .ensures .0),
+      ),
+    )
 
 returns : tie.Need-returns Inv-loop μ-loop
 returns c = omega (arith, feeds-none (c .before .before .before .args .block .now) (c .before .loop .i) (c .loop-test .left))

@@ -15,11 +15,13 @@ abbrev μ-loop : tie.MeasureT-loop
 μ-loop table n₀ i₀ n i = length table - i
 
 -- after a block, and after the last one
-block : (c : tie.After-feeds-in Inv-loop μ-loop) → (let l = c .before .before .before in Counted (l .before .before .args .table .now) (l .loop .n + c .feeds-in .result) (l .loop .i + 128))
+block : (c : tie.After-feeds-in Inv-loop μ-loop) → (let l = c .before .before .before in Counted (l .before .before .args .table .now)
+    (l .loop .n + c .feeds-in .result) (l .loop .i + 128))
 block c = let l = c .before .before .before in
     count-block (l .before .before .args .table .now) (l .loop .n) (l .loop .i) (l .loop .inv) 128 (c .before .before .loop-test .taken) (c .feeds-in .ensures)
 
-rest : (c : tie.After-feeds-in2 Inv-loop μ-loop) → (let l = c .before .before .before in l .loop .n + c .feeds-in2 .result ≡ feeds (l .before .before .args .table .now))
+rest : (c : tie.After-feeds-in2 Inv-loop μ-loop) → (let l = c .before .before .before in l .loop .n + c .feeds-in2 .result ≡ feeds
+    (l .before .before .args .table .now))
 rest c = let l = c .before .before .before in count-rest (l .before .before .args .table .now) (l .loop .n) (l .loop .i) (l .loop .inv) (c .feeds-in2 .ensures)
 
 loop-holds : tie.Need-loop-holds Inv-loop μ-loop

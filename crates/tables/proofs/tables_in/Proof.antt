@@ -37,8 +37,12 @@ loop-less c = omega arith
 
 loop-again : tie.Need-loop-again Inv-loop μ-loop
 loop-again c = let l = c .before .before .loop in
-    let z : 0 + l .t ≡ l .t = omega arith in
-    (omega arith, length-set (l .tables) (l .t) (c .table-in .result) ∙ l .inv .1, rw add-one (filled-more _ 0 (l .t) (l .tables) _ (omega arith) (l .inv .2) (rw z (c .table-in .ensures))))
+    let z : 0 + l .t ≡ l .t = omega arith in (
+      omega arith,
+      length-set (l .tables) (l .t) (c .table-in .result) ∙ l .inv .1,
+      rw add-one
+          (filled-more _ 0 (l .t) (l .tables) _ (omega arith) (l .inv .2) (rw z (c .table-in .ensures))),
+    )
 
 returns : tie.Need-returns Inv-loop μ-loop
 unfolding tablesIn

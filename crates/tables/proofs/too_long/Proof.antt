@@ -37,7 +37,8 @@ returns : tie.Need-returns Inv-loop μ-loop
 returns c = let l = c .before .before .before .loop in
     let a = c .before .before .before .before .args .tables in
     let n : length a ≡ tableCount = search needs in
-    table-here _ (map now a) (l .t) (omega (arith, count a n)) (lt-ltb 65536 (length (getD (map now a) (l .t) [])) (omega (arith, ap length (c .before .table-at .ensures)))) ∙ l .inv .1
+    table-here _ (map now a) (l .t) (omega (arith, count a n))
+    (lt-ltb 65536 (length (getD (map now a) (l .t) [])) (omega (arith, ap length (c .before .table-at .ensures)))) ∙ l .inv .1
 
 add-t : tie.Need-add-t Inv-loop μ-loop
 add-t c = omega arith
@@ -48,8 +49,11 @@ loop-less c = omega arith
 loop-again : tie.Need-loop-again Inv-loop μ-loop
 loop-again c = let l = c .before .before .before .loop in
     let a = c .before .before .before .before .args .tables in
-    let n : length a ≡ tableCount = search needs in
-    (omega arith, table-more _ (map now a) (l .t) (omega (arith, count a n)) (le-ltb 65536 (length (getD (map now a) (l .t) [])) (omega (arith, ap length (c .before .table-at .ensures)))) ∙ l .inv .1)
+    let n : length a ≡ tableCount = search needs in (
+      omega arith,
+      table-more _ (map now a) (l .t) (omega (arith, count a n))
+          (le-ltb 65536 (length (getD (map now a) (l .t) [])) (omega (arith, ap length (c .before .table-at .ensures)))) ∙ l .inv .1,
+    )
 
 returns-2 : tie.Need-returns-2 Inv-loop μ-loop
 returns-2 c = let a = c .before .before .args .tables in

@@ -17,7 +17,8 @@ use Rattle.tables.proofs.too_many_rows.Statement.{statement}
 use Rattle.tables.proofs.too_many_rows.Tie as tie
 
 abbrev Inv-loop : tie.InvT-loop
-Inv-loop tables t₀ t = (t ≤ tableCount) × (firstTable (λ text. ltb mostRows (length (linesOf text))) (t + 1) (drop t (map now tables)) ≡ tooManyRows (map now tables))
+Inv-loop tables t₀ t = (t ≤ tableCount) × (firstTable (λ text. ltb mostRows (length (linesOf text))) (t + 1) (drop t (map now tables)) ≡ tooManyRows
+    (map now tables))
 
 abbrev μ-loop : tie.MeasureT-loop
 μ-loop tables t₀ t = tableCount - t
@@ -39,7 +40,9 @@ returns : tie.Need-returns Inv-loop μ-loop
 returns c = let l = c .before .before .before .before .loop in
     let a = c .before .before .before .before .before .args .tables in
     let n : length a ≡ tableCount = search needs in
-    table-here _ (map now a) (l .t) (omega (arith, count a n)) (lt-ltb mostRows (length (linesOf (getD (map now a) (l .t) []))) (omega (arith, ap (λ (s : List ℕ). length (linesOf s)) (c .before .before .table-at .ensures), c .before .row-count .ensures))) ∙ l .inv .1
+    table-here _ (map now a) (l .t) (omega (arith, count a n))
+    (lt-ltb mostRows (length (linesOf (getD (map now a) (l .t) [])))
+    (omega (arith, ap (λ (s : List ℕ). length (linesOf s)) (c .before .before .table-at .ensures), c .before .row-count .ensures))) ∙ l .inv .1
 
 add-t : tie.Need-add-t Inv-loop μ-loop
 add-t c = omega arith
@@ -50,8 +53,12 @@ loop-less c = omega arith
 loop-again : tie.Need-loop-again Inv-loop μ-loop
 loop-again c = let l = c .before .before .before .before .loop in
     let a = c .before .before .before .before .before .args .tables in
-    let n : length a ≡ tableCount = search needs in
-    (omega arith, table-more _ (map now a) (l .t) (omega (arith, count a n)) (le-ltb mostRows (length (linesOf (getD (map now a) (l .t) []))) (omega (arith, ap (λ (s : List ℕ). length (linesOf s)) (c .before .before .table-at .ensures), c .before .row-count .ensures))) ∙ l .inv .1)
+    let n : length a ≡ tableCount = search needs in (
+      omega arith,
+      table-more _ (map now a) (l .t) (omega (arith, count a n))
+          (le-ltb mostRows (length (linesOf (getD (map now a) (l .t) [])))
+          (omega (arith, ap (λ (s : List ℕ). length (linesOf s)) (c .before .before .table-at .ensures), c .before .row-count .ensures))) ∙ l .inv .1,
+    )
 
 returns-2 : tie.Need-returns-2 Inv-loop μ-loop
 returns-2 c = let a = c .before .before .args .tables in

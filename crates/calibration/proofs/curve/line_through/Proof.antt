@@ -48,7 +48,8 @@ returns-3 c =
     let s = f .before .before in
     c .of-line .ensures
     ∙ o .on-line .ensures
-    ∙ through-two (s .args .xs .now) (s .args .ys .now) (s .args .x) (f .from .given .1) (t .to .given .1) (p .point .ensures) (o .before .point2 .ensures) (through-word (s .args .x) (s .fits .x .sfits))
+    ∙ through-two (s .args .xs .now) (s .args .ys .now) (s .args .x) (f .from .given .1) (t .to .given .1) (p .point .ensures) (o .before .point2 .ensures)
+    (through-word (s .args .x) (s .fits .x .sfits))
 
 pub line-through-spec : {M : Type 1} → statement M
 line-through-spec =

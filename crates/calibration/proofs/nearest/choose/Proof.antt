@@ -16,7 +16,8 @@ use Rattle.calibration.proofs.nearest.choose.Tie as tie
 side-is : (c : tie.After-on-side) → (let a = c .before .before .args in passes (a .side) (a .v) (getD (a .xs .now) (a .n) (pos 0)) ≡ c .on-side .result)
 side-is c =
     let s = c .before .before in
-    sym (c .on-side .ensures ∙ ap₂ (passes (s .args .side)) (through-word (s .args .v) (s .fits .v .sfits)) (kept (c .before .item .ok) (c .before .item .ensures)))
+    sym (c .on-side .ensures ∙ ap₂ (passes (s .args .side)) (through-word (s .args .v) (s .fits .v .sfits))
+    (kept (c .before .item .ok) (c .before .item .ensures)))
 
 -- by which of two is nearer
 chosen : (c : tie.After-is-nearer) (t : Bool) → c .is-nearer .result ≡ t
@@ -30,7 +31,8 @@ chosen c t e =
     let o = k .before .before .before in
     let a = o .before .before .args in
     better-than (a .side) (a .xs .now) (a .v) (a .n) (a .best) _ t (k .best .given .1) (side-is o ∙ not-false _ (k .before .before .if1 .left))
-    (sym (c .is-nearer .ensures ∙ ap₂ (nearer (a .side)) (kept (o .before .item .ok) (o .before .item .ensures)) (kept (c .before .item2 .ok) (c .before .item2 .ensures))) ∙ e)
+    (sym (c .is-nearer .ensures ∙ ap₂ (nearer (a .side)) (kept (o .before .item .ok) (o .before .item .ensures))
+    (kept (c .before .item2 .ok) (c .before .item2 .ensures))) ∙ e)
 
 item-requires : tie.Need-item-requires
 item-requires c κs = search needs

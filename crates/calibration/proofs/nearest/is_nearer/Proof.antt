@@ -26,15 +26,18 @@ less-requires-3 c κs = search needs
 
 returns : tie.Need-returns
 unfolding nearer
-returns c = let s = c .before .before .before in rw (c .before .enum-told .given .1) (of-words ltZ (s .args .y) (s .args .x) (s .fits .y .sfits) (s .fits .x .sfits) (c .less .ensures))
+returns c = let s = c .before .before .before in rw (c .before .enum-told .given .1)
+    (of-words ltZ (s .args .y) (s .args .x) (s .fits .y .sfits) (s .fits .x .sfits) (c .less .ensures))
 
 returns-2 : tie.Need-returns-2
 unfolding nearer
-returns-2 c = let s = c .before .before .before in rw (c .before .enum-told2 .given .1) (of-words ltZ (s .args .y) (s .args .x) (s .fits .y .sfits) (s .fits .x .sfits) (c .less2 .ensures))
+returns-2 c = let s = c .before .before .before in rw (c .before .enum-told2 .given .1)
+    (of-words ltZ (s .args .y) (s .args .x) (s .fits .y .sfits) (s .fits .x .sfits) (c .less2 .ensures))
 
 returns-3 : tie.Need-returns-3
 unfolding nearer
-returns-3 c = let s = c .before .before .before in rw (c .before .enum-told3 .given .1) (of-words ltZ (s .args .x) (s .args .y) (s .fits .x .sfits) (s .fits .y .sfits) (c .less3 .ensures))
+returns-3 c = let s = c .before .before .before in rw (c .before .enum-told3 .given .1)
+    (of-words ltZ (s .args .x) (s .args .y) (s .fits .x .sfits) (s .fits .y .sfits) (c .less3 .ensures))
 
 pub is-nearer-spec : {M : Type 1} → statement M
 is-nearer-spec =

@@ -38,7 +38,8 @@ loop-again c = let l = c .before .before .loop in (omega arith, one-further _ _ 
 returns : tie.Need-returns Inv-loop μ-loop
 returns c =
     let s = c .before .before in
-    c .before .loop .inv .1 ∙ ap₂ (λ (z : ℤ) (k : ℕ). nearestOf (s .args .side) (s .args .xs .now) z k) (through-word (s .args .v) (s .fits .v .sfits)) (omega arith)
+    c .before .loop .inv .1 ∙ ap₂ (λ (z : ℤ) (k : ℕ). nearestOf (s .args .side) (s .args .xs .now) z k) (through-word (s .args .v) (s .fits .v .sfits))
+    (omega arith)
 
 pub nearest-spec : {M : Type 1} → statement M
 nearest-spec =

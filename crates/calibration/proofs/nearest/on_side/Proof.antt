@@ -26,15 +26,18 @@ less-requires-2 c κs = search needs
 
 returns : tie.Need-returns
 unfolding passes
-returns c = let s = c .before .before .before in rw (c .before .enum-told .given .1) (of-words leZ (s .args .x) (s .args .v) (s .fits .x .sfits) (s .fits .v .sfits) (c .at-most .ensures))
+returns c = let s = c .before .before .before in rw (c .before .enum-told .given .1)
+    (of-words leZ (s .args .x) (s .args .v) (s .fits .x .sfits) (s .fits .v .sfits) (c .at-most .ensures))
 
 returns-2 : tie.Need-returns-2
 unfolding passes
-returns-2 c = let s = c .before .before .before in rw (c .before .enum-told2 .given .1) (of-words ltZ (s .args .x) (s .args .v) (s .fits .x .sfits) (s .fits .v .sfits) (c .less .ensures))
+returns-2 c = let s = c .before .before .before in rw (c .before .enum-told2 .given .1)
+    (of-words ltZ (s .args .x) (s .args .v) (s .fits .x .sfits) (s .fits .v .sfits) (c .less .ensures))
 
 returns-3 : tie.Need-returns-3
 unfolding passes
-returns-3 c = let s = c .before .before .before in rw (c .before .enum-told3 .given .1) (of-words ltZ (s .args .v) (s .args .x) (s .fits .v .sfits) (s .fits .x .sfits) (c .less2 .ensures))
+returns-3 c = let s = c .before .before .before in rw (c .before .enum-told3 .given .1)
+    (of-words ltZ (s .args .v) (s .args .x) (s .fits .v .sfits) (s .fits .x .sfits) (c .less2 .ensures))
 
 pub on-side-spec : {M : Type 1} → statement M
 on-side-spec =

@@ -51,7 +51,8 @@ returns-4 c =
     let t = k .before .before .before .before in
     let l = t .before .loop in
     course-rounds _ _ _
-    (comes-again _ _ (l .at) _ (k .next-row .ensures) (c .before .before .if2 .left) (c .before .if3 .left) _ (l .left) (l .inv .1) (c .if4 .taken) (t .loop-test .taken) ∙ l .inv .0)
+    (comes-again _ _ (l .at) _ (k .next-row .ensures) (c .before .before .if2 .left) (c .before .if3 .left) _ (l .left) (l .inv .1) (c .if4 .taken)
+    (t .loop-test .taken) ∙ l .inv .0)
 
 sub-left : tie.Need-sub-left Inv-loop μ-loop
 sub-left c = omega arith

@@ -57,7 +57,8 @@ returns-3 c =
     let t = c .before .before .before .before .before .before .before in
     let l = t .before .loop in
     is-deep _ _ _ _ _ _ (l .inv) 1 (omega arith) (omega (arith, t .loop-test .taken))
-    (sym (firm-end _ _ 1 (l .at) (omega arith) _ (c .before .before .before .byte-at .ensures) (c .before .before .if3 .left) _ (c .before .next-row .ensures) (c .if4 .taken)))
+    (sym (firm-end _ _ 1 (l .at) (omega arith) _ (c .before .before .before .byte-at .ensures) (c .before .before .if3 .left) _
+    (c .before .next-row .ensures) (c .if4 .taken)))
 
 sub-left : tie.Need-sub-left Inv-loop μ-loop
 sub-left c = omega arith
@@ -70,7 +71,8 @@ loop-again c =
     let t = c .before .before .before .before .before .before .before in
     let l = t .before .loop in
     behind-more _ _ _ _ _ _ (l .inv) _ (t .loop-test .taken)
-    (λ (k : ℕ) h. firm-on _ _ k (l .at) h _ (c .before .before .before .byte-at .ensures) (c .before .before .if3 .left) _ (c .before .next-row .ensures) (c .if4 .left))
+    (λ (k : ℕ) h. firm-on _ _ k (l .at) h _ (c .before .before .before .byte-at .ensures) (c .before .before .if3 .left) _ (c .before .next-row .ensures)
+    (c .if4 .left))
 
 returns-4 : tie.Need-returns-4 Inv-loop μ-loop
 returns-4 c = let l = c .before .loop in not-good _ _ _ _ (firm-never _ _ (l .left) (l .at) (c .loop-test .left) ∙ l .inv .same)

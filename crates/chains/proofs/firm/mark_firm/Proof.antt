@@ -12,7 +12,8 @@ use Rattle.chains.proofs.firm.mark_firm.Statement.{statement}
 use Rattle.chains.proofs.firm.mark_firm.Tie as tie
 
 abbrev Inv-loop : tie.InvT-loop
-Inv-loop next firm chains₀ within n depths₀ i₀ chains depths i = Writing (λ k. flag (firmFrom next firm within k)) n chains₀ chains i × KnownDepths next firm depths
+Inv-loop next firm chains₀ within n depths₀ i₀ chains depths i = Writing
+    (λ k. flag (firmFrom next firm within k)) n chains₀ chains i × KnownDepths next firm depths
 
 abbrev μ-loop : tie.MeasureT-loop
 μ-loop next firm chains₀ within n depths₀ i₀ chains depths i = n - i

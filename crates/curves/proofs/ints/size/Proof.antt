@@ -38,7 +38,8 @@ sub-result c = let s = c .before in rw (less-one c) (fits-size (pos (natAbs (s .
 cast-result : tie.Need-cast-result
 cast-result c =
     let s = c .before in
-    rw (less-one c, through (pos (natAbs (s .args .a) - 1)) (small (s .args .a) (s .fits .a))) (tt, record { fits = omega (arith, small (s .args .a) (s .fits .a)) })
+    rw (less-one c, through (pos (natAbs (s .args .a) - 1)) (small (s .args .a) (s .fits .a)))
+    (tt, record { fits = omega (arith, small (s .args .a) (s .fits .a)) })
 
 add-result : tie.Need-add-result
 add-result c = let s = c .before in rw (whole c) (record { fits = omega (arith, natAbs-le (s .args .a) (s .fits .a .sfits)) })

@@ -30,7 +30,8 @@ returns-2 c =
     let s = c .before .before .before .before in
     let n = c .before .before in
     c .answer .ensures
-    ∙ ap resultOf (kept (c .before .plus .ok) (c .before .plus .ensures ∙ ap₂ _+ℤ_ (toZ-ofZ w64 (s .args .y) (s .fits .y)) (kept (n .of-nat .ok) (n .of-nat .ensures))))
+    ∙ ap resultOf (kept (c .before .plus .ok) (c .before .plus .ensures ∙ ap₂ _+ℤ_ (toZ-ofZ w64 (s .args .y) (s .fits .y))
+    (kept (n .of-nat .ok) (n .of-nat .ensures))))
 
 pub above-spec : {M : Type 1} → statement M
 above-spec = tie.close (tie.spec returns of-nat-requires plus-requires answer-requires returns-2)

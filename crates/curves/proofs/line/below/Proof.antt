@@ -30,7 +30,8 @@ returns-2 c =
     let s = c .before .before .before .before in
     let n = c .before .before in
     c .answer .ensures
-    ∙ ap resultOf (kept (c .before .minus .ok) (c .before .minus .ensures ∙ ap₂ _-ℤ_ (toZ-ofZ w64 (s .args .y) (s .fits .y)) (kept (n .of-nat .ok) (n .of-nat .ensures))))
+    ∙ ap resultOf (kept (c .before .minus .ok) (c .before .minus .ensures ∙ ap₂ _-ℤ_ (toZ-ofZ w64 (s .args .y) (s .fits .y))
+    (kept (n .of-nat .ok) (n .of-nat .ensures))))
 
 pub below-spec : {M : Type 1} → statement M
 below-spec = tie.close (tie.spec returns of-nat-requires minus-requires answer-requires returns-2)

@@ -26,10 +26,12 @@ product-is : (c : tie.After-product) → (let a = c .before .before .before .arg
 product-is c = c .product .ensures ∙ ap₂ _*_ (rise-size (c .before .before)) (over-size (c .before))
 
 rise-sign : (c : tie.After-is-negative) → (let s = c .before .before .before .before in not (nonNeg (s .args .rise)) ≡ c .is-negative .result)
-rise-sign c = let s = c .before .before .before .before in sym (c .is-negative .ensures ∙ ap (λ (z : ℤ). not (nonNeg z)) (toZ-ofZ w64 (s .args .rise) (s .fits .rise)))
+rise-sign c = let s = c .before .before .before .before in sym
+    (c .is-negative .ensures ∙ ap (λ (z : ℤ). not (nonNeg z)) (toZ-ofZ w64 (s .args .rise) (s .fits .rise)))
 
 over-sign : (c : tie.After-is-negative2) → (let s = c .before .before .before .before .before in not (nonNeg (s .args .over)) ≡ c .is-negative2 .result)
-over-sign c = let s = c .before .before .before .before .before in sym (c .is-negative2 .ensures ∙ ap (λ (z : ℤ). not (nonNeg z)) (toZ-ofZ w64 (s .args .over) (s .fits .over)))
+over-sign c = let s = c .before .before .before .before .before in sym
+    (c .is-negative2 .ensures ∙ ap (λ (z : ℤ). not (nonNeg z)) (toZ-ofZ w64 (s .args .over) (s .fits .over)))
 
 size-requires : tie.Need-size-requires
 size-requires c κs = search needs
@@ -82,7 +84,8 @@ returns-2 c =
     let s = n .before .before .before .before .before in
     c .above .ensures
     ∙ ap resultOf (ap₂ _+ℤ_ (toZ-ofZ w64 (s .args .y) (s .fits .y))
-    (floor-agree (s .args .rise) (s .args .over) _ (s .args .run) (product-is (n .before .before)) (rise-sign (n .before) ∙ agree _ _ (c .before .if1 .left) ∙ sym (over-sign n))))
+    (floor-agree (s .args .rise) (s .args .over) _ (s .args .run) (product-is (n .before .before))
+    (rise-sign (n .before) ∙ agree _ _ (c .before .if1 .left) ∙ sym (over-sign n))))
 
 pub climbed-spec : {M : Type 1} → statement M
 climbed-spec =

@@ -22,7 +22,11 @@ is-point-requires-2 c κs = search needs
 returns-2 : tie.Need-returns-2
 unfolding isSegment
 returns-2 c =
-    rw (sym (c .before .before .before .is-point .ensures) ∙ not-false _ (c .before .before .if1 .left), sym (c .before .is-point2 .ensures) ∙ not-true _ (c .if2 .taken))
+    rw (
+      sym (c .before .before .before .is-point .ensures) ∙ not-false _ (c .before .before .if1 .left),
+      sym (c .before .is-point2 .ensures) ∙ not-true _
+          (c .if2 .taken),
+    )
 
 less-requires : tie.Need-less-requires
 less-requires c κs = search needs
@@ -35,7 +39,13 @@ returns-3 c =
     let f : SFits w64 (a .from .x) = search needs in
     let g : SFits w64 (a .to .x) = search needs in
     c .less .ensures
-    ∙ rw (toZ-ofZ w64 (a .from .x) f, toZ-ofZ w64 (a .to .x) g, sym (n .before .before .before .is-point .ensures) ∙ not-false _ (n .before .before .if1 .left), sym (n .before .is-point2 .ensures) ∙ not-false _ (n .if2 .left))
+    ∙ rw (
+      toZ-ofZ w64 (a .from .x) f,
+      toZ-ofZ w64 (a .to .x) g,
+      sym (n .before .before .before .is-point .ensures) ∙ not-false _
+          (n .before .before .if1 .left),
+      sym (n .before .is-point2 .ensures) ∙ not-false _ (n .if2 .left),
+    )
 
 pub is-segment-spec : {M : Type 1} → statement M
 is-segment-spec =

@@ -28,7 +28,8 @@ lies-within-requires c κs = search needs
 returns-2 : tie.Need-returns-2
 unfolding saidOnLine
 returns-2 c =
-    line-no-raw _ _ _ (sym (c .before .before .before .is-segment .ensures) ∙ not-false _ (c .before .before .if1 .left)) (raw-is (c .before) ∙ not-true _ (c .if2 .taken))
+    line-no-raw _ _ _ (sym (c .before .before .before .is-segment .ensures) ∙ not-false _ (c .before .before .if1 .left))
+    (raw-is (c .before) ∙ not-true _ (c .if2 .taken))
 
 drawn-requires : tie.Need-drawn-requires
 drawn-requires c κs =
@@ -43,7 +44,8 @@ returns-3 c =
     let s = n .before .before .before .before in
     c .drawn .ensures
     ∙ ap (λ (z : ℤ). resultOf (heightAt (s .args .from) (s .args .to) z)) (toZ-ofZ w64 (s .args .x) (s .fits .x))
-    ∙ line-is _ _ _ (sym (n .before .before .before .is-segment .ensures) ∙ not-false _ (n .before .before .if1 .left)) (raw-is (n .before) ∙ not-false _ (n .if2 .left))
+    ∙ line-is _ _ _ (sym (n .before .before .before .is-segment .ensures) ∙ not-false _ (n .before .before .if1 .left))
+    (raw-is (n .before) ∙ not-false _ (n .if2 .left))
 
 pub on-line-spec : {M : Type 1} → statement M
 on-line-spec =

@@ -17,7 +17,8 @@ holder-of-requires c κs = search needs
 
 returns : tie.Need-returns
 returns c = let n = c .before .before .before .name-of .ensures in
-    number-unknown _ _ _ (holder-none _ _ _ _ _ _ (rw n at (c .before .before .parameter-key .ensures .0)) (rw n at (c .before .before .parameter-key .ensures .1)) _ (c .before .holder-of .ensures .0) (c .if1 .taken))
+    number-unknown _ _ _ (holder-none _ _ _ _ _ _ (rw n at (c .before .before .parameter-key .ensures .0))
+    (rw n at (c .before .before .parameter-key .ensures .1)) _ (c .before .holder-of .ensures .0) (c .if1 .taken))
 
 sub-line-of : tie.Need-sub-line-of
 sub-line-of c = search needs
@@ -32,7 +33,8 @@ returns-2 : tie.Need-returns-2
 returns-2 c = let n = c .before .before .before .before .before .name-of .ensures in
     let k = c .before .before .before .before .parameter-key .ensures in
     number-known _ _ _ (c .engineer-value .ensures) (toZ-ofZ (c .before .before .before .before .before .before .before .before .before .before .fits .raw)) _
-    (holder-some _ _ _ _ _ _ (rw n at (k .0)) (rw n at (k .1)) _ (c .before .before .before .holder-of .ensures .0) (c .before .before .if1 .left)) (c .before .line-of .ensures)
+    (holder-some _ _ _ _ _ _ (rw n at (k .0)) (rw n at (k .1)) _ (c .before .before .before .holder-of .ensures .0) (c .before .before .if1 .left))
+    (c .before .line-of .ensures)
 
 pub engineer-number-spec : {M : Type 1} → statement M
 engineer-number-spec =

@@ -20,7 +20,8 @@ enum-known-refusal : tie.Need-enum-known-refusal
 enum-known-refusal c = search needs
 
 returns : tie.Need-returns
-returns c = extract-read _ _ _ _ (c .before .before .before .before .before .identify-in .ensures) _ _ _ (c .before .before .before .spid .given .1) (c .before .name-of .ensures) (c .read .ensures)
+returns c = extract-read _ _ _ _ (c .before .before .before .before .before .identify-in .ensures) _ _ _ (c .before .before .before .spid .given .1)
+    (c .before .name-of .ensures) (c .read .ensures)
 
 returns-2 : tie.Need-returns-2
 returns-2 c = extract-refused _ _ _ _ (c .before .before .before .identify-in .ensures) _ (c .before .refusal .given .1)

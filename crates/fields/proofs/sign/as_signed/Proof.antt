@@ -42,13 +42,15 @@ below-zero-requires : tie.Need-below-zero-requires
 below-zero-requires c κs = omega (arith, half-is (c .before), low-half (c .before .args .width) (c .before .pre .1), pow-pos (c .before .args .width - 1))
 
 returns : tie.Need-returns
-returns c = toZ-pos w64 (c .before .args .v) (omega (arith, low-half (c .before .args .width) (c .before .pre .1), half-is (c .before))) ∙ complement-low _ _ (omega (arith, half-is (c .before)))
+returns c = toZ-pos w64 (c .before .args .v) (omega (arith, low-half (c .before .args .width) (c .before .pre .1), half-is (c .before))) ∙ complement-low _
+    _ (omega (arith, half-is (c .before)))
 
 returns-2 : tie.Need-returns-2
 returns-2 c =
     let a = c .before .before .args in
     kept (c .below-zero .ok)
-    (c .below-zero .ensures ∙ rw (half-is (c .before .before)) (complement-high (a .width) (a .v) (omega arith) (omega (arith, half-is (c .before .before))) (omega arith)))
+    (c .below-zero .ensures ∙ rw (half-is (c .before .before))
+    (complement-high (a .width) (a .v) (omega arith) (omega (arith, half-is (c .before .before))) (omega arith)))
 
 pub as-signed-spec : {M : Type 1} → statement M
 as-signed-spec =

@@ -58,7 +58,17 @@ returns-7 c = let e : c .before .before .args .ptc ≡ 8 = omega arith in rw e (
 
 returns-8 : tie.Need-returns-8
 unfolding bitsOf widthOf
-returns-8 c = rw (ne-eqb _ 1 (c .match .rest .0 .0 .0 .0 .0 .0 .1), ne-eqb _ 2 (c .match .rest .0 .0 .0 .0 .0 .1), ne-eqb _ 3 (c .match .rest .0 .0 .0 .0 .1), ne-eqb _ 4 (c .match .rest .0 .0 .0 .1), ne-eqb _ 6 (c .match .rest .0 .0 .1), ne-eqb _ 7 (c .match .rest .0 .1), ne-eqb _ 8 (c .match .rest .1))
+returns-8 c = rw (
+  ne-eqb _ 1 (c .match .rest .0 .0 .0 .0 .0 .0 .1),
+  ne-eqb _ 2 (c .match .rest .0 .0 .0 .0 .0 .1),
+  ne-eqb _ 3
+      (c .match .rest .0 .0 .0 .0 .1),
+  ne-eqb _ 4 (c .match .rest .0 .0 .0 .1),
+  ne-eqb _ 6 (c .match .rest .0 .0 .1),
+  ne-eqb _ 7
+      (c .match .rest .0 .1),
+  ne-eqb _ 8 (c .match .rest .1),
+)
 
 pub width-of-spec : {M : Type 1} → statement M
 width-of-spec =

@@ -9,7 +9,8 @@ use borrow.Author.Needs.{needs}
 use Rattle.formed.proofs.contradictions.ocp_contradiction.Statement.{statement}
 use Rattle.formed.proofs.contradictions.ocp_contradiction.Tie as tie
 
-bits : (s : tie.Start) → ltZ (toZ w64 (ofZ w64 (s .args .row .hvalu))) (toZ w64 (ofZ w64 (s .args .row .lvalu))) ≡ ltZ (s .args .row .hvalu) (s .args .row .lvalu)
+bits : (s : tie.Start) → ltZ (toZ w64 (ofZ w64 (s .args .row .hvalu))) (toZ w64 (ofZ w64 (s .args .row .lvalu))) ≡ ltZ (s .args .row .hvalu)
+    (s .args .row .lvalu)
 bits s =
     let f : SFits w64 (s .args .row .hvalu) = search needs in
     let g : SFits w64 (s .args .row .lvalu) = search needs in

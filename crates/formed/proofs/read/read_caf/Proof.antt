@@ -41,7 +41,8 @@ unfolding contradiction
 returns c = let s = c .before .before .before .before .before .before .before .before .scan .ensures in
     let w = walked-over (s .0) (c .before .before .before .before .before .before .part .ensures) (s .1) in
     let row = c .before .before .caf-row .ensures ∙ caf-divided _ (ends-are w) in
-    let verdict = formed-is w Caf (c .before .before .before .before .check-caf .ensures) (c .before .caf-contradiction .ensures ∙ ap cafContradiction row) (c .or-contradiction .ensures) in
+    let verdict = formed-is w Caf (c .before .before .before .before .check-caf .ensures) (c .before .caf-contradiction .ensures ∙ ap cafContradiction row)
+    (c .or-contradiction .ensures) in
     ((verdict, row ∙ ap cafRow (line-is w)), next-is w)
 
 pub read-caf-spec : {M : Type 1} → statement M

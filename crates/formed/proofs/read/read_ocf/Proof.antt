@@ -41,7 +41,8 @@ unfolding contradiction
 returns c = let s = c .before .before .before .before .before .before .before .before .scan .ensures in
     let w = walked-over (s .0) (c .before .before .before .before .before .before .part .ensures) (s .1) in
     let row = c .before .before .ocf-row .ensures ∙ ocf-divided _ (ends-are w) in
-    let verdict = formed-is w Ocf (c .before .before .before .before .check-ocf .ensures) (c .before .ocf-contradiction .ensures ∙ ap ocfContradiction row) (c .or-contradiction .ensures) in
+    let verdict = formed-is w Ocf (c .before .before .before .before .check-ocf .ensures) (c .before .ocf-contradiction .ensures ∙ ap ocfContradiction row)
+    (c .or-contradiction .ensures) in
     ((verdict, row ∙ ap ocfRow (line-is w)), next-is w)
 
 pub read-ocf-spec : {M : Type 1} → statement M

@@ -41,7 +41,8 @@ unfolding contradiction
 returns c = let s = c .before .before .before .before .before .before .before .before .scan .ensures in
     let w = walked-over (s .0) (c .before .before .before .before .before .before .part .ensures) (s .1) in
     let row = c .before .before .ocp-row .ensures ∙ ocp-divided _ (ends-are w) in
-    let verdict = formed-is w Ocp (c .before .before .before .before .check-ocp .ensures) (c .before .ocp-contradiction .ensures ∙ ap ocpContradiction row) (c .or-contradiction .ensures) in
+    let verdict = formed-is w Ocp (c .before .before .before .before .check-ocp .ensures) (c .before .ocp-contradiction .ensures ∙ ap ocpContradiction row)
+    (c .or-contradiction .ensures) in
     ((verdict, row ∙ ap ocpRow (line-is w)), next-is w)
 
 pub read-ocp-spec : {M : Type 1} → statement M

@@ -41,7 +41,8 @@ unfolding contradiction
 returns c = let s = c .before .before .before .before .before .before .before .before .scan .ensures in
     let w = walked-over (s .0) (c .before .before .before .before .before .before .part .ensures) (s .1) in
     let row = c .before .before .pcf-row .ensures ∙ pcf-divided _ (ends-are w) in
-    let verdict = formed-is w Pcf (c .before .before .before .before .check-pcf .ensures) (c .before .pcf-contradiction .ensures ∙ ap pcfContradiction row) (c .or-contradiction .ensures) in
+    let verdict = formed-is w Pcf (c .before .before .before .before .check-pcf .ensures) (c .before .pcf-contradiction .ensures ∙ ap pcfContradiction row)
+    (c .or-contradiction .ensures) in
     ((verdict, row ∙ ap pcfRow (line-is w)), next-is w)
 
 pub read-pcf-spec : {M : Type 1} → statement M

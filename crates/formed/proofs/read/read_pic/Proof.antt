@@ -41,7 +41,8 @@ unfolding contradiction
 returns c = let s = c .before .before .before .before .before .before .before .before .scan .ensures in
     let w = walked-over (s .0) (c .before .before .before .before .before .before .part .ensures) (s .1) in
     let row = c .before .before .pic-row .ensures ∙ pic-divided _ (ends-are w) in
-    let verdict = formed-is w Pic (c .before .before .before .before .check-pic .ensures) (c .before .pic-contradiction .ensures ∙ ap picContradiction row) (c .or-contradiction .ensures) in
+    let verdict = formed-is w Pic (c .before .before .before .before .check-pic .ensures) (c .before .pic-contradiction .ensures ∙ ap picContradiction row)
+    (c .or-contradiction .ensures) in
     ((verdict, row ∙ ap picRow (line-is w)), next-is w)
 
 pub read-pic-spec : {M : Type 1} → statement M

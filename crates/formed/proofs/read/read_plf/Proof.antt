@@ -41,7 +41,8 @@ unfolding contradiction
 returns c = let s = c .before .before .before .before .before .before .before .before .scan .ensures in
     let w = walked-over (s .0) (c .before .before .before .before .before .before .part .ensures) (s .1) in
     let row = c .before .before .plf-row .ensures ∙ plf-divided _ (ends-are w) in
-    let verdict = formed-is w Plf (c .before .before .before .before .check-plf .ensures) (c .before .plf-contradiction .ensures ∙ ap plfContradiction row) (c .or-contradiction .ensures) in
+    let verdict = formed-is w Plf (c .before .before .before .before .check-plf .ensures) (c .before .plf-contradiction .ensures ∙ ap plfContradiction row)
+    (c .or-contradiction .ensures) in
     ((verdict, row ∙ ap plfRow (line-is w)), next-is w)
 
 pub read-plf-spec : {M : Type 1} → statement M

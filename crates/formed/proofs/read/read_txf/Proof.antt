@@ -41,7 +41,8 @@ unfolding contradiction
 returns c = let s = c .before .before .before .before .before .before .before .before .scan .ensures in
     let w = walked-over (s .0) (c .before .before .before .before .before .before .part .ensures) (s .1) in
     let row = c .before .before .txf-row .ensures ∙ txf-divided _ (ends-are w) in
-    let verdict = formed-is w Txf (c .before .before .before .before .check-txf .ensures) (c .before .txf-contradiction .ensures ∙ ap txfContradiction row) (c .or-contradiction .ensures) in
+    let verdict = formed-is w Txf (c .before .before .before .before .check-txf .ensures) (c .before .txf-contradiction .ensures ∙ ap txfContradiction row)
+    (c .or-contradiction .ensures) in
     ((verdict, row ∙ ap txfRow (line-is w)), next-is w)
 
 pub read-txf-spec : {M : Type 1} → statement M

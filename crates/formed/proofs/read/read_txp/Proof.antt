@@ -41,7 +41,8 @@ unfolding contradiction
 returns c = let s = c .before .before .before .before .before .before .before .before .scan .ensures in
     let w = walked-over (s .0) (c .before .before .before .before .before .before .part .ensures) (s .1) in
     let row = c .before .before .txp-row .ensures ∙ txp-divided _ (ends-are w) in
-    let verdict = formed-is w Txp (c .before .before .before .before .check-txp .ensures) (c .before .txp-contradiction .ensures ∙ ap txpContradiction row) (c .or-contradiction .ensures) in
+    let verdict = formed-is w Txp (c .before .before .before .before .check-txp .ensures) (c .before .txp-contradiction .ensures ∙ ap txpContradiction row)
+    (c .or-contradiction .ensures) in
     ((verdict, row ∙ ap txpRow (line-is w)), next-is w)
 
 pub read-txp-spec : {M : Type 1} → statement M

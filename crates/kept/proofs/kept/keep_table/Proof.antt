@@ -57,11 +57,16 @@ keep-row-requires c κs = let r = read c in
     let s = start (l .before) in
     let w = l .before .loop .inv in (
       ready-on (w .kept .onward) (s .pre .0),
-      (walk-room _ _ _ _ _ _ _ _ w (l .loop-test .taken) _ _ (r .before .kind-of .ensures) (r .line-keys .ensures .0) (s .pre .1 .1 .1), omega (arith, below l, s .pre .1 .1 .0)),
+      (
+        walk-room _ _ _ _ _ _ _ _ w (l .loop-test .taken) _ _ (r .before .kind-of .ensures) (r .line-keys .ensures .0) (s .pre .1 .1 .1),
+        omega
+            (arith, below l, s .pre .1 .1 .0),
+      ),
     )
 
 add-j : tie.Need-add-j Inv-loop μ-loop
-add-j c = let l = turn (read (c .before .before .before .before .before .before .before .before .before)) in omega (arith, below l, start (l .before) .pre .1 .1 .0)
+add-j c = let l = turn (read (c .before .before .before .before .before .before .before .before .before)) in omega
+    (arith, below l, start (l .before) .pre .1 .1 .0)
 
 loop-less : tie.Need-loop-less Inv-loop μ-loop
 loop-less c = let r = read (c .before .before .before .before .before .before .before .before .before) in
@@ -73,7 +78,8 @@ loop-again : tie.Need-loop-again Inv-loop μ-loop
 loop-again c = let k = c .before .before .before .before .before .before .before .before in
     let r = read (k .before) in
     let l = turn r in
-    walk-more _ _ _ _ _ _ _ _ (l .before .loop .inv) (l .loop-test .taken) _ _ (r .before .kind-of .ensures) (r .line-keys .ensures .0) _ _ (r .line-keys .ensures .1)
+    walk-more _ _ _ _ _ _ _ _ (l .before .loop .inv) (l .loop-test .taken) _ _ (r .before .kind-of .ensures) (r .line-keys .ensures .0) _ _
+    (r .line-keys .ensures .1)
     (k .keep-row .ensures)
 
 add-t28 : tie.Need-add-t28 Inv-loop μ-loop
@@ -94,7 +100,11 @@ same-length-4 c = c .before .loop .inv .kept .onward .bytes-long
 returns : tie.Need-returns Inv-loop μ-loop
 returns c = (
   walk-rows _ _ _ _ _ _ _ _ (c .before .loop .inv) (c .loop-test .left),
-  (walk-end _ _ _ _ _ _ _ _ (c .before .loop .inv) (c .loop-test .left), λ i. omega (arith, c .before .before .before .before .before .before .shared-slice-known .given i)),
+  (
+    walk-end _ _ _ _ _ _ _ _ (c .before .loop .inv) (c .loop-test .left),
+    λ i. omega
+        (arith, c .before .before .before .before .before .before .shared-slice-known .given i),
+  ),
 )
 
 pub keep-table-spec : {M : Type 1} → statement M

@@ -80,8 +80,13 @@ same-length-4 c = c .before .loop .inv .sizes .bytes
 returns : tie.Need-returns Inv-loop μ-loop
 returns c = let l = c .before in
     let p = l .loop .inv in
-    let s = start l in
-    (pass-count _ (all s) _ _ _ _ p (c .loop-test .left), (pass-stored _ (all s) _ _ _ _ p (c .loop-test .left), (p .situated, (p .sizes, λ t i l. p .below t i (omega (arith, l, c .loop-test .left))))))
+    let s = start l in (
+      pass-count _ (all s) _ _ _ _ p (c .loop-test .left),
+      (
+        pass-stored _ (all s) _ _ _ _ p (c .loop-test .left),
+        (p .situated, (p .sizes, λ t i l. p .below t i (omega (arith, l, c .loop-test .left)))),
+      ),
+    )
 
 pub keep-tables-spec : {M : Type 1} → statement M
 keep-tables-spec =

@@ -18,7 +18,8 @@ part-requires : tie.Need-part-requires
 part-requires c κs = search needs
 
 returns-2 : tie.Need-returns-2
-returns-2 c = let a = c .before .before .before .before .before .before .args in c .part .ensures ∙ column-first (a .line .now) (a .ends .now) (a .k) (search needs)
+returns-2 c = let a = c .before .before .before .before .before .before .args in c .part .ensures ∙ column-first (a .line .now) (a .ends .now) (a .k)
+    (search needs)
 
 sub-before : tie.Need-sub-before
 sub-before c = search needs
@@ -33,7 +34,8 @@ slice-aggregate-result-2 : tie.Need-slice-aggregate-result-2
 slice-aggregate-result-2 c = search needs
 
 returns-3 : tie.Need-returns-3
-returns-3 c = let a = c .before .before .before .before .before .before .before .args in sym (column-past (a .line .now) (a .ends .now) (a .k) (search needs) (search needs))
+returns-3 c = let a = c .before .before .before .before .before .before .before .args in sym
+    (column-past (a .line .now) (a .ends .now) (a .k) (search needs) (search needs))
 
 add-part : tie.Need-add-part
 add-part c = search needs
@@ -48,7 +50,8 @@ part-requires-2 : tie.Need-part-requires-2
 part-requires-2 c κs = search needs
 
 returns-4 : tie.Need-returns-4
-returns-4 c = let a = c .before .before .before .before .before .before .before .before .args in c .part2 .ensures ∙ column-next (a .line .now) (a .ends .now) (a .k) (search needs)
+returns-4 c = let a = c .before .before .before .before .before .before .before .before .args in c .part2 .ensures ∙ column-next (a .line .now)
+    (a .ends .now) (a .k) (search needs)
 
 pub column-spec : {M : Type 1} → statement M
 column-spec =

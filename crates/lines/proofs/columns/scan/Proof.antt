@@ -69,12 +69,16 @@ closed-requires : tie.Need-closed-requires Inv-loop μ-loop
 closed-requires c κs = tt
 
 same-length : tie.Need-same-length Inv-loop μ-loop
-same-length c = end-size _ _ _ _ _ _ _ _ (c .before .before .before .before .before .before .before .before .before .before .before .before .loop .inv) (c .before .before .before .keep-at2 .ensures)
+same-length c = end-size _ _ _ _ _ _ _ _ (c .before .before .before .before .before .before .before .before .before .before .before .before .loop .inv)
+    (c .before .before .before .keep-at2 .ensures)
 
 returns : tie.Need-returns Inv-loop μ-loop
 returns c = let w = c .before .before .before .before .before .before .before .before .before .before .before .before .loop .inv in
-    let s = sym (c .before .before .before .before .before .before .is-end .ensures) ∙ c .before .before .before .before .before .if3 .taken in
-    (c .closed .ensures ∙ end-scanned _ _ _ _ _ _ _ _ w (here (search needs) s), end-stored _ _ _ _ _ _ _ _ w (here (search needs) s) (c .before .before .before .keep-at2 .ensures))
+    let s = sym (c .before .before .before .before .before .before .is-end .ensures) ∙ c .before .before .before .before .before .if3 .taken in (
+      c .closed .ensures ∙ end-scanned _ _ _ _ _ _ _ _ w (here (search needs) s),
+      end-stored _ _ _ _ _ _ _ _ w (here (search needs) s)
+          (c .before .before .before .keep-at2 .ensures),
+    )
 
 add-i-3 : tie.Need-add-i-3 Inv-loop μ-loop
 add-i-3 c = omega arith
@@ -84,7 +88,8 @@ loop-less-3 c = omega arith
 
 loop-again-3 : tie.Need-loop-again-3 Inv-loop μ-loop
 loop-again-3 c = let p = sym (c .before .before .before .before .is-printable .ensures) ∙ c .before .before .before .if1 .left in
-    walk-foreign _ _ _ _ _ _ _ _ (c .before .before .before .before .before .before .before .loop .inv) (search needs) (λ s. false≢true (sym (c .if3 .left) ∙ c .before .is-end .ensures ∙ s)) (c .before .before .if2 .left) p
+    walk-foreign _ _ _ _ _ _ _ _ (c .before .before .before .before .before .before .before .loop .inv) (search needs)
+    (λ s. false≢true (sym (c .if3 .left) ∙ c .before .is-end .ensures ∙ s)) (c .before .before .if2 .left) p
 
 sub-keep-at-3 : tie.Need-sub-keep-at-3 Inv-loop μ-loop
 sub-keep-at-3 c = c .before .before .loop .inv .after
@@ -102,8 +107,11 @@ same-length-2 : tie.Need-same-length-2 Inv-loop μ-loop
 same-length-2 c = end-size _ _ _ _ _ _ _ _ (c .before .before .before .before .before .before .loop .inv) (c .before .before .before .keep-at3 .ensures)
 
 returns-2 : tie.Need-returns-2 Inv-loop μ-loop
-returns-2 c = let w = c .before .before .before .before .before .before .loop .inv in
-    (c .closed2 .ensures ∙ end-scanned _ _ _ _ _ _ _ _ w (past (search needs)), end-stored _ _ _ _ _ _ _ _ w (past (search needs)) (c .before .before .before .keep-at3 .ensures))
+returns-2 c = let w = c .before .before .before .before .before .before .loop .inv in (
+  c .closed2 .ensures ∙ end-scanned _ _ _ _ _ _ _ _ w (past (search needs)),
+  end-stored _ _ _ _ _ _ _ _ w (past (search needs))
+      (c .before .before .before .keep-at3 .ensures),
+)
 
 pub scan-spec : {M : Type 1} → statement M
 scan-spec =

@@ -17,7 +17,8 @@ name-verdict-requires-2 : tie.Need-name-verdict-requires-2
 name-verdict-requires-2 c κs = search needs
 
 returns-3 : tie.Need-returns-3
-returns-3 c = final-two _ _ _ _ _ _ _ (c .before .before .before .if1 .left) _ (c .before .before .name-verdict .ensures) (c .before .if2 .left) _ (c .name-verdict2 .ensures)
+returns-3 c = final-two _ _ _ _ _ _ _ (c .before .before .before .if1 .left) _ (c .before .before .name-verdict .ensures) (c .before .if2 .left) _
+    (c .name-verdict2 .ensures)
 
 pub final-of-spec : {M : Type 1} → statement M
 final-of-spec =

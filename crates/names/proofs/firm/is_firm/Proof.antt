@@ -14,7 +14,8 @@ is-met-requires : tie.Need-is-met-requires
 is-met-requires c κs = search needs
 
 returns-2 : tie.Need-returns-2
-returns-2 c = firm-on _ _ _ _ _ _ _ _ (c .before .before .before .if1 .left) _ (c .before .before .is-linked .ensures) (c .before .if2 .taken) _ (c .is-met .ensures)
+returns-2 c = firm-on _ _ _ _ _ _ _ _ (c .before .before .before .if1 .left) _ (c .before .before .is-linked .ensures) (c .before .if2 .taken) _
+    (c .is-met .ensures)
 
 returns-3 : tie.Need-returns-3
 returns-3 c = firm-broken _ _ _ _ _ _ _ _ (c .before .before .if1 .left) _ (c .before .is-linked .ensures) (c .if2 .left)

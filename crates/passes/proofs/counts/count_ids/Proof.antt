@@ -61,8 +61,11 @@ loop-again : tie.Need-loop-again Inv-loop μ-loop
 loop-again c = let p = c .before .before in
     let b = p .before .before in
     let m = b .before in
-    let h = m .before .before .before in
-    (omega arith, counted-more _ _ _ _ _ (h .before .before .loop .inv .1) _ _ _ _ (b .byte-at .ensures) (h .half-at .ensures) (m .before .half-at2 .ensures) (m .one-more .ensures) _ (p .put-marked .ensures))
+    let h = m .before .before .before in (
+      omega arith,
+      counted-more _ _ _ _ _ (h .before .before .loop .inv .1) _ _ _ _ (b .byte-at .ensures) (h .half-at .ensures)
+          (m .before .half-at2 .ensures) (m .one-more .ensures) _ (p .put-marked .ensures),
+    )
 
 -- src/counts.rt:16:1
 same-length : tie.Need-same-length Inv-loop μ-loop

@@ -77,7 +77,8 @@ loop-again c = let p = c .before .before in
     let h = q .before in
     let g = h .before .before .before in
     let l = g .before in
-    chained-more _ _ _ _ _ _ _ _ (l .before .loop .inv) (l .loop-test .taken) _ _ _ (b .byte-at .ensures) (g .half-at .ensures) (h .half-at2 .ensures) _ _ (p .put-marked .ensures) (q .put-half .ensures)
+    chained-more _ _ _ _ _ _ _ _ (l .before .loop .inv) (l .loop-test .taken) _ _ _ (b .byte-at .ensures) (g .half-at .ensures) (h .half-at2 .ensures) _ _
+    (p .put-marked .ensures) (q .put-half .ensures)
 
 -- src/groups.rt:11:1
 same-length : tie.Need-same-length Inv-loop μ-loop

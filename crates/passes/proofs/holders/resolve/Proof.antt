@@ -54,8 +54,11 @@ loop-again : tie.Need-loop-again Inv-loop μ-loop
 loop-again c = let p = c .before .before in
     let h = p .before in
     let l = h .before .before .before .before in
-    let s = l .before .before .before .before in
-    (omega arith, filled-more _ _ _ _ _ (l .loop .inv .1) (h .half-at2 .ensures ∙ ap (λ (k : ℕ). getD (s .args .rows .now) k 0) (h .before .half-at .ensures)) _ (p .put-half .ensures))
+    let s = l .before .before .before .before in (
+      omega arith,
+      filled-more _ _ _ _ _ (l .loop .inv .1) (h .half-at2 .ensures ∙ ap (λ (k : ℕ). getD (s .args .rows .now) k 0)
+          (h .before .half-at .ensures)) _ (p .put-half .ensures),
+    )
 
 -- src/holders.rt:25:1
 same-length : tie.Need-same-length Inv-loop μ-loop

@@ -24,7 +24,8 @@ same-length c = search needs
 -- src/marked.rt:7:1
 returns-2 : tie.Need-returns-2
 unfolding putMarked
-returns-2 c = let e = c .before .before .before .before in rw (eq-eqb (e .before .before .args .mark) 1 (omega (arith, e .if1 .left))) (c .before .before .put-half .ensures)
+returns-2 c = let e = c .before .before .before .before in rw (eq-eqb (e .before .before .args .mark) 1 (omega (arith, e .if1 .left)))
+    (c .before .before .put-half .ensures)
 
 pub put-marked-spec : {M : Type 1} → statement M
 put-marked-spec = tie.close (tie.spec returns put-half-requires same-length returns-2)

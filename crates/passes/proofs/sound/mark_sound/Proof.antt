@@ -76,8 +76,11 @@ loop-again c = let p = c .before .before in
     let s = p .before in
     let b = s .before in
     let h = b .before .before in
-    let l = h .before .before .before .before .before in
-    (omega arith, filled-more _ _ _ _ _ (l .loop .inv .1) (sound-is _ _ _ _ _ (b .byte-at .ensures) (h .before .before .before .half-at .ensures) (h .before .before .half-at2 .ensures) (h .before .half-at3 .ensures) (h .half-at4 .ensures) (s .sound-of .ensures)) _ (p .put-byte .ensures))
+    let l = h .before .before .before .before .before in (
+      omega arith,
+      filled-more _ _ _ _ _ (l .loop .inv .1) (sound-is _ _ _ _ _ (b .byte-at .ensures) (h .before .before .before .half-at .ensures)
+          (h .before .before .half-at2 .ensures) (h .before .half-at3 .ensures) (h .half-at4 .ensures) (s .sound-of .ensures)) _ (p .put-byte .ensures),
+    )
 
 -- src/sound.rt:25:1
 same-length : tie.Need-same-length Inv-loop μ-loop

@@ -32,7 +32,8 @@ off-ends-of-requires c κs = tt
 returns : tie.Need-returns
 returns c = λ i. record {
   numbr = c .before .before .before .before .before .before .before .curve-at .ensures i;
-  engfmt = (c .before .before .before .before .before .format-of .ensures ∙ ap formatOf (c .before .before .before .before .before .before .letter-at .ensures)) i;
+  engfmt = (c .before .before .before .before .before .format-of .ensures ∙ ap formatOf
+      (c .before .before .before .before .before .before .letter-at .ensures)) i;
   rawfmt = (c .before .before .before .format-of2 .ensures ∙ ap formatOf (c .before .before .before .before .letter-at2 .ensures)) i;
   ncurve = c .before .before .natural-at .ensures i;
   inter = (c .off-ends-of .ensures ∙ ap offEndsOf (c .before .letter-at3 .ensures)) i;

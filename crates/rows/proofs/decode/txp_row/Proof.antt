@@ -35,12 +35,15 @@ integer-at-requires-2 c κs = search needs
 sub-t9 : tie.Need-sub-t9
 sub-t9 c = let e = c .before .before .before .before in
     let a = e .before .before .before .args in
-    let short : length (columnIn (a .line .now) (a .ends .now) 3) ≤ getD (a .ends .now) 3 0 = part-short (a .line .now) (startIn (a .ends .now) 3) (getD (a .ends .now) 3 0) in
+    let short : length (columnIn (a .line .now) (a .ends .now) 3) ≤ getD (a .ends .now) 3 0 = part-short (a .line .now) (startIn (a .ends .now) 3)
+    (getD (a .ends .now) 3 0) in
     omega (arith, short, e .end-at .ensures, ap length (c .before .before .before .column .ensures))
 
 returns : tie.Need-returns
-returns c = made (c .before .before .curve-at .ensures) (kept (c .before .integer-at .ok) (c .before .integer-at .ensures)) (kept (c .integer-at2 .ok) (c .integer-at2 .ensures))
-    (ap₂ _-_ (c .before .before .before .before .end-at .ensures) (ap length (c .before .before .before .column .ensures))) (c .before .before .before .before .end-at .ensures)
+returns c = made (c .before .before .curve-at .ensures) (kept (c .before .integer-at .ok) (c .before .integer-at .ensures))
+    (kept (c .integer-at2 .ok) (c .integer-at2 .ensures))
+    (ap₂ _-_ (c .before .before .before .before .end-at .ensures) (ap length (c .before .before .before .column .ensures)))
+    (c .before .before .before .before .end-at .ensures)
 
 pub txp-row-spec : {M : Type 1} → statement M
 txp-row-spec =

@@ -24,7 +24,13 @@ returns-4 c = let e : c .before .args .letter ≡ 69 = omega arith in rw e
 
 returns-5 : tie.Need-returns-5
 unfolding checkTypeOf
-returns-5 c = rw (ne-eqb _ 72 (c .match .rest .0 .0 .0 .1), ne-eqb _ 68 (c .match .rest .0 .0 .1), ne-eqb _ 67 (c .match .rest .0 .1), ne-eqb _ 69 (c .match .rest .1))
+returns-5 c = rw (
+  ne-eqb _ 72 (c .match .rest .0 .0 .0 .1),
+  ne-eqb _ 68 (c .match .rest .0 .0 .1),
+  ne-eqb _ 67 (c .match .rest .0 .1),
+  ne-eqb _ 69
+      (c .match .rest .1),
+)
 
 pub check-type-of-spec : {M : Type 1} → statement M
 check-type-of-spec = tie.close (tie.spec returns returns-2 returns-3 returns-4 returns-5)

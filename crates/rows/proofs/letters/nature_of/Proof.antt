@@ -28,7 +28,14 @@ returns-5 c = let e : c .before .args .letter ≡ 67 = omega arith in rw e
 
 returns-6 : tie.Need-returns-6
 unfolding natureOf
-returns-6 c = rw (ne-eqb _ 68 (c .match .rest .0 .0 .0 .0 .1), ne-eqb _ 80 (c .match .rest .0 .0 .0 .1), ne-eqb _ 72 (c .match .rest .0 .0 .1), ne-eqb _ 83 (c .match .rest .0 .1), ne-eqb _ 67 (c .match .rest .1))
+returns-6 c = rw (
+  ne-eqb _ 68 (c .match .rest .0 .0 .0 .0 .1),
+  ne-eqb _ 80 (c .match .rest .0 .0 .0 .1),
+  ne-eqb _ 72 (c .match .rest .0 .0 .1),
+  ne-eqb _ 83
+      (c .match .rest .0 .1),
+  ne-eqb _ 67 (c .match .rest .1),
+)
 
 pub nature-of-spec : {M : Type 1} → statement M
 nature-of-spec = tie.close (tie.spec returns returns-2 returns-3 returns-4 returns-5 returns-6)

@@ -29,11 +29,13 @@ returns c = let f : SFits w64 (c .before .v .given .0 .0) = search needs in
 
 returns-2 : tie.Need-returns-2
 unfolding integerOr
-returns-2 c = toZ-ofZ (c .before .before .before .before .fits .default) ∙ integer-none _ (not-number _ (sym (c .before .before .read-number .ensures) ∙ c .enum-told .given .1))
+returns-2 c = toZ-ofZ (c .before .before .before .before .fits .default) ∙ integer-none _
+    (not-number _ (sym (c .before .before .read-number .ensures) ∙ c .enum-told .given .1))
 
 returns-3 : tie.Need-returns-3
 unfolding integerOr
-returns-3 c = toZ-ofZ (c .before .before .before .before .fits .default) ∙ integer-large _ (beyond-large _ (sym (c .before .before .read-number .ensures) ∙ c .enum-told2 .given .1))
+returns-3 c = toZ-ofZ (c .before .before .before .before .fits .default) ∙ integer-large _
+    (beyond-large _ (sym (c .before .before .read-number .ensures) ∙ c .enum-told2 .given .1))
 
 pub integer-or-spec : {M : Type 1} → statement M
 integer-or-spec =

@@ -25,7 +25,8 @@ kind-reason-requires c κs = search needs
 
 returns-4 : tie.Need-returns-4
 returns-4 c = let a = c .before .before .before .before .args in
-    rw (full-reason (columnFrom (a .width) (a .mark) (a .kind)) (a .text .now) (omega arith), le-ltb (a .width) (length (a .text .now)) (omega arith)) (c .kind-reason .ensures)
+    rw (full-reason (columnFrom (a .width) (a .mark) (a .kind)) (a .text .now) (omega arith), le-ltb (a .width) (length (a .text .now)) (omega arith))
+    (c .kind-reason .ensures)
 
 pub column-reason-spec : {M : Type 1} → statement M
 column-reason-spec =

@@ -12,7 +12,8 @@ use Rattle.surveying.proofs.counting.survey.Statement.{statement}
 use Rattle.surveying.proofs.counting.survey.Tie as tie
 
 abbrev Inv-loop : tie.InvT-loop
-Inv-loop tables words links columns name question bytes counts₀ at₀ counts at = SurveysSo (answers (database (map now tables) words links columns)) name question bytes counts₀ counts at
+Inv-loop tables words links columns name question bytes counts₀ at₀ counts at = SurveysSo
+    (answers (database (map now tables) words links columns)) name question bytes counts₀ counts at
 
 abbrev μ-loop : tie.MeasureT-loop
 μ-loop tables words links columns name question bytes counts₀ at₀ counts at = length bytes - at
