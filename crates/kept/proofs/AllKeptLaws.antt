@@ -19,7 +19,7 @@ use Rattle.verdicts.specs.Entries.{bad, Entry, own, facts, carried, allRows, ta
 use Rattle.verdicts.specs.Answer.{tooLong, tooManyRows, mostRows}
 use Rattle.verdicts.specs.Places.{textAt, entryAt, rowsBefore, place}
 use Rattle.verdicts.proofs.EntryLaws.{rows-before-next, length-rows, row-at}
-use Rattle.keys.specs.declared.records.RowKeys.{RowKeys}
+use Rattle.row_keys.specs.declared.records.RowKeys.{RowKeys}
 use Rattle.keys.specs.Held.{keysOf, rowKeysOf}
 use Rattle.tables.proofs.SizeLaws.{short, few}
 use Rattle.kept.proofs.RoomLaws.{roomy}

@@ -15,7 +15,7 @@ use Rattle.lines.proofs.LineLaws.{lines-next, lines-none, next-bounds}
 use Rattle.schemas.specs.declared.Table.{Table}
 use Rattle.verdicts.specs.Places.{noLine}
 use Rattle.symbols.specs.declared.Symbol.{Symbol}
-use Rattle.keys.specs.declared.records.RowKeys.{RowKeys}
+use Rattle.row_keys.specs.declared.records.RowKeys.{RowKeys}
 use Rattle.kept.specs.declared.interning.RowIds.{RowIds}
 use Rattle.keys.specs.Held.{rowKeysOf}
 use Rattle.kept.specs.Stored.{at, startColumn, tableColumn, KnownRow}

@@ -19,11 +19,11 @@ use Rattle.symbols.proofs.PlaceLaws.{id-is, id-symbol, id-stays, grown-old}
 use Rattle.symbols.proofs.AnswerLaws.{room-sized, words-size, links-size}
 use Rattle.symbols.proofs.FindLaws.{symbols-length}
 use Rattle.symbols.proofs.InternLaws.{Grows, interns, id-now, extends, count-most, is-symbol}
-use Rattle.keys.specs.declared.records.Slot.{Slot}
-use Rattle.keys.specs.declared.records.Named.{Named}
-use Rattle.keys.specs.declared.records.RowKeys.{RowKeys}
+use Rattle.row_keys.specs.declared.records.Slot.{Slot}
+use Rattle.row_keys.specs.declared.records.Named.{Named}
+use Rattle.row_keys.specs.declared.records.RowKeys.{RowKeys}
 use Rattle.manners.specs.Manners.{bit}
-use Rattle.keys.specs.Says.{isNamed}
+use Rattle.row_keys.specs.Parts.{isNamed}
 use Rattle.kept.specs.declared.interning.FirstIds.{FirstIds}
 use Rattle.kept.specs.Stored.{slotId, namedId}
 use Rattle.kept.specs.Ids.{Spacious, Keeps, Fits, Grown, Entered, names, besides, firstWanted, wanted, FirstEntered, RowEntered}

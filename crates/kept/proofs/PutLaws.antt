@@ -13,7 +13,7 @@ use Rattle.laws.proofs.Cases.{bool-cases}
 use Rattle.laws.proofs.Lists.{split}
 use Rattle.arrays.specs.Room.{mostPlaces}
 use Rattle.kept.specs.Stored.{at}
-use Rattle.keys.specs.declared.records.RowKeys.{RowKeys}
+use Rattle.row_keys.specs.declared.records.RowKeys.{RowKeys}
 use Rattle.kept.specs.declared.interning.RowIds.{RowIds}
 use Rattle.kept.specs.Puts.{putColumns, halvesOf}
 

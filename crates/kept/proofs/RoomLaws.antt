@@ -19,12 +19,12 @@ use Rattle.symbols.proofs.SameLaws.{same-self}
 use Rattle.verdicts.specs.Facts.{Naming, ofEngineering, pidKeys, factsOf}
 use Rattle.verdicts.specs.Facts.{pidFacts, picFacts, plfFacts, pcfFacts, cafFacts, capFacts, txfFacts, txpFacts, ocfFacts, ocpFacts}
 use Rattle.verdicts.specs.Entries.{Reading, fine, bad, readingOf, own, said}
-use Rattle.keys.specs.declared.records.Named.{Named}
-use Rattle.keys.specs.declared.records.RowKeys.{RowKeys}
+use Rattle.row_keys.specs.declared.records.Named.{Named}
+use Rattle.row_keys.specs.declared.records.RowKeys.{RowKeys}
 use Rattle.key_symbols.specs.Keyed.{symbolOf}
 use Rattle.manners.specs.Manners.{bit, manners, mannerAt, weight, sameManner, codeFrom, codeOf}
 use Rattle.keys.specs.Held.{slotOf, namedOf, keysOf, rowKeysOf}
-use Rattle.keys.specs.Says.{isNamed}
+use Rattle.row_keys.specs.Parts.{isNamed}
 use Rattle.kept.specs.Ids.{names, besides, firstWanted, wanted}
 use Rattle.kept.specs.Asked.{asks, asksOf, Roomy}
 

@@ -10,7 +10,7 @@ use Rattle.symbols.specs.Arrays.{symbols}
 use Rattle.symbols.specs.Searches as searches
 use Rattle.verdicts.specs.Places.{textAt, noLine, rowsBefore}
 use Rattle.verdicts.specs.Entries.{tableCount}
-use Rattle.keys.specs.declared.records.RowKeys.{RowKeys}
+use Rattle.row_keys.specs.declared.records.RowKeys.{RowKeys}
 use Rattle.keys.specs.Held.{rowKeysOf}
 use Rattle.kept.specs.Stored.{at, startColumn, tableColumn, StoredRow, KnownRow}
 use Rattle.kept.specs.Ids.{Spacious, Grown, wanted}

@@ -9,10 +9,10 @@ use Rattle.symbols.specs.declared.Interned.{Interned}
 use Rattle.symbols.specs.Symbols.{sameSymbol, idOf, noId}
 use Rattle.symbols.specs.Arrays.{symbols, mostSymbols, allWords, allLinks}
 use Rattle.symbols.specs.Searches.{Table}
-use Rattle.keys.specs.declared.records.Named.{Named}
-use Rattle.keys.specs.declared.records.RowKeys.{RowKeys}
+use Rattle.row_keys.specs.declared.records.Named.{Named}
+use Rattle.row_keys.specs.declared.records.RowKeys.{RowKeys}
 use Rattle.manners.specs.Manners.{bit}
-use Rattle.keys.specs.Says.{isNamed}
+use Rattle.row_keys.specs.Parts.{isNamed}
 use Rattle.kept.specs.declared.interning.FirstIds.{FirstIds}
 use Rattle.kept.specs.declared.interning.RowIds.{RowIds}
 use Rattle.kept.specs.Stored.{slotId, namedId, KnownRow}

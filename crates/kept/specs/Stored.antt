@@ -12,9 +12,9 @@ use Rattle.symbols.specs.Arrays.{symbols, mostSymbols}
 use Rattle.symbols.specs.Searches.{Table}
 use Rattle.verdicts.specs.Entries.{Entry, own, facts, bad}
 use Rattle.keys.specs.Held.{keysOf}
-use Rattle.keys.specs.declared.records.Slot.{Slot}
-use Rattle.keys.specs.declared.records.Named.{Named}
-use Rattle.keys.specs.declared.records.RowKeys.{RowKeys}
+use Rattle.row_keys.specs.declared.records.Slot.{Slot}
+use Rattle.row_keys.specs.declared.records.Named.{Named}
+use Rattle.row_keys.specs.declared.records.RowKeys.{RowKeys}
 
 -- place i of column c
 abbrev pub at : List ℕ → (c i : ℕ) → ℕ

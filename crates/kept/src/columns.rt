@@ -3,7 +3,7 @@ use crate::interning::RowIds;
 use arrays::PLACES;
 use arrays::put_byte;
 use arrays::put_half;
-use keys::records::RowKeys;
+use row_keys::records::RowKeys;
 ghost use mathlib.Core.Path.{_≡_};
 ghost use Prim.Native.Nat.{_<_, min};
 ghost use Rattle.arrays.specs.Room.{mostPlaces};

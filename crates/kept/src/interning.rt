@@ -1,7 +1,7 @@
 // The keys of a row become symbols, and the row keeps their ids.
-use keys::records::Named;
-use keys::records::RowKeys;
-use keys::records::Slot;
+use row_keys::records::Named;
+use row_keys::records::RowKeys;
+use row_keys::records::Slot;
 use symbols::Interned;
 use symbols::NO_ID;
 use symbols::intern;
@@ -10,7 +10,7 @@ ghost use mathlib.Core.Bool.{true};
 ghost use Prim.Native.Nat.{_+_, _≤_};
 ghost use Rattle.symbols.specs.Arrays.{symbols, mostSymbols};
 ghost use Rattle.symbols.specs.Searches.{Table};
-ghost use Rattle.keys.specs.Says.{isNamed};
+ghost use Rattle.row_keys.specs.Parts.{isNamed};
 ghost use Rattle.kept.specs.Ids.{Spacious, Fits, Entered, firstWanted, wanted, FirstEntered, RowEntered};
 
 // The ids of the keys that a row holds and of its first naming, and how many symbols there are then.

@@ -2,7 +2,7 @@
 use crate::columns::put_row;
 use crate::interning::intern_row;
 use keys::line_keys;
-use keys::records::RowKeys;
+use row_keys::records::RowKeys;
 use tables::TABLES;
 use tables::kind_of;
 use tables::table_at;

@@ -21,10 +21,10 @@ use Rattle.verdicts.specs.Facts.{anyRow, whole, Kind, itself, Facts, Naming, pl
 use Rattle.verdicts.specs.Entries.{readingOf, own, said, fine, bad}
 use Rattle.key_symbols.specs.Keyed.{symbolOf}
 use Rattle.manners.specs.Manners.{mannerOf, manners, weight, sameManner, codeFrom, codeOf, marksOf}
-use Rattle.keys.specs.declared.records.RowKeys.{RowKeys}
-use Rattle.keys.specs.Held.{noSlot, slotFor, noName, slotOf, namedOf, countOf, keysOf}
-use Rattle.keys.specs.Held.{columnKeys, rowKeysOf, noKeys, isYes, isEngineering}
-use Rattle.keys.specs.Parts.{holder, withNames, naming, counter, member}
+use Rattle.row_keys.specs.declared.records.RowKeys.{RowKeys}
+use Rattle.row_keys.specs.Columns.{isYes, isEngineering}
+use Rattle.row_keys.specs.Parts.{noSlot, slotFor, noName, noKeys, holder, withNames, naming, counter, member}
+use Rattle.keys.specs.Held.{slotOf, namedOf, countOf, keysOf, columnKeys, rowKeysOf}
 
 -- the keys of a pid row
 module _ (r : PidRow) {yes : Bool} {s : Symbol} where
@@ -96,6 +96,7 @@ member-said v k g = refl
 -- a row with one of reasons 1 to 8 is blanked
 blanked-at : (z : Bool) (v : ℕ) (f : Facts) → eqb v 0 ≡ z
     → cond z (keysOf v f) (noKeys v) ≡ keysOf (own (cond z (fine f) (bad v))) (said (cond z (fine f) (bad v)))
+unfolding keysOf slotOf namedOf countOf marksOf
 blanked-at true v f e = ap (λ (n : ℕ). keysOf n f) (eqb-true v 0 e)
 blanked-at false v f e = refl
 

@@ -15,11 +15,12 @@ use Rattle.verdicts.specs.Entries.{Entry, facts}
 use Rattle.verdicts.specs.Steps.{holds, belongs}
 use Rattle.verdicts.specs.Verdicts.{follows}
 use Rattle.manners.specs.Manners.{manners, mannerAt}
-use Rattle.keys.specs.declared.records.Slot.{Slot}
-use Rattle.keys.specs.declared.records.RowKeys.{RowKeys}
+use Rattle.row_keys.specs.Parts.{isNamed}
+use Rattle.row_keys.specs.declared.records.Slot.{Slot}
+use Rattle.row_keys.specs.declared.records.RowKeys.{RowKeys}
 use Rattle.key_symbols.specs.Keyed.{symbolOf}
 use Rattle.key_symbols.specs.Bounded.{Bounded}
-use Rattle.keys.specs.Says.{has, SymbolNaming, ofNaming, ofNamed, isNamed, SymbolCount, ofCount, countIn, Says}
+use Rattle.keys.specs.Says.{has, SymbolNaming, ofNaming, ofNamed, SymbolCount, ofCount, countIn, Says}
 use Rattle.key_symbols.proofs.ExactLaws.{symbol-exact}
 
 -- what is asked of each element of a list is asked of what it is mapped to

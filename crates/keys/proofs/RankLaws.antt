@@ -12,8 +12,8 @@ use Rattle.verdicts.specs.Key.{Key}
 use Rattle.verdicts.specs.Facts.{Naming}
 use Rattle.verdicts.specs.Entries.{Entry, facts}
 use Rattle.verdicts.specs.Steps.{holds}
-use Rattle.keys.specs.declared.records.Slot.{Slot}
-use Rattle.keys.specs.declared.records.RowKeys.{RowKeys}
+use Rattle.row_keys.specs.declared.records.Slot.{Slot}
+use Rattle.row_keys.specs.declared.records.RowKeys.{RowKeys}
 use Rattle.key_symbols.specs.Keyed.{symbolOf, spaceOf}
 use Rattle.keys.specs.Ranks.{rank}
 use Rattle.key_symbols.specs.Bounded.{Bounded}

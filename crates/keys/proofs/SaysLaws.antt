@@ -13,11 +13,12 @@ use Rattle.verdicts.specs.Key.{Key}
 use Rattle.verdicts.specs.Facts.{Naming, Count, Facts}
 use Rattle.verdicts.specs.Entries.{readingOf, own, said}
 use Rattle.key_symbols.specs.Keyed.{symbolOf, spaceOf}
+use Rattle.row_keys.specs.Parts.{isNamed}
 use Rattle.keys.specs.Ranks.{parameters, rank}
 use Rattle.manners.specs.Manners.{manners, mannerAt}
 use Rattle.keys.specs.Held.{slotOf, namedOf, countOf, keysOf, rowKeysOf}
 use Rattle.key_symbols.specs.Bounded.{Bounded}
-use Rattle.keys.specs.Says.{givenIn, ofNaming, ofNamed, isNamed, ofCount, countedIn, Says}
+use Rattle.keys.specs.Says.{givenIn, ofNaming, ofNamed, ofCount, countedIn, Says}
 use Rattle.manners.proofs.MarkLaws.{marked}
 use Rattle.keys.proofs.Fitting.{All, all-mem, LowerFirst, Listed, KeysFit, NamesFit, CountsFit, GroupsFit, Fits}
 use Rattle.keys.proofs.RowLaws.{row-fits}

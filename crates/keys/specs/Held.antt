@@ -1,6 +1,6 @@
 -- What a row holds, names, counts and is counted in, as symbols.
 use mathlib.Core.Path.{_≡_, refl}
-use mathlib.Core.Bool.{Bool, true, false}
+use mathlib.Core.Bool.{true, false}
 use mathlib.Core.List.{List, [], _∷_, _++_}
 use Prim.Native.Nat.{ℕ}
 use lib.ListN.{drop}
@@ -17,33 +17,18 @@ use Rattle.rows.specs.Values.{integerOr, integerFrom}
 use Rattle.rows.specs.Records.{column, capRow}
 use Rattle.formed.specs.Contradictions.{contradiction}
 use Rattle.formed.specs.Formed.{orContradiction, formed}
-use Rattle.rows.specs.declared.letters.Valid.{Valid}
-use Rattle.rows.specs.declared.letters.Valid.the-variants.{Yes, No}
-use Rattle.rows.specs.declared.letters.LimitValue.{LimitValue}
-use Rattle.rows.specs.declared.letters.LimitValue.the-variants as LV
 use Rattle.symbols.specs.declared.Symbol.{Symbol}
 use Rattle.verdicts.specs.Key.{Key}
 use Rattle.verdicts.specs.Facts.{Facts, Naming, Count, capFacts, factsOf}
-use Rattle.verdicts.specs.Entries.{readingOf, own, said, bad}
+use Rattle.verdicts.specs.Entries.{readingOf, own, said}
 use Rattle.key_symbols.specs.Keyed.{number, numberFrom, symbol, noSymbol, curveSymbol, valueSymbol, integerWord, symbolOf}
-use Rattle.keys.specs.declared.records.Slot.{Slot}
-use Rattle.keys.specs.declared.records.Named.{Named}
-use Rattle.keys.specs.declared.records.Counting.{Counting}
-use Rattle.keys.specs.declared.records.RowKeys.{RowKeys}
-use Rattle.keys.specs.declared.records.LineKeys.{LineKeys}
+use Rattle.row_keys.specs.declared.records.Slot.{Slot}
+use Rattle.row_keys.specs.declared.records.Named.{Named}
+use Rattle.row_keys.specs.declared.records.Counting.{Counting}
+use Rattle.row_keys.specs.declared.records.RowKeys.{RowKeys}
+use Rattle.row_keys.specs.declared.records.LineKeys.{LineKeys}
+use Rattle.row_keys.specs.Parts.{noSlot, slotFor, noName, noCount, noKeys}
 use Rattle.manners.specs.Manners.{mannerOf, manners, weight, sameManner, codeFrom, codeOf, marksOf}
-
-abbrev pub noSlot : Slot
-noSlot = record { given = false; key = noSymbol }
-
-abbrev pub slotFor : Symbol → Slot
-slotFor s = record { given = true; key = s }
-
-abbrev pub noName : Named
-noName = record { code = 0; key = noSymbol }
-
-abbrev pub noCount : Counting
-noCount = record { column = 0; number = 0 }
 
 -- the first of these keys
 unfoldable pub slotOf : List Key → Slot
@@ -82,24 +67,10 @@ columnKeys table line = keysOf (formed table line) (factsOf table (line .bytes))
 unfoldable pub rowKeysOf : Table → Line → RowKeys
 rowKeysOf table line = keysOf (own (readingOf table line)) (said (readingOf table line))
 
--- of a row with one of reasons 1 to 8
-abbrev pub noKeys : ℕ → RowKeys
-noKeys verdict = keysOf verdict (said (bad verdict))
-
 -- what is read of the line that starts at a place of a table: its keys, as its columns say them, and where the next line starts
 pub record ColumnsRead (table : Table) (bytes : List ℕ) (at : ℕ) (read : LineKeys) : Type 0 where
   pub keys : read .keys ≡ columnKeys table (lineFrom bytes at)
   pub next : read .next ≡ nextLine bytes at .next
-
--- 01: "VALID 1 Y/N"
-abbrev pub isYes : Valid → Bool
-isYes Yes = true
-isYes No = false
-
--- 01: "INTER 1! U/C"
-abbrev pub isEngineering : LimitValue → Bool
-isEngineering LV.Raw = false
-isEngineering LV.Engineering = true
 
 -- cap rows: C1, TAB, -3, TAB, 7; the same without its line feed
 abbrev row : List ℕ

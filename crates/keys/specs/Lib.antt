@@ -1,4 +1,3 @@
 pub mod Ranks
 pub mod Held
-pub mod Parts
 pub mod Says

@@ -1,6 +1,6 @@
 -- What is known of a row by its symbols alone.
 use mathlib.Core.Path.{_≡_}
-use mathlib.Core.Bool.{Bool, true, false, not, cond, _&&_}
+use mathlib.Core.Bool.{Bool, true, false, cond, _&&_}
 use mathlib.Core.List.{List, [], _∷_, map, List·Memᴰ}
 use Prim.Native.Nat.{ℕ, _<_}
 use lib.Dec.{eqb}
@@ -12,9 +12,10 @@ use Rattle.verdicts.specs.Facts.{Condition, Naming, Count, Facts}
 use Rattle.key_symbols.specs.Keyed.{symbolOf, spaceOf}
 use Rattle.keys.specs.Ranks.{parameters, rank}
 use Rattle.key_symbols.specs.Bounded.{Bounded}
-use Rattle.keys.specs.declared.records.Slot.{Slot}
-use Rattle.keys.specs.declared.records.Named.{Named}
-use Rattle.keys.specs.declared.records.RowKeys.{RowKeys}
+use Rattle.row_keys.specs.declared.records.Slot.{Slot}
+use Rattle.row_keys.specs.declared.records.Named.{Named}
+use Rattle.row_keys.specs.declared.records.RowKeys.{RowKeys}
+use Rattle.row_keys.specs.Parts.{isNamed}
 use Rattle.manners.specs.Manners.{Manner, mannerOf, mannerAt, weight, metBy}
 
 -- the symbols in slots
@@ -35,9 +36,6 @@ ofNaming n = record { manner = mannerOf n; key = symbolOf (n .key) }
 
 abbrev pub ofNamed : Named → SymbolNaming
 ofNamed n = record { manner = mannerAt (n .code); key = n .key }
-
-abbrev pub isNamed : Named → Bool
-isNamed n = not (eqb (n .code) 0)
 
 -- what a row names
 abbrev pub namedIn : RowKeys → List Named

@@ -1,10 +1,8 @@
 // Keys: what a row holds, names and is counted in, as symbols.
-mod parts;
-pub mod records;
 mod tables;
 
-use parts::blanked;
-use records::LineKeys;
+use row_keys::parts::blanked;
+use row_keys::records::LineKeys;
 use schemas::Table;
 use tables::caf_keys;
 use tables::cap_keys;

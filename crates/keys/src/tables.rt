@@ -1,13 +1,4 @@
 // The keys of a row of each table, as its columns say them, whatever its verdict.
-use crate::parts::counter;
-use crate::parts::holder;
-use crate::parts::holding;
-use crate::parts::member;
-use crate::parts::named;
-use crate::parts::naming;
-use crate::parts::slot;
-use crate::records::LineKeys;
-use crate::records::Named;
 use formed::read::read_caf;
 use formed::read::read_cap;
 use formed::read::read_ocf;
@@ -30,44 +21,21 @@ use key_symbols::range_key;
 use key_symbols::structure_key;
 use key_symbols::texts_key;
 use manners::marks::pcf_marks;
-use rows::letters::Category;
-use rows::letters::LimitValue;
-use rows::letters::Valid;
-use rows::records::OptionalCurve;
-use symbols::Symbol;
+use row_keys::columns::curtx_key;
+use row_keys::columns::is_engineering;
+use row_keys::columns::is_yes;
+use row_keys::parts::counter;
+use row_keys::parts::holder;
+use row_keys::parts::holding;
+use row_keys::parts::member;
+use row_keys::parts::named;
+use row_keys::parts::naming;
+use row_keys::parts::slot;
+use row_keys::records::LineKeys;
+use row_keys::records::Named;
 ghost use mathlib.Core.Path.{_≡_};
 ghost use Rattle.schemas.specs.declared.Table.the-variants.{Pid, Pic, Plf, Pcf, Caf, Cap, Txf, Txp, Ocf, Ocp};
-ghost use Rattle.verdicts.specs.Facts.{curtxKey};
-ghost use Rattle.key_symbols.specs.Keyed.{symbolOf};
-ghost use Rattle.keys.specs.Held.{isYes, isEngineering, ColumnsRead};
-
-fn is_yes(valid: Valid) -> bool
-    ensures { λ r. ⌜ r ≡ isYes valid ⌝ }
-{
-    match valid {
-        Valid::Yes => true,
-        Valid::No => false,
-    }
-}
-
-fn curtx_key(categ: Category, curtx: OptionalCurve) -> Symbol
-    ensures { λ r. ⌜ r ≡ symbolOf (curtxKey categ curtx) ⌝ }
-{
-    match categ {
-        Category::Numeric => curve_key(curtx.name),
-        Category::Status => texts_key(curtx.name),
-        Category::Text => curve_key(curtx.name),
-    }
-}
-
-fn is_engineering(inter: LimitValue) -> bool
-    ensures { λ r. ⌜ r ≡ isEngineering inter ⌝ }
-{
-    match inter {
-        LimitValue::Raw => false,
-        LimitValue::Engineering => true,
-    }
-}
+ghost use Rattle.keys.specs.Held.{ColumnsRead};
 
 pub(crate) fn pid_keys(table: &[u8], at: usize) -> LineKeys
     ensures { λ r. ⌜ ColumnsRead Pid (now (table .entry)) at r ⌝ }

@@ -1,6 +1,6 @@
 -- A holder that counts.
-use Rattle.keys.proofs.parts.counter.Statement.{statement}
-use Rattle.keys.proofs.parts.counter.Tie as tie
+use Rattle.row_keys.proofs.parts.counter.Statement.{statement}
+use Rattle.row_keys.proofs.parts.counter.Tie as tie
 
 holder-requires : tie.Need-holder-requires
 holder-requires c κs = tt

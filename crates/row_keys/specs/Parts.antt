@@ -1,15 +1,29 @@
--- What a row says, part by part.
+-- What a row says of keys, part by part.
 use mathlib.Core.Path.{_≡_, refl}
-use mathlib.Core.Bool.{cond}
+use mathlib.Core.Bool.{Bool, true, false, not, cond}
 use Prim.Native.Nat.{ℕ}
 use lib.Dec.{eqb}
 use Rattle.symbols.specs.declared.Symbol.{Symbol}
-use Rattle.key_symbols.specs.Keyed.{symbol}
-use Rattle.keys.specs.declared.records.Slot.{Slot}
-use Rattle.keys.specs.declared.records.Named.{Named}
-use Rattle.keys.specs.declared.records.Counting.{Counting}
-use Rattle.keys.specs.declared.records.RowKeys.{RowKeys}
-use Rattle.keys.specs.Held.{noSlot, slotFor, noName, noCount}
+use Rattle.key_symbols.specs.Keyed.{symbol, noSymbol}
+use Rattle.row_keys.specs.declared.records.Slot.{Slot}
+use Rattle.row_keys.specs.declared.records.Named.{Named}
+use Rattle.row_keys.specs.declared.records.Counting.{Counting}
+use Rattle.row_keys.specs.declared.records.RowKeys.{RowKeys}
+
+abbrev pub noSlot : Slot
+noSlot = record { given = false; key = noSymbol }
+
+abbrev pub slotFor : Symbol → Slot
+slotFor s = record { given = true; key = s }
+
+abbrev pub noName : Named
+noName = record { code = 0; key = noSymbol }
+
+abbrev pub isNamed : Named → Bool
+isNamed n = not (eqb (n .code) 0)
+
+abbrev pub noCount : Counting
+noCount = record { column = 0; number = 0 }
 
 -- a row that holds these keys, and names and counts nothing
 abbrev pub holding : (verdict : ℕ) (first second : Slot) (marks : ℕ) → RowKeys
@@ -24,6 +38,10 @@ holding verdict first second marks =
       count = noCount;
       marks = marks;
     }
+
+-- of a row with one of reasons 1 to 8
+abbrev pub noKeys : (verdict : ℕ) → RowKeys
+noKeys verdict = holding verdict noSlot noSlot 0
 
 abbrev pub holder : (verdict : ℕ) → Symbol → (marks : ℕ) → RowKeys
 holder verdict key marks = holding verdict (slotFor key) noSlot marks

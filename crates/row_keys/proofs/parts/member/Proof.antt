@@ -1,6 +1,6 @@
 -- A holder that names its group.
-use Rattle.keys.proofs.parts.member.Statement.{statement}
-use Rattle.keys.proofs.parts.member.Tie as tie
+use Rattle.row_keys.proofs.parts.member.Statement.{statement}
+use Rattle.row_keys.proofs.parts.member.Tie as tie
 
 holder-requires : tie.Need-holder-requires
 holder-requires c κs = tt

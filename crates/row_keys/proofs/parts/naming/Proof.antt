@@ -1,7 +1,7 @@
 -- The first name, or the second in its place.
 use borrow.Author.Tests.{eq-eqb, ne-eqb}
-use Rattle.keys.proofs.parts.naming.Statement.{statement}
-use Rattle.keys.proofs.parts.naming.Tie as tie
+use Rattle.row_keys.proofs.parts.naming.Statement.{statement}
+use Rattle.row_keys.proofs.parts.naming.Tie as tie
 
 returns : tie.Need-returns
 returns c = rw (eq-eqb _ 0 (c .if1 .taken))

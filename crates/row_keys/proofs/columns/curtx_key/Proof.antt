@@ -1,7 +1,7 @@
 -- Each category's arm is the definition's case for it.
 use borrow.Author.Needs.{needs}
-use Rattle.keys.proofs.tables.curtx_key.Statement.{statement}
-use Rattle.keys.proofs.tables.curtx_key.Tie as tie
+use Rattle.row_keys.proofs.columns.curtx_key.Statement.{statement}
+use Rattle.row_keys.proofs.columns.curtx_key.Tie as tie
 
 enum-told : tie.Need-enum-told
 enum-told c = search needs

@@ -1,6 +1,6 @@
 -- A name only where it is given.
-use Rattle.keys.proofs.parts.named.Statement.{statement}
-use Rattle.keys.proofs.parts.named.Tie as tie
+use Rattle.row_keys.proofs.parts.named.Statement.{statement}
+use Rattle.row_keys.proofs.parts.named.Tie as tie
 
 returns : tie.Need-returns
 returns c = rw (c .if1 .taken)

@@ -1,6 +1,6 @@
 -- A slot only where it is given.
-use Rattle.keys.proofs.parts.slot.Statement.{statement}
-use Rattle.keys.proofs.parts.slot.Tie as tie
+use Rattle.row_keys.proofs.parts.slot.Statement.{statement}
+use Rattle.row_keys.proofs.parts.slot.Tie as tie
 
 returns : tie.Need-returns
 returns c = rw (c .if1 .taken)

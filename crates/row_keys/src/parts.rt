@@ -8,8 +8,7 @@ use symbols::Symbol;
 ghost use mathlib.Core.Path.{_≡_};
 ghost use mathlib.Core.Bool.{cond};
 ghost use lib.Dec.{eqb};
-ghost use Rattle.keys.specs.Held.{noSlot, slotFor, noName, noKeys};
-ghost use Rattle.keys.specs.Parts.{holding, holder, naming, counter, member};
+ghost use Rattle.row_keys.specs.Parts.{noSlot, slotFor, noName, noKeys, holding, holder, naming, counter, member};
 
 const NO_SYMBOL: Symbol = Symbol {
     space: 0,
@@ -18,7 +17,7 @@ const NO_SYMBOL: Symbol = Symbol {
     c: 0,
 };
 
-pub(crate) fn slot(given: bool, key: Symbol) -> Slot
+pub fn slot(given: bool, key: Symbol) -> Slot
     ensures { λ r. ⌜ r ≡ cond given (slotFor key) noSlot ⌝ }
 {
     if given {
@@ -30,7 +29,7 @@ pub(crate) fn slot(given: bool, key: Symbol) -> Slot
     }
 }
 
-pub(crate) fn named(given: bool, code: u8, key: Symbol) -> Named
+pub fn named(given: bool, code: u8, key: Symbol) -> Named
     ensures { λ r. ⌜ r ≡ cond given (record { code = code; key = key }) noName ⌝ }
 {
     if given {
@@ -43,7 +42,7 @@ pub(crate) fn named(given: bool, code: u8, key: Symbol) -> Named
 }
 
 // A row that holds these keys, and names and counts nothing.
-pub(crate) fn holding(verdict: u16, first: Slot, second: Slot, marks: u8) -> RowKeys
+pub fn holding(verdict: u16, first: Slot, second: Slot, marks: u8) -> RowKeys
     ensures { λ r. ⌜ r ≡ holding verdict first second marks ⌝ }
 {
     let none = Named {
@@ -69,14 +68,14 @@ pub(crate) fn holding(verdict: u16, first: Slot, second: Slot, marks: u8) -> Row
 }
 
 // A row that holds one key.
-pub(crate) fn holder(verdict: u16, key: Symbol, marks: u8) -> RowKeys
+pub fn holder(verdict: u16, key: Symbol, marks: u8) -> RowKeys
     ensures { λ r. ⌜ r ≡ holder verdict key marks ⌝ }
 {
     holding(verdict, slot(true, key), slot(false, key), marks)
 }
 
 // The row, and what it names; where the first isn't given the second comes first.
-pub(crate) fn naming(row: RowKeys, one: Named, two: Named) -> RowKeys
+pub fn naming(row: RowKeys, one: Named, two: Named) -> RowKeys
     ensures { λ r. ⌜ r ≡ naming row one two ⌝ }
 {
     let mut named = row;
@@ -91,7 +90,7 @@ pub(crate) fn naming(row: RowKeys, one: Named, two: Named) -> RowKeys
 }
 
 // A row that counts the rows of the group that goes by its key.
-pub(crate) fn counter(verdict: u16, key: Symbol, column: u8, number: u32) -> RowKeys
+pub fn counter(verdict: u16, key: Symbol, column: u8, number: u32) -> RowKeys
     ensures { λ r. ⌜ r ≡ counter verdict key column number ⌝ }
 {
     let mut row = holder(verdict, key, 1);
@@ -101,7 +100,7 @@ pub(crate) fn counter(verdict: u16, key: Symbol, column: u8, number: u32) -> Row
 }
 
 // A row that is counted in the group that its first column names.
-pub(crate) fn member(verdict: u16, key: Symbol, group: Symbol) -> RowKeys
+pub fn member(verdict: u16, key: Symbol, group: Symbol) -> RowKeys
     ensures { λ r. ⌜ r ≡ member verdict key group ⌝ }
 {
     let mut row = holder(verdict, key, 1);
@@ -116,7 +115,7 @@ pub(crate) fn member(verdict: u16, key: Symbol, group: Symbol) -> RowKeys
 }
 
 // A row with one of reasons 1 to 8 holds, names and counts nothing.
-pub(crate) fn blanked(read: LineKeys) -> LineKeys
+pub fn blanked(read: LineKeys) -> LineKeys
     ensures { λ r. ⌜ r .keys ≡ cond (eqb (read .keys .verdict) 0) (read .keys) (noKeys (read .keys .verdict)) ⌝ }
     ensures { λ r. ⌜ r .next ≡ read .next ⌝ }
 {

@@ -1,6 +1,6 @@
 -- One slot is given.
-use Rattle.keys.proofs.parts.holder.Statement.{statement}
-use Rattle.keys.proofs.parts.holder.Tie as tie
+use Rattle.row_keys.proofs.parts.holder.Statement.{statement}
+use Rattle.row_keys.proofs.parts.holder.Tie as tie
 
 slot-requires : tie.Need-slot-requires
 slot-requires c κs = tt
