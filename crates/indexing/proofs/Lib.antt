@@ -1,4 +1,1 @@
-pub mod PutLaws
-pub mod NumberLaws
-pub mod ColumnLaws
 pub mod IndexingLaws

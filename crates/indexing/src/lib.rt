@@ -1,7 +1,8 @@
 // An index over what is kept of the rows: which good row holds a key, and the good rows of a group, one after the other.
-use crate::puts::put_index;
 use arrays::PLACES;
 use findings::mark_formed;
+use index_columns::placed;
+use index_columns::put_index;
 use judged::note_holders;
 use judged::parts::GROUP;
 use judged::parts::TABLE;
@@ -9,18 +10,25 @@ use judged::parts::byte_column;
 use judged::parts::half_column;
 use passes::groups::chain_rows;
 use symbols::SYMBOLS;
-ghost use mathlib.Core.Path.{_≡_};
 ghost use Prim.Native.Nat.{min};
 ghost use Rattle.arrays.specs.Room.{mostPlaces};
+ghost use Rattle.kept.specs.Stored.{groupColumn};
+ghost use Rattle.passes.specs.Groups.{Chained};
+ghost use Rattle.judged.specs.Passes.{columnOf};
 ghost use Rattle.indexing.specs.Indexing.{IndexedBy};
 
-mod puts;
-
-// Rows past the last place have no index.
-fn placed(n: usize) -> usize
-    ensures { λ r. ⌜ r ≡ min n mostPlaces ⌝ }
+// The marked rows of each group, one after the other.
+fn group_rows(
+    columns: &[u16],
+    marks: &[u8; PLACES],
+    firsts: &mut [u16; SYMBOLS],
+    nexts: &mut [u16; PLACES],
+    n: usize,
+)
+    ensures { λ _. ⌜ Chained (now (marks .entry)) (columnOf (now (columns .entry)) groupColumn) (now (firsts .entry)) (now (nexts .entry))
+        (now (firsts .exit)) (now (nexts .exit)) 0 (min n 65535) ⌝ }
 {
-    if n < PLACES { n } else { PLACES }
+    chain_rows(marks, half_column(columns, GROUP), firsts, nexts, n);
 }
 
 // Puts the columns of the database over those of what is kept of n rows, by the cells of their verdicts.
@@ -34,13 +42,7 @@ pub fn index_rows(columns: &mut [u16], bytes: &[u8], cells: &[u16], n: usize)
     let mut nexts = [0u16; PLACES];
     mark_formed(cells, &mut marks, rows);
     note_holders(&marks, columns, &mut holders, rows);
-    chain_rows(
-        &marks,
-        half_column(columns, GROUP),
-        &mut firsts,
-        &mut nexts,
-        rows,
-    );
+    group_rows(columns, &marks, &mut firsts, &mut nexts, rows);
     put_index(
         columns,
         byte_column(bytes, TABLE),

@@ -1,4 +1,4 @@
-// The passes over what is kept of the rows, one after the other: the verdict of each row.
+// The passes over what is kept of the rows, one after the other: the verdict of each row. Arrays by row and by key are lent whole.
 use crate::parts::CODE1;
 use crate::parts::CODE2;
 use crate::parts::COUNT;
@@ -30,7 +30,7 @@ ghost use Rattle.judged.specs.Passes.{formedBy, SoundBy, HoldersBy, Coun
 pub mod parts;
 
 // Marks the rows without reasons 1 to 9.
-fn sound_rows(halves: &[u16], sound: &mut [u8], n: usize)
+fn sound_rows(halves: &[u16], sound: &mut [u8; PLACES], n: usize)
     ensures { λ _. ⌜ SoundBy (now (halves .entry)) (now (sound .entry)) (now (sound .exit)) n ⌝ }
 {
     let mut formed = [0u8; PLACES];
@@ -44,7 +44,7 @@ fn sound_rows(halves: &[u16], sound: &mut [u8], n: usize)
 }
 
 // Notes one more than a marked row that holds each key, by the key's id.
-pub fn note_holders(marks: &[u8], halves: &[u16], holders: &mut [u16], n: usize)
+pub fn note_holders(marks: &[u8; PLACES], halves: &[u16], holders: &mut [u16; SYMBOLS], n: usize)
     ensures { λ _. ⌜ HoldersBy (now (marks .entry)) (now (halves .entry)) (now (holders .entry)) (now (holders .exit)) n ⌝ }
 {
     note_rows(marks, half_column(halves, KEY1), holders, n);
@@ -52,7 +52,7 @@ pub fn note_holders(marks: &[u8], halves: &[u16], holders: &mut [u16], n: usize)
 }
 
 // The same of the rows without reasons 1 to 8.
-fn holder_rows(halves: &[u16], holders: &mut [u16], n: usize)
+fn holder_rows(halves: &[u16], holders: &mut [u16; SYMBOLS], n: usize)
     ensures { λ _. ⌜ HoldersBy (formedBy (now (halves .entry)) n) (now (halves .entry)) (now (holders .entry)) (now (holders .exit)) n ⌝ }
 {
     let mut formed = [0u8; PLACES];
@@ -61,7 +61,13 @@ fn holder_rows(halves: &[u16], holders: &mut [u16], n: usize)
 }
 
 // Reason 10 of the rows that count others.
-fn count_cells(halves: &[u16], bytes: &[u8], sound: &[u8], counts: &mut [u16], n: usize)
+fn count_cells(
+    halves: &[u16],
+    bytes: &[u8],
+    sound: &[u8; PLACES],
+    counts: &mut [u16; PLACES],
+    n: usize,
+)
     ensures { λ _. ⌜ CountsBy (now (halves .entry)) (now (bytes .entry)) (now (sound .entry)) (now (counts .entry)) (now (counts .exit)) n ⌝ }
 {
     let mut tallies = [0u16; SYMBOLS];
@@ -77,7 +83,13 @@ fn count_cells(halves: &[u16], bytes: &[u8], sound: &[u8], counts: &mut [u16], n
 }
 
 // The rows that what rows name leads to, in both places.
-fn find_names(halves: &[u16], holders: &[u16], found1: &mut [u16], found2: &mut [u16], n: usize)
+fn find_names(
+    halves: &[u16],
+    holders: &[u16; SYMBOLS],
+    found1: &mut [u16; PLACES],
+    found2: &mut [u16; PLACES],
+    n: usize,
+)
     ensures { λ _. ⌜ FoundBy (now (halves .entry)) (now (holders .entry)) name1Column (now (found1 .entry)) (now (found1 .exit)) n ⌝ }
     ensures { λ _. ⌜ FoundBy (now (halves .entry)) (now (holders .entry)) name2Column (now (found2 .entry)) (now (found2 .exit)) n ⌝ }
 {
@@ -89,10 +101,10 @@ fn find_names(halves: &[u16], holders: &[u16], found1: &mut [u16], found2: &mut 
 fn judge_found(
     halves: &[u16],
     bytes: &[u8],
-    sound: &[u8],
-    counts: &[u16],
-    found1: &[u16],
-    found2: &[u16],
+    sound: &[u8; PLACES],
+    counts: &[u16; PLACES],
+    found1: &[u16; PLACES],
+    found2: &[u16; PLACES],
     cells: &mut [u16],
     n: usize,
 )

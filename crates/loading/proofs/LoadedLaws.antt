@@ -20,8 +20,9 @@ use Rattle.kept.specs.Puts.{allHalves, allBytes}
 use Rattle.judged.specs.Passes.{columnOf}
 use Rattle.judged.proofs.Held.{column-at}
 use Rattle.judged.proofs.TableLaws.{cells-judged}
-use Rattle.indexing.specs.Indexing.{goodMarks, indexColumns, IndexedBy}
-use Rattle.indexing.proofs.ColumnLaws.{holder-at, first-at, next-at, number-at, table-at, start-at}
+use Rattle.index_columns.specs.Columns.{indexColumns}
+use Rattle.index_columns.proofs.ColumnLaws.{holder-at, first-at, next-at, number-at, table-at, start-at}
+use Rattle.indexing.specs.Indexing.{goodMarks, IndexedBy}
 use Rattle.database.specs.Arrays.{allColumns, startColumn, database, answers}
 use Rattle.database.specs.GoodRows.{ofTables}
 use Rattle.loading.specs.Index.{Indexed}

@@ -14,7 +14,7 @@ use Rattle.kept.specs.Stored.{at, tableColumn}
 use Rattle.kept.specs.FirstPass.{Situations}
 use Rattle.judged.specs.Passes.{columnOf}
 use Rattle.judged.proofs.Held.{column-at}
-use Rattle.indexing.specs.Indexing.{following, numberOf}
+use Rattle.index_columns.specs.Columns.{following, numberOf}
 
 module _ (texts : List (List ℕ)) where
   -- more tables have more rows

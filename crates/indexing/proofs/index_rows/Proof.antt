@@ -13,41 +13,14 @@ slice-aggregate-mark-formed c = search needs
 mark-formed-requires : tie.Need-mark-formed-requires
 mark-formed-requires c κs = search needs
 
-slice-aggregate-note-holders : tie.Need-slice-aggregate-note-holders
-slice-aggregate-note-holders c = search needs
-
-slice-aggregate-note-holders-2 : tie.Need-slice-aggregate-note-holders-2
-slice-aggregate-note-holders-2 c = search needs
-
 note-holders-requires : tie.Need-note-holders-requires
 note-holders-requires c κs = search needs
 
-slice-aggregate-chain-rows : tie.Need-slice-aggregate-chain-rows
-slice-aggregate-chain-rows c = search needs
-
-half-column-requires : tie.Need-half-column-requires
-half-column-requires c κs = search needs
-
-slice-aggregate-chain-rows-2 : tie.Need-slice-aggregate-chain-rows-2
-slice-aggregate-chain-rows-2 c = search needs
-
-slice-aggregate-chain-rows-3 : tie.Need-slice-aggregate-chain-rows-3
-slice-aggregate-chain-rows-3 c = search needs
-
-chain-rows-requires : tie.Need-chain-rows-requires
-chain-rows-requires c κs = search needs
+group-rows-requires : tie.Need-group-rows-requires
+group-rows-requires c κs = search needs
 
 byte-column-requires : tie.Need-byte-column-requires
 byte-column-requires c κs = search needs
-
-slice-aggregate-put-index : tie.Need-slice-aggregate-put-index
-slice-aggregate-put-index c = search needs
-
-slice-aggregate-put-index-2 : tie.Need-slice-aggregate-put-index-2
-slice-aggregate-put-index-2 c = search needs
-
-slice-aggregate-put-index-3 : tie.Need-slice-aggregate-put-index-3
-slice-aggregate-put-index-3 c = search needs
 
 put-index-requires : tie.Need-put-index-requires
 put-index-requires c κs = search needs
@@ -57,13 +30,13 @@ same-length c = search needs
 
 returns : tie.Need-returns
 returns c =
-    let chained = c .before .before .before .before .before .before .before .before .before .before in
-    let held = chained .before .before .before .before .before .before .before in
+    let chained = c .before .before .before .before .before .before .before .before in
+    let held = chained .before .before .before .before .before in
     let marked = held .before .before .before .before .before in
     let a = marked .before .before .before .before .before .before .args in
     indexed-by (a .columns .now) (a .bytes .now) (a .cells .now) (a .n) _ (marked .before .before .placed .ensures)
-    _ (marked .mark-formed .ensures) _ (held .note-holders .ensures) _ (chained .before .before .before .half-column .ensures)
-    _ _ (chained .chain-rows .ensures) _ (c .before .before .before .before .before .before .byte-column .ensures) _ (c .before .before .put-index .ensures)
+    _ (marked .mark-formed .ensures) _ (held .note-holders .ensures) _ _ (chained .group-rows .ensures)
+    _ (c .before .before .before .before .before .before .byte-column .ensures) _ (c .before .before .put-index .ensures)
 
 pub index-rows-spec : {M : Type 1} → statement M
 index-rows-spec =
@@ -72,18 +45,9 @@ index-rows-spec =
     placed-requires
     slice-aggregate-mark-formed
     mark-formed-requires
-    slice-aggregate-note-holders
-    slice-aggregate-note-holders-2
     note-holders-requires
-    slice-aggregate-chain-rows
-    half-column-requires
-    slice-aggregate-chain-rows-2
-    slice-aggregate-chain-rows-3
-    chain-rows-requires
+    group-rows-requires
     byte-column-requires
-    slice-aggregate-put-index
-    slice-aggregate-put-index-2
-    slice-aggregate-put-index-3
     put-index-requires
     same-length
     returns)

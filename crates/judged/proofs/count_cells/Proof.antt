@@ -28,17 +28,12 @@ slice-aggregate-count-rows c = search needs
 count-rows-requires : tie.Need-count-rows-requires
 count-rows-requires c κs = search needs
 
-same-length : tie.Need-same-length
-same-length c = search needs
-
 returns : tie.Need-returns
 returns c =
-    let number = c .before .before .before .before .before in
-    let column = number .before .before in
-    let a = column .before .before .before .before .before .before .before .before .before .args in
-    counts-by (a .halves .now) (a .bytes .now) (a .n) _ _ _ _ (column .before .before .before .before .half-column .ensures)
-    (column .byte-column .ensures) (number .before .half-column2 .ensures) (number .half-column3 .ensures)
-    (a .sound .now) (a .counts .now) _ _ (column .before .before .count-ids .ensures) (c .before .before .count-rows .ensures)
+    let a = c .before .before .before .before .before .before .before .before .before .before .before .before .before .args in
+    counts-by (a .halves .now) (a .bytes .now) (a .n) _ _ _ _ (c .before .before .before .before .before .before .before .before .before .half-column .ensures)
+    (c .before .before .before .before .before .byte-column .ensures) (c .before .before .before .before .half-column2 .ensures) (c .before .before .before .half-column3 .ensures)
+    (a .sound .now) (a .counts .now) _ _ (c .before .before .before .before .before .before .before .count-ids .ensures) (c .count-rows .ensures)
 
 pub count-cells-spec : {M : Type 1} → statement M
 count-cells-spec =
@@ -52,5 +47,4 @@ count-cells-spec =
     half-column-requires-3
     slice-aggregate-count-rows
     count-rows-requires
-    same-length
     returns)

@@ -17,19 +17,12 @@ half-column-requires-2 c κs = search needs
 find-rows-requires-2 : tie.Need-find-rows-requires-2
 find-rows-requires-2 c κs = search needs
 
-same-length : tie.Need-same-length
-same-length c = search needs
-
-same-length-2 : tie.Need-same-length-2
-same-length-2 c = search needs
-
 returns : tie.Need-returns
 returns c =
-    let one = c .before .before .before .before .before .before .before in
-    let a = one .before .before .before .before .before .before .before .args in
+    let a = c .before .before .before .before .before .before .before .before .before .args in
     let found = found-by (a .halves .now) (a .holders .now) in (
-      found name1Column (a .n) _ (a .found1 .now) _ (one .before .before .half-column .ensures) (one .find-rows .ensures),
-      found name2Column (a .n) _ (a .found2 .now) _ (c .before .before .before .before .half-column2 .ensures) (c .before .before .find-rows2 .ensures),
+      found name1Column (a .n) _ (a .found1 .now) _ (c .before .before .before .before .before .before .before .half-column .ensures) (c .before .before .before .before .find-rows .ensures),
+      found name2Column (a .n) _ (a .found2 .now) _ (c .before .before .before .half-column2 .ensures) (c .find-rows2 .ensures),
     )
 
 pub find-names-spec : {M : Type 1} → statement M
@@ -40,6 +33,4 @@ find-names-spec =
     find-rows-requires
     half-column-requires-2
     find-rows-requires-2
-    same-length
-    same-length-2
     returns)

@@ -13,21 +13,14 @@ slice-aggregate-mark-formed c = search needs
 mark-formed-requires : tie.Need-mark-formed-requires
 mark-formed-requires c κs = search needs
 
-slice-aggregate-note-holders : tie.Need-slice-aggregate-note-holders
-slice-aggregate-note-holders c = search needs
-
 note-holders-requires : tie.Need-note-holders-requires
 note-holders-requires c κs = search needs
 
-same-length : tie.Need-same-length
-same-length c = search needs
-
 returns : tie.Need-returns
 returns c =
-    let marked = c .before .before .before .before .before .before in
-    let a = marked .before .before .before .before .before .args in
-    let formed = formed-is (a .halves .now) (a .n) _ _ (marked .before .before .half-column .ensures) (marked .mark-formed .ensures) in
-    holders-same _ _ (a .halves .now) (a .holders .now) _ (a .n) formed (c .before .before .note-holders .ensures)
+    let a = c .before .before .before .before .before .before .before .before .args in
+    let formed = formed-is (a .halves .now) (a .n) _ _ (c .before .before .before .before .before .before .half-column .ensures) (c .before .before .before .before .mark-formed .ensures) in
+    holders-same _ _ (a .halves .now) (a .holders .now) _ (a .n) formed (c .note-holders .ensures)
 
 pub holder-rows-spec : {M : Type 1} → statement M
 holder-rows-spec =
@@ -36,7 +29,5 @@ holder-rows-spec =
     half-column-requires
     slice-aggregate-mark-formed
     mark-formed-requires
-    slice-aggregate-note-holders
     note-holders-requires
-    same-length
     returns)

@@ -16,16 +16,11 @@ half-column-requires-2 c κs = search needs
 note-rows-requires-2 : tie.Need-note-rows-requires-2
 note-rows-requires-2 c κs = search needs
 
-same-length : tie.Need-same-length
-same-length c = search needs
-
 returns : tie.Need-returns
 returns c =
-    let second = c .before .before .before .before in
-    let once = second .before .before .before in
-    let a = once .before .before .before .before .before .before .args in
-    holders-noted (a .marks .now) (a .halves .now) (a .n) _ _ (once .before .before .half-column .ensures) (second .half-column2 .ensures)
-    (a .holders .now) _ _ (once .note-rows .ensures) (c .before .before .note-rows2 .ensures)
+    let a = c .before .before .before .before .before .before .before .before .before .args in
+    holders-noted (a .marks .now) (a .halves .now) (a .n) _ _ (c .before .before .before .before .before .before .half-column .ensures) (c .before .before .half-column2 .ensures)
+    (a .holders .now) _ _ (c .before .before .before .before .note-rows .ensures) (c .note-rows2 .ensures)
 
 pub note-holders-spec : {M : Type 1} → statement M
 note-holders-spec =
@@ -35,5 +30,4 @@ note-holders-spec =
     note-rows-requires
     half-column-requires-2
     note-rows-requires-2
-    same-length
     returns)

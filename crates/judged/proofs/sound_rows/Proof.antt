@@ -47,18 +47,14 @@ slice-aggregate-mark-sound-2 c = search needs
 mark-sound-requires : tie.Need-mark-sound-requires
 mark-sound-requires c κs = search needs
 
-same-length : tie.Need-same-length
-same-length c = search needs
-
 returns : tie.Need-returns
 returns c =
-    let twice = c .before .before .before .before .before .before .before in
-    let columns = twice .before .before .before .before .before .before .before in
+    let columns = c .before .before .before .before .before .before .before .before .before .before .before .before in
     let marked = columns .before .before .before in
-    let a = marked .before .before .before .before .before .args in
+    let a = marked .before .before .before .before .args in
     let formed = formed-is (a .halves .now) (a .n) _ _ (marked .before .before .half-column .ensures) (marked .mark-formed .ensures) in
     sound-by (a .halves .now) (a .n) _ _ _ formed (columns .before .half-column2 .ensures) (columns .half-column3 .ensures)
-    (a .sound .now) _ _ _ (twice .before .before .before .before .count-ids .ensures) (twice .count-ids2 .ensures) (c .before .before .mark-sound .ensures)
+    (a .sound .now) _ _ _ (c .before .before .before .before .before .before .before .before .before .count-ids .ensures) (c .before .before .before .before .before .count-ids2 .ensures) (c .mark-sound .ensures)
 
 pub sound-rows-spec : {M : Type 1} → statement M
 sound-rows-spec =
@@ -78,5 +74,4 @@ sound-rows-spec =
     slice-aggregate-mark-sound
     slice-aggregate-mark-sound-2
     mark-sound-requires
-    same-length
     returns)

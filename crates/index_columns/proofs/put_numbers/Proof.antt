@@ -1,13 +1,13 @@
 -- The invariant: the first i places are put, and the number is that of the next row.
-use Rattle.indexing.proofs.PutLaws.{Putting, put-start, put-next, put-end}
-use Rattle.indexing.proofs.NumberLaws.{number-next, number-most}
-use Rattle.indexing.specs.Indexing.{numberOf}
+use Rattle.index_columns.proofs.PutLaws.{Putting, put-start, put-next, put-end}
+use Rattle.index_columns.proofs.NumberLaws.{number-next, number-most}
+use Rattle.index_columns.specs.Columns.{numberOf}
 use Rattle.database.specs.Arrays.{numberColumn}
 use native.Mathlib.Omega.{arith}
 use Prim.Native.Nat.{_+_, _-_, _≤_}
 use mathlib.Core.Path.{_≡_, refl}
-use Rattle.indexing.proofs.puts.put_numbers.Statement.{statement}
-use Rattle.indexing.proofs.puts.put_numbers.Tie as tie
+use Rattle.index_columns.proofs.put_numbers.Statement.{statement}
+use Rattle.index_columns.proofs.put_numbers.Tie as tie
 
 abbrev Inv-loop : tie.InvT-loop
 Inv-loop tables columns₀ n number₀ i₀ columns number i =

@@ -8,7 +8,7 @@ use lib.ListN.{length, getD, set, length-set}
 use lib.Seq.{sets, length-sets, getD-set-same, getD-set-other}
 use Rattle.laws.specs.Values.{tabulate}
 use Rattle.laws.proofs.Values.{tabulate-length, tabulate-at}
-use Rattle.indexing.specs.Indexing.{putFrom}
+use Rattle.index_columns.specs.Columns.{putFrom}
 
 module _ (f : ℕ → ℕ) (place : ℕ) where
   -- xs is xs₀ with the values at the first i of n places put: with those left it is xs₀ with all

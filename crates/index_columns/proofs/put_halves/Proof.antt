@@ -1,10 +1,10 @@
 -- The invariant: the first i places are put.
-use Rattle.indexing.proofs.PutLaws.{Putting, put-start, put-next, put-end}
+use Rattle.index_columns.proofs.PutLaws.{Putting, put-start, put-next, put-end}
 use lib.ListN.{getD}
 use native.Mathlib.Omega.{arith}
 use Prim.Native.Nat.{_-_}
-use Rattle.indexing.proofs.puts.put_halves.Statement.{statement}
-use Rattle.indexing.proofs.puts.put_halves.Tie as tie
+use Rattle.index_columns.proofs.put_halves.Statement.{statement}
+use Rattle.index_columns.proofs.put_halves.Tie as tie
 
 abbrev Inv-loop : tie.InvT-loop
 Inv-loop from columns₀ place n i₀ columns i = Putting (λ k. getD from k 0) place n columns₀ columns i

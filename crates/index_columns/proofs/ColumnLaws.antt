@@ -7,8 +7,19 @@ use lib.ListN.{length, getD}
 use Rattle.arrays.specs.Room.{mostPlaces}
 use Rattle.symbols.specs.Arrays.{mostSymbols}
 use Rattle.database.specs.Arrays.{holderColumn, firstColumn, nextColumn, numberColumn, tableColumn, startColumn, allColumns}
-use Rattle.indexing.specs.Indexing.{numberOf, putFrom, indexColumns}
-use Rattle.indexing.proofs.PutLaws.{put-size, put-at, put-before, put-after}
+use Rattle.index_columns.specs.Columns.{numberOf, putFrom, indexColumns}
+use Rattle.index_columns.proofs.PutLaws.{put-size, put-at, put-before, put-after}
+
+-- the columns are put one after the other
+pub all-put : (columns tables holders firsts nexts : List ℕ) (n : ℕ) (a b c d e : List ℕ)
+    → a ≡ putFrom columns holderColumn (λ id. getD holders id 0) mostSymbols
+    → b ≡ putFrom a firstColumn (λ id. getD firsts id 0) mostSymbols
+    → c ≡ putFrom b nextColumn (λ i. getD nexts i 0) n
+    → d ≡ putFrom c numberColumn (numberOf tables) n
+    → e ≡ putFrom d tableColumn (λ i. getD tables i 0) n
+    → e ≡ indexColumns columns tables holders firsts nexts n
+unfolding indexColumns
+all-put columns tables holders firsts nexts n a b c d e p q r s t = t ∙ rw (s, r, q, p)
 
 module _ (halves tables holders firsts nexts : List ℕ) (n : ℕ) (few : n ≤ mostPlaces) (room : allColumns ≤ length halves) where
   -- the columns as they are put, one after the other

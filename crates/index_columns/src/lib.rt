@@ -1,4 +1,5 @@
-// The columns of the index put to their places.
+// The columns of the database: what is known of keys and rows, put to its places over what was kept.
+use arrays::PLACES;
 use arrays::byte_at;
 use arrays::half_at;
 use arrays::put_half;
@@ -9,11 +10,18 @@ use database::NUMBER;
 use database::TABLE;
 use symbols::SYMBOLS;
 ghost use mathlib.Core.Path.{_≡_};
-ghost use Prim.Native.Nat.{_+_, _≤_, _<_};
+ghost use Prim.Native.Nat.{_+_, _≤_, _<_, min};
 ghost use lib.ListN.{getD};
 ghost use Rattle.arrays.specs.Room.{mostPlaces};
 ghost use Rattle.database.specs.Arrays.{numberColumn, tableColumn, allColumns};
-ghost use Rattle.indexing.specs.Indexing.{putFrom, following, numberOf, indexColumns};
+ghost use Rattle.index_columns.specs.Columns.{putFrom, following, numberOf, indexColumns};
+
+// Rows past the last place have no index.
+pub fn placed(n: usize) -> usize
+    ensures { λ r. ⌜ r ≡ min n mostPlaces ⌝ }
+{
+    if n < PLACES { n } else { PLACES }
+}
 
 // The first n numbers of an array, put from a place on.
 fn put_halves(from: &[u16], columns: &mut [u16], place: usize, n: usize)
@@ -67,22 +75,22 @@ fn put_numbers(tables: &[u8], columns: &mut [u16], n: usize)
     }
 }
 
-// All columns but where lines start, which stay where they are.
-pub(crate) fn put_index(
+// All columns but where lines start, which stay where they are. Arrays by row and by key are lent whole.
+pub fn put_index(
     columns: &mut [u16],
     tables: &[u8],
-    holders: &[u16],
-    firsts: &[u16],
-    nexts: &[u16],
+    holders: &[u16; SYMBOLS],
+    firsts: &[u16; SYMBOLS],
+    nexts: &[u16; PLACES],
     n: usize,
 )
-    requires { ⌜ n ≤ mostPlaces ⌝ }
     ensures { λ _. ⌜ now (columns .exit) ≡ indexColumns (now (columns .entry)) (now (tables .entry))
-        (now (holders .entry)) (now (firsts .entry)) (now (nexts .entry)) n ⌝ }
+        (now (holders .entry)) (now (firsts .entry)) (now (nexts .entry)) (min n mostPlaces) ⌝ }
 {
+    let rows = placed(n);
     put_halves(holders, columns, HOLDER, SYMBOLS);
     put_halves(firsts, columns, FIRST, SYMBOLS);
-    put_halves(nexts, columns, NEXT, n);
-    put_numbers(tables, columns, n);
-    put_tables(tables, columns, n);
+    put_halves(nexts, columns, NEXT, rows);
+    put_numbers(tables, columns, rows);
+    put_tables(tables, columns, rows);
 }

@@ -8,7 +8,7 @@ use native.Mathlib.Omega.{arith}
 use lib.Dec.{eqb}
 use lib.ListN.{getD}
 use borrow.Author.Tests.{eq-eqb, ne-eqb}
-use Rattle.indexing.specs.Indexing.{following, numberOf}
+use Rattle.index_columns.specs.Columns.{following, numberOf}
 
 module _ (number table next : ℕ) where
   pub same-table : table ≡ next → number + 1 ≡ following number table next

@@ -1,12 +1,12 @@
 -- The invariant: the first i places are put.
-use Rattle.indexing.proofs.PutLaws.{Putting, put-start, put-next, put-end}
+use Rattle.index_columns.proofs.PutLaws.{Putting, put-start, put-next, put-end}
 use Rattle.database.specs.Arrays.{tableColumn}
 use lib.ListN.{getD}
 use native.Mathlib.Omega.{arith}
 use Prim.Native.Nat.{_-_}
 use mathlib.Core.Path.{_∙_}
-use Rattle.indexing.proofs.puts.put_tables.Statement.{statement}
-use Rattle.indexing.proofs.puts.put_tables.Tie as tie
+use Rattle.index_columns.proofs.put_tables.Statement.{statement}
+use Rattle.index_columns.proofs.put_tables.Tie as tie
 
 abbrev Inv-loop : tie.InvT-loop
 Inv-loop tables columns₀ n i₀ columns i = Putting (λ k. getD tables k 0) tableColumn n columns₀ columns i

@@ -1,8 +1,8 @@
 -- By whether the tables are the same.
-use Rattle.indexing.proofs.NumberLaws.{same-table, other-table}
+use Rattle.index_columns.proofs.NumberLaws.{same-table, other-table}
 use borrow.Author.Needs.{needs}
-use Rattle.indexing.proofs.puts.next_number.Statement.{statement}
-use Rattle.indexing.proofs.puts.next_number.Tie as tie
+use Rattle.index_columns.proofs.next_number.Statement.{statement}
+use Rattle.index_columns.proofs.next_number.Tie as tie
 
 add-result : tie.Need-add-result
 add-result c = search needs
