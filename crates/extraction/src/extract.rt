@@ -2,8 +2,8 @@
 use identification::Identified;
 use identification::identify_in;
 use lines::names::name_of;
+use located_readings::read;
 use readings::Reading;
-use readings::read;
 use tables::TABLES;
 ghost use mathlib.Core.Path.{_≡_};
 ghost use mathlib.Core.List.{map};

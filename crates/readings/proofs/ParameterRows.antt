@@ -19,13 +19,14 @@ use Rattle.rows.specs.declared.records.PcfRow.{PcfRow}
 use Rattle.verdicts.specs.Key.{Key, parameter, sameKey}
 use Rattle.verdicts.specs.Facts.{factsOf}
 use Rattle.verdicts.specs.Entries.{carried, tableCount, carriedAt}
-use Rattle.verdicts.specs.Answer.{tooManyRows}
+use Rattle.verdicts.specs.Answer.{mostRows, tooManyRows}
 use Rattle.verdicts.proofs.KeyLaws.{same-key-is}
 use Rattle.verdicts.proofs.OwnerLaws.{tableIndex, index-is, ownerOf, of-table}
 use Rattle.tables.proofs.SizeLaws.{few}
 use Rattle.database.specs.Rows.{Row}
-use Rattle.database.specs.GoodRows.{rowsOf, rowsFrom, rowsIn, isGood, goodRows, tableOf, holdsKey, find, among, ofTables}
-use Rattle.readings.specs.Readings.{agrees, mostRows, validity, reading}
+use Rattle.database.specs.GoodRows.{rowsOf, rowsFrom, rowsIn, isGood, goodRows, tableOf, holdsKey, among, ofTables}
+use Rattle.database.proofs.RowLaws.{found-passes}
+use Rattle.readings.specs.Readings.{agrees, validity, reading}
 use Rattle.readings.proofs.ValidityLaw.{FewParameters, validity-law}
 
 -- Lists
@@ -45,17 +46,6 @@ module _ {A : Type 0} where
       rw e (List·Memᴰ·head q)
   mem-keep f {a} (x ∷ l) (List·Memᴰ·tail m) t =
       cond-cases (λ (r : List A). List·Memᴰ a r) (f x) (λ _. List·Memᴰ·tail (mem-keep f l m t)) (λ _. mem-keep f l m t)
-
--- a row that was found is one of the rows, and passes
-found-passes : (passes : Row → Bool) (rows : List Row) (r : Row) → find passes rows ≡ some r → List·Memᴰ r rows × (passes r ≡ true)
-unfolding find
-found-passes passes [] r e = absurd (let z : _≡_ {A = ℕ} 0 1 = cc in omega arith)
-found-passes passes (x ∷ rows) r e = by (passes x) refl e (found-passes passes rows r)
-  where
-    by : (b : Bool) → passes x ≡ b → cond b (some x) (find passes rows) ≡ some r → (find passes rows ≡ some r → List·Memᴰ r rows × (passes r ≡ true))
-        → List·Memᴰ r (x ∷ rows) × (passes r ≡ true)
-    by true t e ih = let q : r ≡ x = cc in (List·Memᴰ·head q, cc)
-    by false t e ih = let h = ih e in (List·Memᴰ·tail (h .0), h .1)
 
 -- Rows that hold parameters
 

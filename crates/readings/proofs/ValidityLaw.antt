@@ -15,10 +15,11 @@ use Rattle.rows.specs.declared.records.PcfRow.{PcfRow}
 use Rattle.outcomes.specs.Outcome.{Outcome, refused, answer, andThen}
 use Rattle.outcomes.specs.Values.{Value}
 use Rattle.verdicts.specs.Key.{location, parameter}
+use Rattle.verdicts.specs.Answer.{mostRows}
 use Rattle.database.specs.Rows.{Row, Rows}
 use Rattle.raw_values.specs.RawValues.{rawOf}
 use Rattle.parameters.specs.Located.{Located, byLines, needed, located}
-use Rattle.readings.specs.Readings.{Reading, agrees, withValidity, mostRows, readingWith, validWithin, validity, reading}
+use Rattle.readings.specs.Readings.{Reading, agrees, withValidity, readingWith, validWithin, validity, reading}
 
 -- the rows that hold parameters come from a list of at most as many as a table can have
 pub record FewParameters (rows : Rows) : Type 0 where

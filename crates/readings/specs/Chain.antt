@@ -6,18 +6,7 @@ use mathlib.Core.List.{List, [], _∷_}
 use lib.Dec.{eqb}
 use lib.IntN.{ℤ, pos}
 use lib.ListN.{getD}
-use Rattle.rows.specs.Records.{pcfRow}
-use Rattle.rows.specs.declared.records.PcfRow.{PcfRow}
-use Rattle.database.specs.Arrays.{rowAt}
 use Rattle.readings.specs.Readings.{sameInteger}
-use Rattle.readings.specs.declared.follow.Asked.{Asked}
-use Rattle.readings.specs.declared.follow.Asked.the-variants.{Is, Unreadable}
-
--- whether a validity parameter is valid and equals a VALPAR, where it is known which rows' readings are valid.
--- 01: "A validity parameter that can't be read makes it invalid"
-unfoldable pub askedAgrees : (texts : List (List ℕ)) → (columns : List ℕ) → (PcfRow → Bool) → Asked → ℤ → Bool
-askedAgrees texts columns valid (Is v pcf) valpar = valid (pcfRow (rowAt texts columns pcf .bytes)) && sameInteger v valpar
-askedAgrees texts columns valid Unreadable valpar = false
 
 -- whether readings of row `at` are valid, with `left` rows that have VALID from it on, and then one that is valid or not.
 -- 01: "is valid and equals the VALPAR of the reading's own pcf row"

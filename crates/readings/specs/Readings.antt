@@ -25,6 +25,7 @@ use Rattle.outcomes.specs.Values.{Value, number, part, valueOf}
 use Rattle.outcomes.specs.Refusals.{refusedBy}
 use Rattle.verdicts.specs.Key.{keyWords, sameKey}
 use Rattle.verdicts.specs.Facts.{factsOf, plfFacts, pcfFacts}
+use Rattle.verdicts.specs.Answer.{mostRows}
 use Rattle.database.specs.Rows.{Row, Rows}
 use Rattle.database.specs.GoodRows.{holdsKey, find, among}
 use Rattle.raw_values.specs.RawValues.{isString, startOf, valueAt, fieldRaw, rawIn, rawOf}
@@ -56,10 +57,6 @@ agrees (answer r) valpar = r .valid && equals (r .value) valpar
 unfoldable pub withValidity : Bool → Value → Outcome Reading
 withValidity valid v = answer (record { value = v; valid = valid })
 
--- 01 takes no table of over 1,024 rows, so that a chain of good rows has at most as many
-abbrev pub mostRows : ℕ
-mostRows = 1024
-
 module _ (rows : Rows) (p : List ℕ) (spid : ℕ) where
   -- the reading of occurrence k of a parameter, where it is known which rows' readings are valid
   unfoldable pub readingWith : (PcfRow → Bool) → Name → (k : ℕ) → Outcome Reading
@@ -77,7 +74,8 @@ module _ (rows : Rows) (p : List ℕ) (spid : ℕ) where
 
   -- 01: "A reading is valid only when its validity parameter's own reading, occurrence 0 of the same packet, is valid and equals the
   -- VALPAR of the reading's own pcf row; then it is valid, as is any reading whose row has no VALID".
-  -- The laws `validity-law` and `validity-of-tables` say it with no number
+  -- 01 takes no table of over 1,024 rows, so that a chain of good rows has at most as many; the laws `validity-law` and
+  -- `validity-of-tables` say it with no number
   unfoldable pub validity : PcfRow → Bool
   validity row = validWithin mostRows row
 
@@ -96,19 +94,19 @@ line table text = record { table = table; number = 1; start = 0; bytes = map (λ
 abbrev rowsWith : (two one : String) → Rows
 rowsWith two one = among (line 2 "TWO;7;12;0" ∷ line 2 "ONE;7;10;0" ∷ line 3 two ∷ line 3 one ∷ [])
 
-abbrev told : (two one : String) → Outcome Reading
-told two one = reading (rowsWith two one) packet 7 (nameOf (ascii "TWO")) 0
+abbrev readTwo : (two one : String) → Outcome Reading
+readTwo two one = reading (rowsWith two one) packet 7 (nameOf (ascii "TWO")) 0
 
 abbrev is4660 : Bool → Outcome Reading
 is4660 valid = answer (record { value = number (pos 4660); valid = valid })
 
 pub record Examples : Type 0 where
   -- VALPAR -1
-  pub valid : told "TWO;;;;3;12;;ONE;;N;R;;;;;;;-1" "ONE;;;;4;4;;;;N;R" ≡ is4660 true
+  pub valid : readTwo "TWO;;;;3;12;;ONE;;N;R;;;;;;;-1" "ONE;;;;4;4;;;;N;R" ≡ is4660 true
   -- VALPAR 1, its default
-  pub other-value : told "TWO;;;;3;12;;ONE;;N;R" "ONE;;;;4;4;;;;N;R" ≡ is4660 false
+  pub other-value : readTwo "TWO;;;;3;12;;ONE;;N;R" "ONE;;;;4;4;;;;N;R" ≡ is4660 false
   -- ONE's own VALID returns to it
-  pub circle : told "TWO;;;;3;12;;ONE;;N;R;;;;;;;-1" "ONE;;;;4;4;;ONE;;N;R;;;;;;;-1" ≡ is4660 false
+  pub circle : readTwo "TWO;;;;3;12;;ONE;;N;R;;;;;;;-1" "ONE;;;;4;4;;ONE;;N;R;;;;;;;-1" ≡ is4660 false
 
 pub examples : Examples
 unfolding

@@ -21,9 +21,10 @@ ghost use Rattle.outcomes.specs.Outcome.{andThen};
 ghost use Rattle.outcomes.specs.Values.{valueOf};
 ghost use Rattle.database.specs.Arrays.{database, answers, rowAt};
 ghost use Rattle.raw_values.specs.RawValues.{saidRaw};
 ghost use Rattle.readings.specs.Readings as spec;
 ghost use Rattle.readings.specs.Readings.{agrees, withValidity, readingWith};
-ghost use Rattle.readings.specs.Chain.{askedAgrees, validAlong};
+ghost use Rattle.readings.specs.Chain.{validAlong};
+ghost use Rattle.located_readings.specs.Asked.{askedAgrees};
 
 // What a validity parameter reads in a packet: a number, beside the place of its pcf row.
 pub(crate) enum Asked {

@@ -2,10 +2,10 @@
 use Rattle.outcomes.specs.Outcome.{andThen}
 use Rattle.outcomes.specs.Refusals.{refusedBy}
 use Rattle.raw_values.specs.RawValues.{saidRaw}
 use Rattle.readings.specs.Readings.{withValidity, saidReading}
 use borrow.Author.Needs.{needs}
-use Rattle.readings.proofs.with_validity.Statement.{statement}
-use Rattle.readings.proofs.with_validity.Tie as tie
+use Rattle.located_readings.proofs.with_validity.Statement.{statement}
+use Rattle.located_readings.proofs.with_validity.Tie as tie
 
 enum-known-raw : tie.Need-enum-known-raw
 enum-known-raw c = search needs

@@ -1,11 +1,11 @@
 -- By the rows of the validity parameter.
 use mathlib.Core.Path.{refl, ap, _∙_}
 use Rattle.readings.specs.Readings.{agrees}
-use Rattle.readings.specs.Chain.{askedAgrees}
+use Rattle.located_readings.specs.Asked.{askedAgrees}
 use Rattle.readings.proofs.ReadingLaws.{not-true, not-false, read-unlocated, read-located}
 use borrow.Author.Needs.{needs}
-use Rattle.readings.proofs.follow.ask.Statement.{statement}
-use Rattle.readings.proofs.follow.ask.Tie as tie
+use Rattle.located_readings.proofs.follow.ask.Statement.{statement}
+use Rattle.located_readings.proofs.follow.ask.Tie as tie
 
 locate-requires : tie.Need-locate-requires
 locate-requires c κs = search needs

@@ -3,11 +3,11 @@ use mathlib.Core.Path.{_∙_}
 use Rattle.outcomes.specs.Outcome.{andThen}
 use Rattle.outcomes.specs.Refusals.{refusedBy}
 use Rattle.raw_values.specs.RawValues.{saidRaw}
 use Rattle.readings.specs.Readings.{agrees}
-use Rattle.readings.specs.Chain.{askedAgrees}
+use Rattle.located_readings.specs.Asked.{askedAgrees}
 use borrow.Author.Needs.{needs}
-use Rattle.readings.proofs.follow.raw_asked.Statement.{statement}
-use Rattle.readings.proofs.follow.raw_asked.Tie as tie
+use Rattle.located_readings.proofs.follow.raw_asked.Statement.{statement}
+use Rattle.located_readings.proofs.follow.raw_asked.Tie as tie
 
 enum-known-raw : tie.Need-enum-known-raw
 enum-known-raw c = search needs

@@ -10,10 +10,10 @@ use mir.Val.{SFits}
 use borrow.Author.Needs.{needs}
 use Rattle.rows.specs.Records.{pcfRow}
 use Rattle.database.specs.Arrays.{database, answers, rowAt}
 use Rattle.readings.proofs.ReadingLaws.{not-true, not-false, valpar-kept}
-use Rattle.readings.proofs.ChainLaws.{Following, follow-start, follow-free, follow-cut, follow-unreadable, follow-more}
-use Rattle.readings.proofs.follow.follow.Statement.{statement}
-use Rattle.readings.proofs.follow.follow.Tie as tie
+use Rattle.located_readings.proofs.FollowLaws.{Following, follow-start, follow-free, follow-cut, follow-unreadable, follow-more}
+use Rattle.located_readings.proofs.follow.follow.Statement.{statement}
+use Rattle.located_readings.proofs.follow.follow.Tie as tie
 
 abbrev Inv-loop : tie.InvT-loop
 Inv-loop tables words links columns p spid pcf values₀ valpars₀ at₀ n₀ values valpars at n =

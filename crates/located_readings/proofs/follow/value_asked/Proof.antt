@@ -3,12 +3,12 @@ use mir.Facts.{toZ-ofZ}
 use mir.Syntax.{w64}
 use mir.Val.{SFits}
 use Rattle.outcomes.specs.Values.{valueOf}
 use Rattle.readings.specs.Readings.{equals, agrees, withValidity}
-use Rattle.readings.specs.Chain.{askedAgrees}
-use Rattle.readings.proofs.ChainLaws.{string-disagrees}
+use Rattle.located_readings.specs.Asked.{askedAgrees}
+use Rattle.located_readings.proofs.FollowLaws.{string-disagrees}
 use borrow.Author.Needs.{needs}
-use Rattle.readings.proofs.follow.value_asked.Statement.{statement}
-use Rattle.readings.proofs.follow.value_asked.Tie as tie
+use Rattle.located_readings.proofs.follow.value_asked.Statement.{statement}
+use Rattle.located_readings.proofs.follow.value_asked.Tie as tie
 
 enum-known-value : tie.Need-enum-known-value
 enum-known-value c = search needs

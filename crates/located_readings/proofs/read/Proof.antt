@@ -1,11 +1,11 @@
 -- By the rows of the parameter.
 use mathlib.Core.Path.{_∙_}
 use Rattle.outcomes.specs.Refusals.{refusedBy, numberOf, placeOf}
 use Rattle.readings.specs.Readings.{saidReading, reading}
 use Rattle.readings.proofs.ReadingLaws.{not-true, not-false, read-unlocated, read-located}
 use borrow.Author.Needs.{needs}
-use Rattle.readings.proofs.read.Statement.{statement}
-use Rattle.readings.proofs.read.Tie as tie
+use Rattle.located_readings.proofs.read.Statement.{statement}
+use Rattle.located_readings.proofs.read.Tie as tie
 
 locate-requires : tie.Need-locate-requires
 locate-requires c κs = search needs
