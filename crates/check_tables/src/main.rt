@@ -4,12 +4,12 @@ mod order;
 
 use arrays::PLACES;
 use counts::say_counts;
+use directories::SPACE;
+use directories::directory_error;
+use directories::load_directory;
+use directories::tables_in;
 use files::arguments::LONGEST;
 use files::arguments::say_argument;
-use files::directory::SPACE;
-use files::directory::directory_error;
-use files::directory::load_directory;
-use files::directory::tables_in;
 use judged::judge_kept;
 use kept::BYTES;
 use kept::HALVES;

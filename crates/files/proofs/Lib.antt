@@ -1,3 +1,1 @@
-pub mod SpaceLaws
-pub mod LoadLaws
 pub mod PathLaws

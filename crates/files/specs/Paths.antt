@@ -9,7 +9,7 @@ use Rattle.laws.specs.Text.{ascii}
 use Rattle.lines.specs.Columns.{columnsOf, columnsFrom, partOf}
 use Rattle.lines.specs.Names.{nameOf}
 use Rattle.lines.specs.declared.names.Name.{Name}
-use Rattle.words.specs.Headings.{tableName, heading}
+use Rattle.table_names.specs.Headings.{tableName, heading}
 
 -- the bytes of a name
 abbrev pub letters : Name → List ℕ

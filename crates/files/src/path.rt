@@ -1,7 +1,7 @@
 // The path of a table's file.
 use lines::columns::part;
+use table_names::table_name;
 use units::TableNumber;
-use words::names::table_name;
 ghost use mathlib.Core.Path.{_≡_};
 ghost use mathlib.Core.List.{_++_};
 ghost use Prim.Native.Nat.{_+_, _≤_};

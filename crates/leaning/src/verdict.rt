@@ -4,9 +4,9 @@ use crate::places::say_place;
 use crate::places::table_of;
 use arrays::half_at;
 use schemas::Table;
+use table_names::column_name;
 use tables::TABLES;
 use tables::kind_of;
-use words::names::column_name;
 use words::say;
 use words::say::words;
 

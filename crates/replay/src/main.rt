@@ -4,10 +4,10 @@ mod loaded;
 mod options;
 mod say;
 
+use directories::SPACE;
+use directories::load_directory;
+use directories::tables_in;
 use files::arguments::LONGEST;
-use files::directory::SPACE;
-use files::directory::load_directory;
-use files::directory::tables_in;
 use loaded::replay_tables;
 use options::Choice;
 use options::chosen;

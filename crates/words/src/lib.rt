@@ -1,5 +1,4 @@
-// What the programs say: the names of tables and columns, and reasons and refusals in words.
-pub mod names;
+// What the programs say: reasons and refusals in words.
 pub mod reasons;
 pub mod refusals;
 pub mod say;

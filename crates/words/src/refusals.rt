@@ -1,7 +1,7 @@
 // The refusals of a call in words.
-use crate::names::table_name;
 use crate::say;
 use crate::say::words;
+use table_names::table_name;
 use units::TableNumber;
 
 // Those of a call with tables and packets.

@@ -10,7 +10,7 @@ use Rattle.io.specs.Counts.{Counts}
 use borrow.Author.Tests.{le-leb, lt-leb}
 use Rattle.laws.specs.Text.{ascii}
 use Rattle.lines.specs.Columns.{partOf}
-use Rattle.words.specs.Headings.{tableName}
+use Rattle.table_names.specs.Headings.{tableName}
 use Rattle.files.specs.Paths.{pathOf, fileOf, letters, putFirst}
 use Rattle.files.proofs.PathLaws.{put-next, put-length}
 use Rattle.files.proofs.path.table_path.Statement.{statement}
