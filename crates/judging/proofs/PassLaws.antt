@@ -1,9 +1,9 @@
 -- The passes one after the other: what each leaves in its array is what the next one reads.
-use mathlib.Core.Path.{_≡_, ap, _∙_}
+use mathlib.Core.Path.{_≡_, ap, sym, _∙_}
 use mathlib.Core.List.{List}
 use Prim.Native.Nat.{ℕ, _≤_, _<_}
 use native.Mathlib.Omega.{arith}
-use lib.ListN.{getD, replicate, length-replicate}
+use lib.ListN.{length, getD, replicate, length-replicate}
 use lib.Seq.{sets, length-sets}
 use Rattle.laws.specs.Prefix.{flag}
 use Rattle.laws.specs.Values.{tabulate}
@@ -23,6 +23,9 @@ pub filled-at : (fill : ℕ) (f : ℕ → ℕ) (n i d : ℕ) → n ≤ mostPlace
 filled-at fill f n i d few h =
     any-default (filled fill f n) i d 0 (rw (length-sets, length-replicate) (omega arith)) ∙ written-at f (replicate mostPlaces fill) n
     (rw length-replicate few) i h
+
+pub filled-long : (fill : ℕ) (f : ℕ → ℕ) (n : ℕ) (xs : List ℕ) → xs ≡ filled fill f n → mostPlaces ≡ length xs
+filled-long fill f n xs e = sym (ap length e ∙ rw (length-sets, length-replicate))
 
 module _ (kinds base codes1 found1 codes2 found2 next : List ℕ) (n : ℕ) (before : List ℕ) where
   pub chained-law : (clean firm chained : List ℕ)

@@ -1,4 +1,5 @@
 // Reasons 1 to 10 and 12.
+use arrays::PLACES;
 use arrays::byte_at;
 use arrays::half_at;
 use arrays::put_half;
@@ -31,7 +32,13 @@ fn next_of(sound: &[u8], code: u8, found: u16) -> u16
 }
 
 // The next rows of the first n rows.
-pub(crate) fn next_rows(sound: &[u8], codes: &[u8], found: &[u16], next: &mut [u16], n: usize)
+pub(crate) fn next_rows(
+    sound: &[u8],
+    codes: &[u8],
+    found: &[u16],
+    next: &mut [u16; PLACES],
+    n: usize,
+)
     ensures { λ _. ⌜ now (next .exit) ≡ sets (now (next .entry)) 0
         (tabulate (λ i. nextOf (now (sound .entry)) (getD (now (codes .entry)) i 0) (getD (now (found .entry)) i noRow)) 0 n) ⌝ }
 {
@@ -66,8 +73,8 @@ pub(crate) fn base_rows(
     own: &[u16],
     sound: &[u8],
     counts: &[u16],
-    circles: &[u8],
-    base: &mut [u16],
+    circles: &[u8; PLACES],
+    base: &mut [u16; PLACES],
     n: usize,
 )
     ensures { λ _. ⌜ now (base .exit) ≡ sets (now (base .entry)) 0

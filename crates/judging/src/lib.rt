@@ -21,7 +21,14 @@ mod base;
 const LONGEST: usize = PLACES + 1;
 
 // Reasons 1 to 10 and 12 of the first n rows, by the next row of each.
-fn judge_bases(own: &[u16], sound: &[u8], counts: &[u16], next: &[u16], base: &mut [u16], n: usize)
+fn judge_bases(
+    own: &[u16],
+    sound: &[u8],
+    counts: &[u16],
+    next: &[u16; PLACES],
+    base: &mut [u16; PLACES],
+    n: usize,
+)
     ensures { λ _. ⌜ now (base .exit) ≡ sets (now (base .entry)) 0
         (tabulate (λ i. baseOf (getD (now (own .entry)) i 0) (getD (now (sound .entry)) i 0) (getD (now (counts .entry)) i 0)
         (getD (circlesOf (now (next .entry)) n) i 0)) 0 n) ⌝ }
@@ -33,14 +40,14 @@ fn judge_bases(own: &[u16], sound: &[u8], counts: &[u16], next: &[u16], base: &m
 
 // Which of the first n rows are good along VALID chains, by what rows without reasons say of the other names.
 fn chained_rows(
-    kinds: &[u8],
-    base: &[u16],
+    kinds: &[u8; PLACES],
+    base: &[u16; PLACES],
     codes1: &[u8],
     found1: &[u16],
     codes2: &[u8],
     found2: &[u16],
-    next: &[u16],
-    chained: &mut [u8],
+    next: &[u16; PLACES],
+    chained: &mut [u8; PLACES],
     n: usize,
 )
     ensures { λ _. ⌜ now (chained .exit) ≡ sets (now (chained .entry)) 0
@@ -67,14 +74,14 @@ fn chained_rows(
 
 // Which of the first n rows are good, where all that they name is good along chains or names nothing.
 fn good_rows(
-    kinds: &[u8],
-    base: &[u16],
+    kinds: &[u8; PLACES],
+    base: &[u16; PLACES],
     codes1: &[u8],
     found1: &[u16],
     codes2: &[u8],
     found2: &[u16],
-    next: &[u16],
-    good: &mut [u8],
+    next: &[u16; PLACES],
+    good: &mut [u8; PLACES],
     n: usize,
 )
     ensures { λ _. ⌜ now (good .exit) ≡ sets (now (good .entry)) 0
@@ -110,13 +117,13 @@ fn good_rows(
 
 // The verdicts of the first n rows by the reasons before their names, and by their names.
 fn judge_names(
-    kinds: &[u8],
-    base: &[u16],
+    kinds: &[u8; PLACES],
+    base: &[u16; PLACES],
     codes1: &[u8],
     found1: &[u16],
     codes2: &[u8],
     found2: &[u16],
-    next: &[u16],
+    next: &[u16; PLACES],
     cells: &mut [u16],
     n: usize,
 )
@@ -148,7 +155,7 @@ fn judge_kinds(
     found1: &[u16],
     codes2: &[u8],
     found2: &[u16],
-    kinds: &[u8],
+    kinds: &[u8; PLACES],
     cells: &mut [u16],
     n: usize,
 )

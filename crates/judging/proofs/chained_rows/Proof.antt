@@ -25,17 +25,13 @@ slice-aggregate-mark-firm c = search needs
 mark-firm-requires : tie.Need-mark-firm-requires
 mark-firm-requires c κs = search needs
 
-same-length : tie.Need-same-length
-same-length c = search needs
-
 returns : tie.Need-returns
 returns c =
-    let l = c .before .before .before .before .before .before .before .before .before .before in
-    let a = l .before .before .before .before .before .before .before .before .before .before .args in
+    let a = c .before .before .before .before .before .before .before .before .before .before .before .before .before .before .before .before .before .before .before .args in
     chained-law (a .kinds .now) (a .base .now) (a .codes1 .now) (a .found1 .now) (a .codes2 .now) (a .found2 .now) (a .next .now) (a .n) (a .chained .now) _ _ _
-    (l .mark-zeros .ensures)
-    (c .before .before .before .before .before .before .firm-rows .ensures)
-    (c .before .before .mark-firm .ensures)
+    (c .before .before .before .before .before .before .before .before .before .before .before .before .mark-zeros .ensures)
+    (c .before .before .before .before .before .firm-rows .ensures)
+    (c .mark-firm .ensures)
 
 pub chained-rows-spec : {M : Type 1} → statement M
 chained-rows-spec =
@@ -48,5 +44,4 @@ chained-rows-spec =
     firm-rows-requires
     slice-aggregate-mark-firm
     mark-firm-requires
-    same-length
     returns)

@@ -10,21 +10,13 @@ slice-aggregate-mark-circles c = search needs
 mark-circles-requires : tie.Need-mark-circles-requires
 mark-circles-requires c κs = search needs
 
-slice-aggregate-base-rows : tie.Need-slice-aggregate-base-rows
-slice-aggregate-base-rows c = search needs
-
 base-rows-requires : tie.Need-base-rows-requires
 base-rows-requires c κs = search needs
 
-same-length : tie.Need-same-length
-same-length c = search needs
-
 returns : tie.Need-returns
 returns c =
-    let a = c .before .before .before .before .before .before .before .before .before .before .before .before .before .args in
-    bases-law (a .own .now) (a .sound .now) (a .counts .now) (a .next .now) (a .base .now) (a .n) _ _
-    (c .before .before .before .before .before .before .mark-circles .ensures)
-    (c .before .before .base-rows .ensures)
+    let a = c .before .before .before .before .before .before .before .before .before .before .args in
+    bases-law (a .own .now) (a .sound .now) (a .counts .now) (a .next .now) (a .base .now) (a .n) _ _ (c .before .before .before .before .mark-circles .ensures) (c .base-rows .ensures)
 
 pub judge-bases-spec : {M : Type 1} → statement M
 judge-bases-spec =
@@ -32,7 +24,5 @@ judge-bases-spec =
     (tie.spec
     slice-aggregate-mark-circles
     mark-circles-requires
-    slice-aggregate-base-rows
     base-rows-requires
-    same-length
     returns)

@@ -4,26 +4,11 @@ use borrow.Author.Needs.{needs}
 use Rattle.judging.proofs.judge_kinds.Statement.{statement}
 use Rattle.judging.proofs.judge_kinds.Tie as tie
 
-slice-aggregate-next-rows : tie.Need-slice-aggregate-next-rows
-slice-aggregate-next-rows c = search needs
-
 next-rows-requires : tie.Need-next-rows-requires
 next-rows-requires c κs = search needs
 
-slice-aggregate-judge-bases : tie.Need-slice-aggregate-judge-bases
-slice-aggregate-judge-bases c = search needs
-
-slice-aggregate-judge-bases-2 : tie.Need-slice-aggregate-judge-bases-2
-slice-aggregate-judge-bases-2 c = search needs
-
 judge-bases-requires : tie.Need-judge-bases-requires
 judge-bases-requires c κs = search needs
-
-slice-aggregate-judge-names : tie.Need-slice-aggregate-judge-names
-slice-aggregate-judge-names c = search needs
-
-slice-aggregate-judge-names-2 : tie.Need-slice-aggregate-judge-names-2
-slice-aggregate-judge-names-2 c = search needs
 
 judge-names-requires : tie.Need-judge-names-requires
 judge-names-requires c κs = search needs
@@ -33,25 +18,19 @@ same-length c = search needs
 
 returns : tie.Need-returns
 returns c =
-    let l = c .before .before .before .before .before .before .before .before .before .before .before in
-    let a = l .before .before .before .before .before .before .before .before .before .before .before .args in
+    let a = c .before .before .before .before .before .before .before .before .before .before .before .before .before .before .before .before .before .before .before .args in
     rows-law (a .own .now) (a .sound .now) (a .counts .now) (a .codes1 .now) (a .found1 .now) (a .codes2 .now) (a .found2 .now) (a .n)
     (a .kinds .now) (a .cells .now) _ _ _
-    (l .next-rows .ensures)
-    (c .before .before .before .before .before .before .before .judge-bases .ensures)
+    (c .before .before .before .before .before .before .before .before .before .next-rows .ensures)
+    (c .before .before .before .before .before .before .judge-bases .ensures)
     (c .before .before .judge-names .ensures)
 
 pub judge-kinds-spec : {M : Type 1} → statement M
 judge-kinds-spec =
     tie.close
     (tie.spec
-    slice-aggregate-next-rows
     next-rows-requires
-    slice-aggregate-judge-bases
-    slice-aggregate-judge-bases-2
     judge-bases-requires
-    slice-aggregate-judge-names
-    slice-aggregate-judge-names-2
     judge-names-requires
     same-length
     returns)

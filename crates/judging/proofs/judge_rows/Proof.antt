@@ -10,9 +10,6 @@ slice-aggregate-kind-rows c = search needs
 kind-rows-requires : tie.Need-kind-rows-requires
 kind-rows-requires c κs = search needs
 
-slice-aggregate-judge-kinds : tie.Need-slice-aggregate-judge-kinds
-slice-aggregate-judge-kinds c = search needs
-
 judge-kinds-requires : tie.Need-judge-kinds-requires
 judge-kinds-requires c κs = search needs
 
@@ -33,7 +30,6 @@ judge-rows-spec =
     (tie.spec
     slice-aggregate-kind-rows
     kind-rows-requires
-    slice-aggregate-judge-kinds
     judge-kinds-requires
     same-length
     returns)

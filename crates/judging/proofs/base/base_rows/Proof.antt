@@ -42,13 +42,17 @@ loop-less c = omega arith
 
 loop-again : tie.Need-loop-again Inv-loop μ-loop
 loop-again c =
-    let made = c .before .before .before .before in
-    let l = made .before .before .before .before .before in
-    write-put _ _ _ _ _ (l .before .loop .inv) _ _ (l .loop-test .taken) (c .before .before .put-half .ensures)
-    (rw (made .base-of .ensures, made .before .byte-at2 .ensures, made .before .before .half-at2 .ensures, made .before .before .before .byte-at .ensures, made .before .before .before .before .half-at .ensures))
-
-same-length : tie.Need-same-length Inv-loop μ-loop
-same-length c = c .before .loop .inv .size
+    let made = c .before .before in
+    let reads = made .before .before .before in
+    let l = reads .before .before .before in
+    write-put _ _ _ _ _ (l .before .loop .inv) _ _ (l .loop-test .taken) (c .put-half .ensures)
+    (rw (
+      made .base-of .ensures,
+      made .before .byte-at2 .ensures,
+      reads .half-at2 .ensures,
+      reads .before .byte-at .ensures,
+      reads .before .before .half-at .ensures,
+    ))
 
 returns : tie.Need-returns Inv-loop μ-loop
 returns c = write-end _ _ _ _ _ (c .before .loop .inv) (c .loop-test .left)
@@ -69,5 +73,4 @@ base-rows-spec =
     add-i
     loop-less
     loop-again
-    same-length
     returns)

@@ -37,13 +37,10 @@ loop-less c = omega arith
 
 loop-again : tie.Need-loop-again Inv-loop μ-loop
 loop-again c =
-    let made = c .before .before .before .before in
+    let made = c .before .before in
     let l = made .before .before .before in
-    write-put _ _ _ _ _ (l .before .loop .inv) _ _ (l .loop-test .taken) (c .before .before .put-half .ensures)
+    write-put _ _ _ _ _ (l .before .loop .inv) _ _ (l .loop-test .taken) (c .put-half .ensures)
     (rw (made .next-of .ensures, made .before .row-at .ensures, made .before .before .byte-at .ensures))
-
-same-length : tie.Need-same-length Inv-loop μ-loop
-same-length c = c .before .loop .inv .size
 
 returns : tie.Need-returns Inv-loop μ-loop
 returns c = write-end _ _ _ _ _ (c .before .loop .inv) (c .loop-test .left)
@@ -62,5 +59,4 @@ next-rows-spec =
     add-i
     loop-less
     loop-again
-    same-length
     returns)
