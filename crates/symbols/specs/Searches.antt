@@ -50,10 +50,10 @@ other = record { space = 0; a = 1022; b = 0; c = 0 }
 
 pub record Examples : Type 0 where
   -- bucket 1 leads to symbol 1, the second in these words
-  pub second : found (0 ∷ 1022 ∷ 0 ∷ 0 ∷ 0 ∷ 1 ∷ 0 ∷ 0 ∷ []) (0 ∷ 2 ∷ []) one ≡ 1
+  pub second : follow (0 ∷ 1022 ∷ 0 ∷ 0 ∷ 0 ∷ 1 ∷ 0 ∷ 0 ∷ []) (0 ∷ 2 ∷ []) one 2 one (bucketOf one) ≡ record { at = 2; place = 1 }
   -- from which link 16,386 leads nowhere
-  pub none : followed (0 ∷ 1022 ∷ 0 ∷ 0 ∷ 0 ∷ 1 ∷ 0 ∷ 0 ∷ []) (0 ∷ 2 ∷ []) other ≡ record { at = 0; place = 16386 }
+  pub none : follow (0 ∷ 1022 ∷ 0 ∷ 0 ∷ 0 ∷ 1 ∷ 0 ∷ 0 ∷ []) (0 ∷ 2 ∷ []) other 2 other (bucketOf other) ≡ record { at = 0; place = 16386 }
 
 pub examples : Examples
-unfolding found followed follow turned sameSymbol symbolAt bucketOf
+unfolding follow turned sameSymbol symbolAt bucketOf
 examples = record { second = refl; none = refl }
