@@ -1,4 +1,4 @@
--- The columns of the ten tables, as 01 prints them under "Columns".
+-- The columns of the tables, as 01 prints them under "Columns".
 use Prim.Native.Nat.{ℕ}
 use mathlib.Core.List.{List, [], _∷_}
 use lib.IntN.{ℤ, pos, negℤ}

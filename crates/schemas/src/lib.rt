@@ -1,4 +1,4 @@
-// The columns of the ten tables, and reasons 1 to 7 of a row's verdict.
+// The columns of the tables, and reasons 1 to 7 of a row's verdict.
 pub mod by_table;
 mod column;
 mod letters;
