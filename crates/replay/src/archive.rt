@@ -1,11 +1,14 @@
 // The packets of a file.
 use crate::say::say_end;
+use database::COLUMNS;
 use files::source::short;
 use replaying::Standing;
 use replaying::at_start;
 use replaying::take_blocks;
 use showing::say::say_unread;
 use showing::stretches::Showing;
+use symbols::LINKS;
+use symbols::WORDS;
 use tables::TABLES;
 ghost use mathlib.Core.List.{map};
 ghost use Rattle.database.specs.Arrays.{database, answers};
@@ -14,9 +17,9 @@ ghost use Rattle.replaying.specs.Replayed.{Replayed};
 // From a fresh state to the file's end, which is said; of a file that can't be opened nothing is read, which is said too.
 pub(crate) fn replay_archive(
     tables: [&[u8]; TABLES],
-    words: &[u64],
-    links: &[u16],
-    columns: &[u16],
+    words: &[u64; WORDS],
+    links: &[u16; LINKS],
+    columns: &[u16; COLUMNS],
     name: &[u8],
     file: &[u8],
     showing: Showing,
