@@ -13,20 +13,20 @@ use Rattle.scripts.specs.declared.operands.Natural.the-variants as natural
 use Rattle.scripts.specs.Numerals.{naturalIn, atMost}
 use Rattle.scripts.specs.Words.{upto, settingOf}
 use Rattle.answers.specs.declared.compare.Verdict.the-variants.{Unread}
-use Rattle.cell_questions.specs.CellReplies.{blankCells, importVerdict, importLent, importReply, rowVerdict, onlyTable, rowReply}
+use Rattle.cell_questions.specs.CellReplies.{blankCells, importVerdict, importLent, importIn, rowVerdict, onlyTable, rowReply}
 
-module _ (texts : List (List ℕ)) (text line : List ℕ) where
-  pub import-whole : length text ≡ 0 → importVerdict texts blankCells line ≡ importReply texts text line
-  unfolding importReply
+module _ (texts : List (List ℕ)) (cells text line : List ℕ) where
+  pub import-whole : length text ≡ 0 → importVerdict texts cells line ≡ importIn texts cells text line
+  unfolding importIn
   import-whole h = rw (eq-eqb (length text) 0 h)
 
   pub import-lent : (room : ℕ) → (length text ≡ 0 → ⊥) → atMost mostCells (naturalIn text) ≡ natural.Is room
-      → importVerdict texts (take room blankCells) line ≡ importReply texts text line
-  unfolding importReply importLent
+      → importVerdict texts (take room cells) line ≡ importIn texts cells text line
+  unfolding importIn importLent
   import-lent room h e = rw (ne-eqb (length text) 0 h, e)
 
-  pub import-unread : (length text ≡ 0 → ⊥) → atMost mostCells (naturalIn text) ≡ natural.Unread → Unread ≡ importReply texts text line
-  unfolding importReply importLent
+  pub import-unread : (length text ≡ 0 → ⊥) → atMost mostCells (naturalIn text) ≡ natural.Unread → Unread ≡ importIn texts cells text line
+  unfolding importIn importLent
   import-unread h e = rw (ne-eqb (length text) 0 h, e)
 
 -- A table's only row

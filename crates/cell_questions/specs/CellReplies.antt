@@ -27,12 +27,17 @@ unfoldable pub importVerdict : List (List ℕ) → (cells line : List ℕ) → V
 importVerdict texts cells line =
     verdictOf (importedAnswer (importOf texts (length cells))) (getD texts 7 []) (cellsAfter texts cells (importOf texts (length cells))) line
 
-unfoldable pub importLent : List (List ℕ) → (line : List ℕ) → Natural → Verdict
-importLent texts line (natural.Is room) = importVerdict texts (take room blankCells) line
-importLent texts line natural.Unread = Unread
+unfoldable pub importLent : List (List ℕ) → (cells line : List ℕ) → Natural → Verdict
+importLent texts cells line (natural.Is room) = importVerdict texts (take room cells) line
+importLent texts cells line natural.Unread = Unread
+
+-- into as many cells as the text says, or into all
+unfoldable pub importIn : List (List ℕ) → (cells text line : List ℕ) → Verdict
+importIn texts cells text line =
+    cond (eqb (length text) 0) (importVerdict texts cells line) (importLent texts cells line (atMost mostCells (naturalIn text)))
 
 unfoldable pub importReply : List (List ℕ) → (text line : List ℕ) → Verdict
-importReply texts text line = cond (eqb (length text) 0) (importVerdict texts blankCells line) (importLent texts line (atMost mostCells (naturalIn text)))
+importReply texts text line = importIn texts blankCells text line
 
 -- the cell of a table's only row, all other tables being empty
 unfoldable pub rowVerdict : List (List ℕ) → (cells line : List ℕ) → Verdict
@@ -58,5 +63,5 @@ pub record Examples (line : List ℕ) : Type 0 where
   pub pic : take 3 (onlyTable 1 (ascii "A")) ≡ [] ∷ ascii "A" ∷ [] ∷ []
 
 pub examples : (line : List ℕ) → Examples line
-unfolding importReply importLent onlyTable atMost naturalIn naturalOf numberOf answerOf meaning spelt after digitOn digitOf
+unfolding importReply importIn importLent onlyTable atMost naturalIn naturalOf numberOf answerOf meaning spelt after digitOn digitOf
 examples line = record { no-cells = refl; pic = refl }

@@ -17,7 +17,7 @@ ghost use mathlib.Core.Path.{_≡_};
 ghost use mathlib.Core.List.{map};
 ghost use Prim.Native.Nat.{_≤_};
 ghost use lib.ListN.{length, take};
-ghost use Rattle.cell_questions.specs.CellReplies.{importVerdict, importReply, rowVerdict, rowReply};
+ghost use Rattle.cell_questions.specs.CellReplies.{importVerdict, importIn, importReply, rowVerdict, rowReply};
 
 fn import_into(
     name: &[u8],
@@ -48,17 +48,16 @@ fn import_part(
 }
 
 // How many cells are lent may be said.
-pub fn judge_import(
+fn import_lent(
     name: &[u8],
     number: usize,
     tables: [&[u8]; TABLES],
     text: &[u8],
     line: &[u8],
+    cells: &mut [u16; MOST_CELLS],
 ) -> Verdict
-    ensures { λ r. ⌜ r ≡ importReply (map now (tables .entry)) (now (text .entry)) (now (line .entry)) ⌝ }
+    ensures { λ r. ⌜ r ≡ importIn (map now (tables .entry)) (now (cells .entry)) (now (text .entry)) (now (line .entry)) ⌝ }
 {
-    let mut memory = [65535u16; MOST_CELLS];
-    let cells: &mut [u16] = &mut memory;
     if text.len() == 0 {
         return import_into(name, number, tables, line, cells);
     }
@@ -68,12 +67,25 @@ pub fn judge_import(
     }
 }
 
+pub fn judge_import(
+    name: &[u8],
+    number: usize,
+    tables: [&[u8]; TABLES],
+    text: &[u8],
+    line: &[u8],
+) -> Verdict
+    ensures { λ r. ⌜ r ≡ importReply (map now (tables .entry)) (now (text .entry)) (now (line .entry)) ⌝ }
+{
+    let mut cells = [65535u16; MOST_CELLS];
+    import_lent(name, number, tables, text, line, &mut cells)
+}
+
 fn row_into(
     name: &[u8],
     number: usize,
     tables: [&[u8]; TABLES],
     line: &[u8],
-    cells: &mut [u16],
+    cells: &mut [u16; MOST_CELLS],
 ) -> Verdict
     ensures { λ r. ⌜ r ≡ rowVerdict (map now (tables .entry)) (now (cells .entry)) (now (line .entry)) ⌝ }
 {
@@ -97,6 +109,6 @@ pub fn judge_row(name: &[u8], number: usize, text: &[u8], line: &[u8]) -> Verdic
     let none = part(text, 0, 0);
     let mut tables = [none; TABLES];
     tables[t] = part(text, tab + 1, text.len());
-    let mut memory = [65535u16; MOST_CELLS];
-    row_into(name, number, tables, line, &mut memory)
+    let mut cells = [65535u16; MOST_CELLS];
+    row_into(name, number, tables, line, &mut cells)
 }

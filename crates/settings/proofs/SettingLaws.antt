@@ -1,9 +1,10 @@
 -- Laws of the lines that set something, one for each case.
 use mathlib.Core.Path.{_≡_, sym, ap, _∙_}
 use mathlib.Core.Bool.{Bool, true, false}
-use mathlib.Core.List.{List, []}
+use mathlib.Core.List.{List, [], _∷_, _++_}
 use mathlib.Core.Option.{Option, some, none}
 use Prim.Native.Nat.{ℕ, _<_, _≤_}
+use native.Mathlib.Omega.{arith}
 use lib.Dec.{eqb, ltb}
 use lib.ListN.{length, getD}
 use borrow.Author.Tests.{eq-eqb, ne-eqb, lt-ltb, le-ltb}
@@ -12,21 +13,28 @@ use Rattle.lines.specs.Columns.{columnsOf, columnAt}
 use Rattle.limit_state.specs.declared.state.LimitState.{LimitState}
 use Rattle.scripts.specs.declared.operands.Natural.{Natural}
 use Rattle.scripts.specs.declared.operands.Natural.the-variants as natural
-use Rattle.scripts.specs.Escapes.{byteOf}
+use Rattle.scripts.specs.Escapes.{byteOf, within, rowBytes, hexBytes, unescaped}
 use Rattle.scripts.specs.Words.{settingOf}
 use Rattle.scripts.specs.Numerals.{naturalIn, atMost}
 use Rattle.areas.specs.Memory.{Memory, Kept, added, cleared, allCleared, packetArea, areaCount}
 use Rattle.areas.specs.Memory.{unread}
-use Rattle.settings.specs.Settings.{byBytes, byteIn, runBytes, addRun, addFill, clearNamed, packetMore, filling, clearing}
-use Rattle.settings.specs.Settings.{setArea, setPacket, addPacket, fill, addRow, stateIn, setState}
+use Rattle.settings.specs.declared.SetLine.{SetLine}
+use Rattle.settings.specs.Settings.{settingBytes, byteIn, runBytes, addRun, addFill, clearNamed, packetMore, filling, clearing}
+use Rattle.settings.specs.Settings.{setArea, stateSetting, stateIn, settled, stateSet, memorySet, setText, setBytes, setLine}
 
-pub by-some : (m : Memory) (f : List ℕ → Kept) (o : Option (List ℕ)) (w : List ℕ) → o ≡ some w → f w ≡ byBytes m f o
-unfolding byBytes
-by-some m f o w e = rw e
+-- the bytes of a line, as they are read into a buffer of this length
+module _ (room k : ℕ) (raw : List ℕ) {o : Option (List ℕ)} where
+  pub bytes-row : o ≡ within room (raw ++ 10 ∷ []) (rowBytes raw) → room ≡ 65537 → k < packetArea → o ≡ settingBytes k raw
+  unfolding settingBytes
+  bytes-row p e h = rw (lt-ltb k packetArea h) (rw e at p)
 
-pub by-none : (m : Memory) (f : List ℕ → Kept) (o : Option (List ℕ)) → o ≡ none → unread m ≡ byBytes m f o
-unfolding byBytes
-by-none m f o e = rw e
+  pub bytes-digits : o ≡ within room raw (hexBytes raw) → room ≡ 65537 → packetArea ≤ k → k < filling → o ≡ settingBytes k raw
+  unfolding settingBytes
+  bytes-digits p e h l = rw (le-ltb k packetArea h, lt-ltb k filling l) (rw e at p)
+
+  pub bytes-text : o ≡ within room raw (unescaped raw) → room ≡ 65537 → filling ≤ k → o ≡ settingBytes k raw
+  unfolding settingBytes
+  bytes-text p e h = let l : packetArea ≤ k = omega arith in rw (le-ltb k packetArea l, le-ltb k filling h) (rw e at p)
 
 pub byte-two : (text : List ℕ) → length text ≡ 2 → byteOf (getD text 0 0) (getD text 1 0) ≡ byteIn text
 unfolding byteIn
@@ -73,34 +81,48 @@ module _ (m : Memory) (name : List ℕ) where
   unfolding clearNamed
   clear-none h l = rw (ne-eqb (length name) 0 h, le-ltb (settingOf name) areaCount l)
 
-module _ (k : ℕ) (m : Memory) (raw : List ℕ) where
-  pub area-packet : k ≡ packetArea → setPacket m raw ≡ setArea k m raw
+module _ (k : ℕ) (m : Memory) (bytes : List ℕ) where
+  pub area-packet : k ≡ packetArea
+      → added (record { space = m .space; ends = cleared (m .ends) packetArea }) packetArea bytes ≡ setArea k m bytes
   unfolding setArea
   area-packet e = rw e
 
-  pub area-more : k ≡ packetMore → addPacket m raw ≡ setArea k m raw
+  pub area-more : k ≡ packetMore → added m packetArea bytes ≡ setArea k m bytes
   unfolding setArea
   area-more e = rw e
 
-  pub area-fill : k ≡ filling → fill m raw ≡ setArea k m raw
+  pub area-fill : k ≡ filling → addFill m bytes ≡ setArea k m bytes
   unfolding setArea
   area-fill e = rw e
 
-  pub area-clear : k ≡ clearing → clearNamed m raw ≡ setArea k m raw
+  pub area-row : (k ≡ packetArea → ⊥) → (k ≡ packetMore → ⊥) → (k ≡ filling → ⊥) → added m k bytes ≡ setArea k m bytes
   unfolding setArea
-  area-clear e = rw e
+  area-row a b c = rw (ne-eqb k packetArea a, ne-eqb k packetMore b, ne-eqb k filling c)
 
-  pub area-row : (k ≡ packetArea → ⊥) → (k ≡ packetMore → ⊥) → (k ≡ filling → ⊥) → (k ≡ clearing → ⊥) → addRow m k raw ≡ setArea k m raw
-  unfolding setArea
-  area-row a b c d = rw (ne-eqb k packetArea a, ne-eqb k packetMore b, ne-eqb k filling c, ne-eqb k clearing d)
+module _ (k : ℕ) (m : Memory) (s : LimitState) where
+  pub text-state : (text : List ℕ) {l : SetLine} → k ≡ stateSetting → l ≡ stateIn s text → stateSet m l ≡ setText k m s text
+  unfolding setText
+  text-state text e p = rw (eq-eqb k stateSetting e, p)
 
-pub state-some : (s : LimitState) (o : Option (List ℕ)) (w : List ℕ) → o ≡ some w → stateIn s w ≡ setState s o
-unfolding setState
-state-some s o w e = rw e
+  pub text-memory : (text : List ℕ) {n : Kept} → (k ≡ stateSetting → ⊥) → n ≡ setArea k m text → memorySet s n ≡ setText k m s text
+  unfolding setText
+  text-memory text e p = rw (ne-eqb k stateSetting e, p)
 
-pub state-none : (s : LimitState) (o : Option (List ℕ)) → o ≡ none → record { readable = false; state = s } ≡ setState s o
-unfolding setState
-state-none s o e = rw e
+  pub bytes-some : (o : Option (List ℕ)) (w : List ℕ) → o ≡ some w → setText k m s w ≡ setBytes k m s o
+  unfolding setBytes
+  bytes-some o w e = rw e
+
+  pub bytes-none : (o : Option (List ℕ)) → o ≡ none → settled false (m .space) (m .ends) s ≡ setBytes k m s o
+  unfolding setBytes
+  bytes-none o e = rw e
+
+  pub line-clear : (raw : List ℕ) {n : Kept} → k ≡ clearing → n ≡ clearNamed m raw → memorySet s n ≡ setLine k m s raw
+  unfolding setLine
+  line-clear raw e p = rw (eq-eqb k clearing e, p)
+
+  pub line-read : (raw : List ℕ) → (k ≡ clearing → ⊥) → setBytes k m s (settingBytes k raw) ≡ setLine k m s raw
+  unfolding setLine
+  line-read raw e = rw (ne-eqb k clearing e)
 
 -- clearing leaves the space as it is
 pub clear-any : (space ends ends′ name : List ℕ) (r : Bool)

@@ -1,7 +1,7 @@
 -- The lines that set tables, the packet and the limit state.
 use Prim.Native.Nat.{ℕ, _+_}
 use mathlib.Core.Path.{_≡_, refl}
-use mathlib.Core.Bool.{true, false, cond}
+use mathlib.Core.Bool.{Bool, true, false, cond}
 use mathlib.Core.List.{List, [], _∷_, _++_}
 use mathlib.Core.Option.{Option, some, none}
 use lib.Dec.{eqb, ltb}
@@ -19,31 +19,28 @@ use Rattle.scripts.specs.Numerals.{naturalIn, naturalOf, atMost}
 use Rattle.areas.specs.Memory.{Memory, Kept, memory, kept, added, cleared, allCleared, packetArea, areaCount}
 use Rattle.areas.specs.Memory.{unread}
 
--- a part of a line has room in a buffer of 65,537 bytes, a row's line feed too
-unfoldable pub textBytes : List ℕ → Option (List ℕ)
-textBytes raw = within 65537 raw (unescaped raw)
+-- the places of the words that follow `packet` in the list of settings
+abbrev pub packetMore : ℕ
+packetMore = packetArea + 1
 
-unfoldable pub packetBytes : List ℕ → Option (List ℕ)
-packetBytes raw = within 65537 raw (hexBytes raw)
+abbrev pub filling : ℕ
+filling = packetArea + 2
 
-unfoldable pub lineBytes : List ℕ → Option (List ℕ)
-lineBytes raw = within 65537 (raw ++ 10 ∷ []) (rowBytes raw)
+abbrev pub clearing : ℕ
+clearing = packetArea + 3
 
--- what can be read of a part of a line is handled; else the line can't be read
-unfoldable pub byBytes : Memory → (List ℕ → Kept) → Option (List ℕ) → Kept
-byBytes m takes none = unread m
-byBytes m takes (some bytes) = takes bytes
+abbrev pub stateSetting : ℕ
+stateSetting = packetArea + 4
 
--- `TABLE ROW`
-unfoldable pub addRow : Memory → ℕ → List ℕ → Kept
-addRow m t raw = byBytes m (added m t) (lineBytes raw)
+-- and how many words there are
+abbrev pub settingCount : ℕ
+settingCount = packetArea + 5
 
--- `packet HEX` and `packet+ HEX`
-unfoldable pub setPacket : Memory → List ℕ → Kept
-setPacket m raw = byBytes m (added (record { space = m .space; ends = cleared (m .ends) packetArea }) packetArea) (packetBytes raw)
-
-unfoldable pub addPacket : Memory → List ℕ → Kept
-addPacket m raw = byBytes m (added m packetArea) (packetBytes raw)
+-- the bytes of a line: a table's row, the digits of a packet, or a text, as far as a buffer of 65,537 bytes holds them
+unfoldable pub settingBytes : ℕ → List ℕ → Option (List ℕ)
+settingBytes k raw =
+    cond (ltb k packetArea) (within 65537 (raw ++ 10 ∷ []) (rowBytes raw))
+    (cond (ltb k filling) (within 65537 raw (hexBytes raw)) (within 65537 raw (unescaped raw)))
 
 -- the byte of two digits; 256 is none
 unfoldable pub byteIn : List ℕ → ℕ
@@ -66,40 +63,18 @@ addFill m text =
     (atMost 65537 (naturalIn (columnAt (columnsOf text) 1)))))
     (unread m)
 
-unfoldable pub fill : Memory → List ℕ → Kept
-fill m raw = byBytes m (addFill m) (textBytes raw)
-
 -- `clear`, and `clear PLACE`
 unfoldable pub clearNamed : Memory → List ℕ → Kept
 clearNamed m name =
     cond (eqb (length name) 0) (record { readable = true; space = m .space; ends = allCleared (m .ends) })
     (cond (ltb (settingOf name) areaCount) (record { readable = true; space = m .space; ends = cleared (m .ends) (settingOf name) }) (unread m))
 
--- the places of the words that follow `packet` in the list of settings
-abbrev pub packetMore : ℕ
-packetMore = packetArea + 1
-
-abbrev pub filling : ℕ
-filling = packetArea + 2
-
-abbrev pub clearing : ℕ
-clearing = packetArea + 3
-
-abbrev pub stateSetting : ℕ
-stateSetting = packetArea + 4
-
--- and how many words there are
-abbrev pub settingCount : ℕ
-settingCount = packetArea + 5
-
--- the memory after a line, by its word's place in the list of settings
+-- the memory after the bytes of a line: `packet HEX` and `packet+ HEX`, `fill`, or `TABLE ROW`
 unfoldable pub setArea : ℕ → Memory → List ℕ → Kept
-setArea k m raw =
-    cond (eqb k packetArea) (setPacket m raw)
-    (cond (eqb k packetMore) (addPacket m raw)
-    (cond (eqb k filling) (fill m raw)
-    (cond (eqb k clearing) (clearNamed m raw)
-    (addRow m k raw))))
+setArea k m bytes =
+    cond (eqb k packetArea) (added (memory (m .space) (cleared (m .ends) packetArea)) packetArea bytes)
+    (cond (eqb k packetMore) (added m packetArea bytes)
+    (cond (eqb k filling) (addFill m bytes) (added m k bytes)))
 
 -- FRESH|APID|COUNT|RUN|ANNOUNCED
 unfoldable pub stateOf : LimitState → Natural → Natural → Natural → Natural → Natural → SetLine
@@ -119,17 +94,42 @@ stateIn s text =
     (atMost 255 (naturalIn (columnAt (columnsOf text) 3))) (atMost 255 (naturalIn (columnAt (columnsOf text) 4))))
     (record { readable = false; state = s })
 
-unfoldable pub setState : LimitState → Option (List ℕ) → SetLine
-setState s none = record { readable = false; state = s }
-setState s (some text) = stateIn s text
+-- whether a line could be read, and the memory and the limit state after it
+pub record Settled : Type 0 where
+  pub readable : Bool
+  pub space : List ℕ
+  pub ends : List ℕ
+  pub state : LimitState
+
+abbrev pub settled : Bool → (space ends : List ℕ) → LimitState → Settled
+settled readable space ends state = record { readable = readable; space = space; ends = ends; state = state }
+
+-- a line sets the limit state, or the memory
+abbrev pub stateSet : Memory → SetLine → Settled
+stateSet m l = settled (l .readable) (m .space) (m .ends) (l .state)
+
+abbrev pub memorySet : LimitState → Kept → Settled
+memorySet s m = settled (m .readable) (m .space) (m .ends) s
+
+unfoldable pub setText : ℕ → Memory → LimitState → List ℕ → Settled
+setText k m s text = cond (eqb k stateSetting) (stateSet m (stateIn s text)) (memorySet s (setArea k m text))
+
+-- a line whose bytes can't be read sets nothing
+unfoldable pub setBytes : ℕ → Memory → LimitState → Option (List ℕ) → Settled
+setBytes k m s none = settled false (m .space) (m .ends) s
+setBytes k m s (some text) = setText k m s text
+
+-- what a line sets, by its word's place in the list of settings; `clear` names its area without escapes
+unfoldable pub setLine : ℕ → Memory → LimitState → List ℕ → Settled
+setLine k m s raw = cond (eqb k clearing) (memorySet s (clearNamed m raw)) (setBytes k m s (settingBytes k raw))
 
 pub record Examples (s : LimitState) : Type 0 where
-  pub no-packet : setArea packetArea (memory [] (1 ∷ 70000 ∷ [])) (ascii "080") ≡ kept false [] (1 ∷ 70000 ∷ [])
-  pub state : setState s (textBytes (ascii "0|10|9|2|1"))
-      ≡ record { readable = true; state = record { fresh = false; apid = 10; count = 9; run = 2; announced = 1 } }
+  pub no-packet : setLine packetArea (memory [] (1 ∷ 70000 ∷ [])) s (ascii "080") ≡ settled false [] (1 ∷ 70000 ∷ []) s
+  pub state : setLine stateSetting (memory [] []) s (ascii "0|10|9|2|1")
+      ≡ settled true [] [] (record { fresh = false; apid = 10; count = 9; run = 2; announced = 1 })
 
 pub examples : (s : LimitState) → Examples s
 unfolding
-    setArea setPacket packetBytes byBytes hexBytes unread setState stateIn stateOf textBytes within unescaped before beforeByte plain byteOf
+    setLine setBytes setText settingBytes hexBytes stateIn stateOf within unescaped before beforeByte plain byteOf
     columnsOf columnsFrom atMost naturalIn naturalOf numberOf answerOf meaning spelt after digitOn digitOf
 examples s = record { no-packet = refl; state = refl }

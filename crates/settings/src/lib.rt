@@ -20,10 +20,10 @@ use scripts::verb::setting_of;
 ghost use mathlib.Core.Path.{_≡_};
 ghost use mathlib.Core.List.{[]};
 ghost use Prim.Native.Nat.{_≤_};
+ghost use Rattle.lines.specs.Columns.{partOf};
+ghost use Rattle.scripts.specs.Escapes.{readIn};
 ghost use Rattle.areas.specs.Memory.{memory, kept, added};
-ghost use Rattle.settings.specs.Settings.{textBytes, addRow, setPacket, addPacket, byteIn, runBytes, addFill, clearNamed, setArea};
-ghost use Rattle.settings.specs.Settings.{stateIn, setState};
-ghost use Rattle.settings.specs.Settings.{fill as fillWith};
+ghost use Rattle.settings.specs.Settings.{settingBytes, byteIn, addFill, clearNamed, setArea, stateIn, settled, setText, setBytes, setLine};
 
 // The places of the words that follow `packet` in the list of settings, and how many words there are.
 const PACKET_MORE: usize = PACKET + 1;
@@ -32,7 +32,7 @@ const FILL: usize = PACKET + 2;
 
 const CLEAR: usize = PACKET + 3;
 
-pub const STATE: usize = PACKET + 4;
+const STATE: usize = PACKET + 4;
 
 pub const SETTINGS: usize = PACKET + 5;
 
@@ -40,42 +40,6 @@ pub const SETTINGS: usize = PACKET + 5;
 pub struct SetLine {
     pub readable: bool,
     pub state: LimitState,
-}
-
-fn add_row(space: &mut [u8], ends: &mut [usize], t: usize, raw: &[u8]) -> bool
-    ensures { λ r. ⌜ kept r (now (space .exit)) (now (ends .exit)) ≡ addRow (memory (now (space .entry)) (now (ends .entry))) t (now (raw .entry)) ⌝ }
-{
-    let mut memory = [0u8; ROOM];
-    let out: &mut [u8] = &mut memory;
-    match unescape_row(raw, out) {
-        Bytes::Are(n) => append(space, ends, t, part(out, 0, n)),
-        Bytes::Unread => false,
-    }
-}
-
-fn add_packet(space: &mut [u8], ends: &mut [usize], raw: &[u8]) -> bool
-    ensures { λ r. ⌜ kept r (now (space .exit)) (now (ends .exit)) ≡ addPacket (memory (now (space .entry)) (now (ends .entry))) (now (raw .entry)) ⌝ }
-{
-    let mut memory = [0u8; ROOM];
-    let out: &mut [u8] = &mut memory;
-    match read_hex(raw, out) {
-        Bytes::Are(n) => append(space, ends, PACKET, part(out, 0, n)),
-        Bytes::Unread => false,
-    }
-}
-
-fn set_packet(space: &mut [u8], ends: &mut [usize], raw: &[u8]) -> bool
-    ensures { λ r. ⌜ kept r (now (space .exit)) (now (ends .exit)) ≡ setPacket (memory (now (space .entry)) (now (ends .entry))) (now (raw .entry)) ⌝ }
-{
-    let mut memory = [0u8; ROOM];
-    let out: &mut [u8] = &mut memory;
-    match read_hex(raw, out) {
-        Bytes::Are(n) => {
-            clear(ends, PACKET);
-            append(space, ends, PACKET, part(out, 0, n))
-        }
-        Bytes::Unread => false,
-    }
 }
 
 // The byte that a text of two digits is, or 256.
@@ -88,12 +52,12 @@ fn byte_in(text: &[u8]) -> usize
     256
 }
 
-// Adds a byte so many times.
-fn add_run(space: &mut [u8], ends: &mut [usize], t: usize, byte: u8, count: usize) -> bool
-    ensures { λ r. ⌜ kept r (now (space .exit)) (now (ends .exit)) ≡ added (memory (now (space .entry)) (now (ends .entry))) t (runBytes byte count) ⌝ }
+// Adds the first bytes of a run.
+fn add_run(space: &mut [u8], ends: &mut [usize], t: usize, run: &[u8; ROOM], count: usize) -> bool
+    ensures { λ r. ⌜ kept r (now (space .exit)) (now (ends .exit))
+        ≡ added (memory (now (space .entry)) (now (ends .entry))) t (partOf (now (run .entry)) 0 count) ⌝ }
 {
-    let run = [byte; ROOM];
-    append(space, ends, t, part(&run, 0, count))
+    append(space, ends, t, part(run, 0, count))
 }
 
 // PLACE|COUNT|BYTE
@@ -109,19 +73,11 @@ fn add_fill(space: &mut [u8], ends: &mut [usize], text: &[u8]) -> bool
         return false;
     }
     match natural_at(65537, text, 1) {
-        Natural::Is(count) => add_run(space, ends, t, byte as u8, count as usize),
+        Natural::Is(count) => {
+            let run = [byte as u8; ROOM];
+            add_run(space, ends, t, &run, count as usize)
+        }
         Natural::Unread => false,
-    }
-}
-
-fn fill(space: &mut [u8], ends: &mut [usize], raw: &[u8]) -> bool
-    ensures { λ r. ⌜ kept r (now (space .exit)) (now (ends .exit)) ≡ fillWith (memory (now (space .entry)) (now (ends .entry))) (now (raw .entry)) ⌝ }
-{
-    let mut memory = [0u8; ROOM];
-    let out: &mut [u8] = &mut memory;
-    match unescape(raw, out) {
-        Bytes::Are(n) => add_fill(space, ends, part(out, 0, n)),
-        Bytes::Unread => false,
     }
 }
 
@@ -179,13 +135,68 @@ fn state_in(text: &[u8], state: LimitState) -> SetLine
     }
 }
 
-pub fn set_state(raw: &[u8], state: LimitState) -> SetLine
-    ensures { λ r. ⌜ r ≡ setState state (textBytes (now (raw .entry))) ⌝ }
+// The bytes of a line: a table's row, the digits of a packet, or a text.
+fn setting_bytes(k: usize, raw: &[u8], out: &mut [u8; ROOM]) -> Bytes
+    ensures { λ r. ⌜ readIn r (now (out .exit)) ≡ settingBytes k (now (raw .entry)) ⌝ }
 {
-    let mut memory = [0u8; ROOM];
-    let out: &mut [u8] = &mut memory;
-    match unescape(raw, out) {
-        Bytes::Are(n) => state_in(part(out, 0, n), state),
+    if k < PACKET {
+        return unescape_row(raw, out);
+    }
+    if k < FILL {
+        return read_hex(raw, out);
+    }
+    unescape(raw, out)
+}
+
+// The tables and the packet after the bytes of a line.
+fn set_area(k: usize, bytes: &[u8], space: &mut [u8], ends: &mut [usize]) -> bool
+    ensures { λ r. ⌜ kept r (now (space .exit)) (now (ends .exit)) ≡ setArea k (memory (now (space .entry)) (now (ends .entry))) (now (bytes .entry)) ⌝ }
+{
+    match k {
+        PACKET => {
+            clear(ends, PACKET);
+            append(space, ends, PACKET, bytes)
+        }
+        PACKET_MORE => append(space, ends, PACKET, bytes),
+        FILL => add_fill(space, ends, bytes),
+        _ => append(space, ends, k, bytes),
+    }
+}
+
+// All of it after the bytes of a line.
+fn set_text(
+    k: usize,
+    text: &[u8],
+    space: &mut [u8],
+    ends: &mut [usize],
+    state: LimitState,
+) -> SetLine
+    ensures { λ r. ⌜ settled (r .readable) (now (space .exit)) (now (ends .exit)) (r .state)
+        ≡ setText k (memory (now (space .entry)) (now (ends .entry))) state (now (text .entry)) ⌝ }
+{
+    if k == STATE {
+        return state_in(text, state);
+    }
+    SetLine {
+        readable: set_area(k, text, space, ends),
+        state,
+    }
+}
+
+// The bytes are read into a lent array.
+fn set_in(
+    k: usize,
+    raw: &[u8],
+    space: &mut [u8],
+    ends: &mut [usize],
+    state: LimitState,
+    out: &mut [u8; ROOM],
+) -> SetLine
+    ensures { λ r. ⌜ settled (r .readable) (now (space .exit)) (now (ends .exit)) (r .state)
+        ≡ setBytes k (memory (now (space .entry)) (now (ends .entry))) state (settingBytes k (now (raw .entry))) ⌝ }
+{
+    match setting_bytes(k, raw, out) {
+        Bytes::Are(n) => set_text(k, part(out, 0, n), space, ends, state),
         Bytes::Unread => SetLine {
             readable: false,
             state,
@@ -193,15 +204,23 @@ pub fn set_state(raw: &[u8], state: LimitState) -> SetLine
     }
 }
 
-// The tables and the packet after a line, by its number in the list of settings.
-pub fn set_area(k: usize, raw: &[u8], space: &mut [u8], ends: &mut [usize]) -> bool
-    ensures { λ r. ⌜ kept r (now (space .exit)) (now (ends .exit)) ≡ setArea k (memory (now (space .entry)) (now (ends .entry))) (now (raw .entry)) ⌝ }
+// The tables, the packet and the limit state after a line, by its number in the list of settings.
+pub fn set_line(
+    k: usize,
+    raw: &[u8],
+    space: &mut [u8],
+    ends: &mut [usize],
+    state: LimitState,
+) -> SetLine
+    ensures { λ r. ⌜ settled (r .readable) (now (space .exit)) (now (ends .exit)) (r .state)
+        ≡ setLine k (memory (now (space .entry)) (now (ends .entry))) state (now (raw .entry)) ⌝ }
 {
-    match k {
-        PACKET => set_packet(space, ends, raw),
-        PACKET_MORE => add_packet(space, ends, raw),
-        FILL => fill(space, ends, raw),
-        CLEAR => clear_named(ends, raw),
-        _ => add_row(space, ends, k, raw),
+    if k == CLEAR {
+        return SetLine {
+            readable: clear_named(ends, raw),
+            state,
+        };
     }
+    let mut out = [0u8; ROOM];
+    set_in(k, raw, space, ends, state, &mut out)
 }

@@ -50,21 +50,18 @@ mul-tables c = search needs
 array-set-from-tables : tie.Need-array-set-from-tables
 array-set-from-tables c = search needs
 
-slice-aggregate-row-into : tie.Need-slice-aggregate-row-into
-slice-aggregate-row-into c = search needs
-
 row-into-requires : tie.Need-row-into-requires
 row-into-requires c κs = search needs
 
 returns-3 : tie.Need-returns-3
 unfolding blankCells
-returns-3 c = let part3-is = c .before .before .before .part3 .ensures in
-    let part2-is = c .before .before .before .before .part2 .ensures in
-    let at7 = c .before .before .before .before .before .before .before in
-    let setting-of = c .before .before .before .before .before .before .before .setting-of .result in
-    let a = c .before .before .before .before .before .before .before .before .before .before .before .before .before .args in
-    let f = c .before .before .before .before .before .before .before .before .before .find-byte in
-    c .before .row-into .ensures ∙ row-asked _ _ _ (place at7) _ (omega arith) (omega (arith, f .ensures .0))
+returns-3 c = let part3-is = c .before .before .part3 .ensures in
+    let part2-is = c .before .before .before .part2 .ensures in
+    let at7 = c .before .before .before .before .before .before in
+    let setting-of = at7 .setting-of .result in
+    let a = at7 .before .before .before .before .before .before .args in
+    let f = at7 .before .before .find-byte in
+    c .row-into .ensures ∙ row-asked _ _ _ (place at7) _ (omega arith) (omega (arith, f .ensures .0))
     (only-is _ _ _ part2-is ∙ ap (onlyTable setting-of)
     (part3-is ∙ part-rest (a .text .now) (f .result + 1) (length (a .text .now)) (omega arith)
     ∙ ap (λ (n : ℕ). drop (n + 1) (a .text .now)) (f .ensures .0)))
@@ -83,6 +80,5 @@ judge-row-spec =
     part-requires-3
     mul-tables
     array-set-from-tables
-    slice-aggregate-row-into
     row-into-requires
     returns-3)

@@ -19,9 +19,6 @@ table-at-requires c κs = search needs
 compare-requires : tie.Need-compare-requires
 compare-requires c κs = search needs
 
-same-length : tie.Need-same-length
-same-length c = search needs
-
 returns : tie.Need-returns
 unfolding rowVerdict
 returns c = cc
@@ -35,5 +32,4 @@ row-into-spec =
     say-only-requires
     table-at-requires
     compare-requires
-    same-length
     returns)

@@ -8,7 +8,7 @@ use mathlib.Core.Path.{ap₂}
 use Prim.Native.Nat.{ℕ}
 use Rattle.areas.specs.Memory.{unread}
 use Rattle.scripts.specs.Words.{settingOf}
-use Rattle.settings.specs.Settings.{byteIn, addRun}
+use Rattle.settings.specs.Settings.{byteIn, addRun, runBytes}
 use borrow.Author.Needs.{needs}
 use Rattle.settings.proofs.add_fill.Statement.{statement}
 use Rattle.settings.proofs.add_fill.Tie as tie
@@ -46,8 +46,8 @@ natural-at-requires c κs = search needs
 enum-known-count : tie.Need-enum-known-count
 enum-known-count c = search needs
 
-cast-add-run : tie.Need-cast-add-run
-cast-add-run c = search needs
+cast-run : tie.Need-cast-run
+cast-run c = search needs
 
 add-run-requires : tie.Need-add-run-requires
 add-run-requires c κs = search needs
@@ -62,10 +62,12 @@ same-length-2 : tie.Need-same-length-2
 same-length-2 c = search needs
 
 returns-3 : tie.Need-returns-3
+unfolding runBytes
 returns-3 c = let add-run-is = c .before .before .before .before .add-run .ensures in
-    let count-is = c .before .before .before .before .before .before .before .before .count .given .1 in
-    let natural-at-is = c .before .before .before .before .before .before .before .before .before .before .natural-at .ensures in
-    let far = c .before .before .before .before .before .before .before .before .before .before .before .before in
+    let far = c .before .before .before .before .before .before .before .before .before in
+    let count-is = far .count .given .1 in
+    let natural-at-is = far .before .before .natural-at .ensures in
+    let far = far .before .before .before .before in
     let byte-in-is = far .byte-in .ensures .0 in
     let column-at2-is = far .before .column-at2 .ensures in
     let setting-of-is = far .before .before .setting-of .ensures in
@@ -103,7 +105,7 @@ add-fill-spec =
     returns-2
     natural-at-requires
     enum-known-count
-    cast-add-run
+    cast-run
     add-run-requires
     enum-told
     same-length

@@ -1,13 +1,9 @@
 -- One append.
 use mathlib.Core.Path.{ap, _∙_}
 use Rattle.areas.specs.Memory.{added}
-use Rattle.settings.specs.Settings.{runBytes}
 use borrow.Author.Needs.{needs}
 use Rattle.settings.proofs.add_run.Statement.{statement}
 use Rattle.settings.proofs.add_run.Tie as tie
-
-slice-aggregate-part : tie.Need-slice-aggregate-part
-slice-aggregate-part c = search needs
 
 part-requires : tie.Need-part-requires
 part-requires c κs = search needs
@@ -22,10 +18,7 @@ same-length-2 : tie.Need-same-length-2
 same-length-2 c = search needs
 
 returns : tie.Need-returns
-unfolding runBytes
 returns c = c .before .before .before .before .append .ensures ∙ ap (added _ _) (c .before .before .before .before .before .part .ensures)
 
 pub add-run-spec : {M : Type 1} → statement M
-add-run-spec =
-    tie.close
-    (tie.spec slice-aggregate-part part-requires append-requires same-length same-length-2 returns)
+add-run-spec = tie.close (tie.spec part-requires append-requires same-length same-length-2 returns)
