@@ -36,23 +36,23 @@ unfoldable pub judgedText : ℕ → List (List ℕ) → (packet : List ℕ) → 
 judgedText k texts packet s line text =
     cond (eqb k 5) (stepJudged texts packet text s line) (record { verdict = questionVerdict k texts packet text line; state = s })
 
--- a question's text is read as a text, and that of `row` as a row
-unfoldable pub questionBytesIn : (room : ℕ) → ℕ → List ℕ → Option (List ℕ)
-questionBytesIn room k raw = cond (eqb k 1) (within room (raw ++ 10 ∷ []) (rowBytes raw)) (within room raw (unescaped raw))
+-- a question's text is read as a text, and that of `row` as a row, as far as a buffer of 65,537 bytes holds them
+unfoldable pub questionBytes : ℕ → List ℕ → Option (List ℕ)
+questionBytes k raw = cond (eqb k 1) (within 65537 (raw ++ 10 ∷ []) (rowBytes raw)) (within 65537 raw (unescaped raw))
 
 unfoldable pub judgedBytes : ℕ → List (List ℕ) → (packet : List ℕ) → LimitState → (line : List ℕ) → Option (List ℕ) → Judged
 judgedBytes k texts packet s line none = record { verdict = Unread; state = s }
 judgedBytes k texts packet s line (some text) = judgedText k texts packet s line text
 
 unfoldable pub judged : ℕ → List (List ℕ) → (packet raw : List ℕ) → LimitState → (line : List ℕ) → Judged
-judged k texts packet raw s line = judgedBytes k texts packet s line (questionBytesIn 65537 k raw)
+judged k texts packet raw s line = judgedBytes k texts packet s line (questionBytes k raw)
 
 -- the text of a row question and of another, and a question with half an escape
 pub record Examples (s : LimitState) (line : List ℕ) : Type 0 where
-  pub row : questionBytesIn 9 1 (ascii "A|") ≡ some (65 ∷ 9 ∷ 10 ∷ [])
-  pub other : questionBytesIn 9 2 (ascii "A|") ≡ some (65 ∷ 9 ∷ [])
+  pub row : questionBytes 1 (ascii "A|") ≡ some (65 ∷ 9 ∷ 10 ∷ [])
+  pub other : questionBytes 2 (ascii "A|") ≡ some (65 ∷ 9 ∷ [])
   pub unread : judged 2 [] [] (ascii "\\7") s line ≡ record { verdict = Unread; state = s }
 
 pub examples : (s : LimitState) (line : List ℕ) → Examples s line
-unfolding judged judgedBytes questionBytesIn within rowBytes isOpen ended unescaped before plain
+unfolding judged judgedBytes questionBytes within rowBytes isOpen ended unescaped before plain
 examples s line = record { row = refl; other = refl; unread = refl }

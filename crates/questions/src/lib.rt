@@ -16,9 +16,8 @@ use tables::TABLES;
 use tables::table_at;
 ghost use mathlib.Core.Path.{_≡_};
 ghost use mathlib.Core.List.{map};
-ghost use lib.ListN.{length};
 ghost use Rattle.scripts.specs.Escapes.{readIn};
-ghost use Rattle.questions.specs.Questions.{stepJudged, questionVerdict, judgedText, questionBytesIn, judged};
+ghost use Rattle.questions.specs.Questions.{stepJudged, questionVerdict, judgedText, questionBytes, judged};
 
 // Whether the line under a question is its answer, and the limit state after it.
 pub struct Judged {
@@ -99,8 +98,8 @@ fn judge_text(
 }
 
 // The bytes of a question's text. That of `row` ends as a row does.
-fn question_text(k: usize, raw: &[u8], out: &mut [u8]) -> Bytes
-    ensures { λ r. ⌜ readIn r (now (out .exit)) ≡ questionBytesIn (length (now (out .entry))) k (now (raw .entry)) ⌝ }
+fn question_text(k: usize, raw: &[u8], out: &mut [u8; ROOM]) -> Bytes
+    ensures { λ r. ⌜ readIn r (now (out .exit)) ≡ questionBytes k (now (raw .entry)) ⌝ }
 {
     if k == 1 {
         return unescape_row(raw, out);
@@ -108,7 +107,8 @@ fn question_text(k: usize, raw: &[u8], out: &mut [u8]) -> Bytes
     unescape(raw, out)
 }
 
-pub fn judge(
+// The text is read into a lent array.
+fn judge_in(
     name: &[u8],
     number: usize,
     k: usize,
@@ -117,11 +117,10 @@ pub fn judge(
     raw: &[u8],
     state: LimitState,
     line: &[u8],
+    out: &mut [u8; ROOM],
 ) -> Judged
     ensures { λ r. ⌜ r ≡ judged k (map now (tables .entry)) (now (packet .entry)) (now (raw .entry)) state (now (line .entry)) ⌝ }
 {
-    let mut memory = [0u8; ROOM];
-    let out: &mut [u8] = &mut memory;
     match question_text(k, raw, out) {
         Bytes::Are(n) => judge_text(
             name,
@@ -138,4 +137,20 @@ pub fn judge(
             state,
         },
     }
+}
+
+pub fn judge(
+    name: &[u8],
+    number: usize,
+    k: usize,
+    tables: [&[u8]; TABLES],
+    packet: &[u8],
+    raw: &[u8],
+    state: LimitState,
+    line: &[u8],
+) -> Judged
+    ensures { λ r. ⌜ r ≡ judged k (map now (tables .entry)) (now (packet .entry)) (now (raw .entry)) state (now (line .entry)) ⌝ }
+{
+    let mut out = [0u8; ROOM];
+    judge_in(name, number, k, tables, packet, raw, state, line, &mut out)
 }
