@@ -15,13 +15,12 @@ use Rattle.scripts.specs.Words.{wordOf, textOf, settingOf, questionOf}
 use Rattle.running.specs.Script.{Standing, next, nextBy, taken, answered, setBy, unreadLine, afterLines, standingIn}
 use Rattle.running.specs.declared.Standing as held
 use Rattle.tallies.specs.declared.Tally.{Tally}
-use Rattle.settings.specs.declared.SetLine.{SetLine}
 use Rattle.questions.specs.declared.Judged.{Judged}
 use Rattle.answers.specs.declared.compare.Verdict.the-variants.{Unread}
 use Rattle.limit_state.specs.declared.state.LimitState.{LimitState}
 use Rattle.laws.proofs.Cases.{bool-cases, false≢true}
-use Rattle.areas.specs.Memory.{Kept, areaIn, tablesIn, packetArea}
-use Rattle.settings.specs.Settings.{setArea, setState, textBytes, stateSetting, settingCount}
+use Rattle.areas.specs.Memory.{areaIn, tablesIn, packetArea}
+use Rattle.settings.specs.Settings.{Settled, setLine, settingCount}
 use Rattle.questions.specs.Questions.{judged}
 use Rattle.running.specs.Script.{stood, firstStanding}
 use Rattle.tallies.specs.Totals.{counted, noTally}
@@ -108,28 +107,16 @@ module _ (space ends : List ℕ) (state : LimitState) (tally : Tally) (r : held.
   unfolding answered stood
   answered-is question line k j ek ej er = rw (er, ej, ek)
 
-  pub state-read : (k : ℕ) (raw : List ℕ) (l : SetLine) → k ≡ stateSetting → l ≡ setState state (textBytes raw) → l .readable ≡ true
-      → r ≡ stood (l .state) tally → after ≡ setBy before k raw
-  unfolding setBy stood
-  state-read k raw l ek el t er = rw (er, eq-eqb k stateSetting ek, ← el, t)
+  module _ (k : ℕ) (raw : List ℕ) (l : Settled) (el : l ≡ setLine k (record { space = space; ends = ends }) state raw) where
+    pub set-read : l .readable ≡ true → r ≡ stood (l .state) tally
+        → record { space = l .space; ends = l .ends; state = r .state; waits = none; tally = r .tally } ≡ setBy before k raw
+    unfolding setBy stood
+    set-read t er = rw (er, ← el, t)
 
-  pub state-unread : (k : ℕ) (raw : List ℕ) (l : SetLine) → k ≡ stateSetting → l ≡ setState state (textBytes raw) → l .readable ≡ false
-      → r ≡ stood (l .state) (counted tally 0 Unread)
-      → after ≡ setBy before k raw
-  unfolding setBy stood
-  state-unread k raw l ek el t er = rw (er, eq-eqb k stateSetting ek, ← el, t)
-
-  pub area-read : (k : ℕ) (raw : List ℕ) (m : Kept) → (k ≡ stateSetting → ⊥) → m ≡ setArea k (record { space = space; ends = ends }) raw → m .readable ≡ true
-      → r ≡ stood state tally
-      → record { space = m .space; ends = m .ends; state = r .state; waits = none; tally = r .tally } ≡ setBy before k raw
-  unfolding setBy stood
-  area-read k raw m nk em t er = rw (er, ne-eqb k stateSetting nk, ← em, t)
-
-  pub area-unread : (k : ℕ) (raw : List ℕ) (m : Kept) → (k ≡ stateSetting → ⊥) → m ≡ setArea k (record { space = space; ends = ends }) raw → m .readable ≡ false
-      → r ≡ stood state (counted tally 0 Unread)
-      → record { space = m .space; ends = m .ends; state = r .state; waits = none; tally = r .tally } ≡ setBy before k raw
-  unfolding setBy stood
-  area-unread k raw m nk em t er = rw (er, ne-eqb k stateSetting nk, ← em, t)
+    pub set-unread : l .readable ≡ false → r ≡ stood (l .state) (counted tally 0 Unread)
+        → record { space = l .space; ends = l .ends; state = r .state; waits = none; tally = r .tally } ≡ setBy before k raw
+    unfolding setBy stood
+    set-unread t er = rw (er, ← el, t)
 
 pub first-standing : (text space ends : List ℕ) (r : held.Standing)
     → r ≡ stood (record { fresh = true; apid = 0; count = 0; run = 0; announced = 0 })

@@ -22,12 +22,11 @@ use Rattle.answers.specs.Spoken.{spoken, signText, spelled, decimal, places, ce
 use Rattle.answers.specs.Compared.{verdictOf}
 use Rattle.inside.specs.Inside.{numberAnswer}
 use Rattle.questions.specs.declared.Judged.{Judged}
-use Rattle.questions.specs.Questions.{judged, judgedBytes, judgedText, questionBytesIn, questionVerdict}
+use Rattle.questions.specs.Questions.{judged, judgedBytes, judgedText, questionBytes, questionVerdict}
 use Rattle.packet_questions.specs.PacketReplies.{replyTo}
-use Rattle.settings.specs.declared.SetLine.{SetLine}
 use Rattle.tables.specs.Parts as tables
-use Rattle.areas.specs.Memory.{Memory, Kept, memory, areaIn, tablesIn, cleared, firstCleared, allCleared, packetArea, areaCount}
-use Rattle.settings.specs.Settings.{setArea, setState, textBytes, stateSetting, settingCount}
+use Rattle.areas.specs.Memory.{Memory, memory, areaIn, tablesIn, cleared, firstCleared, allCleared, packetArea, areaCount}
+use Rattle.settings.specs.Settings.{Settled, setLine, settingCount}
 use Rattle.tallies.specs.declared.Tally.{Tally}
 use Rattle.running.specs.declared.Standing as held
 use Rattle.tallies.specs.Totals.{plus, counted, noTally}
@@ -59,11 +58,8 @@ answered s question line =
 -- a line that sets something, by its word's place in the list of settings
 unfoldable pub setBy : Standing → ℕ → List ℕ → Standing
 setBy s k raw =
-    cond (eqb k stateSetting)
-    (let l : SetLine = setState (s .state) (textBytes raw) in
-    record { space = s .space; ends = s .ends; state = l .state; waits = none; tally = cond (l .readable) (s .tally) (counted (s .tally) 0 Unread) })
-    (let m : Kept = setArea k (memory (s .space) (s .ends)) raw in
-    record { space = m .space; ends = m .ends; state = s .state; waits = none; tally = cond (m .readable) (s .tally) (counted (s .tally) 0 Unread) })
+    let l : Settled = setLine k (memory (s .space) (s .ends)) (s .state) raw in
+    record { space = l .space; ends = l .ends; state = l .state; waits = none; tally = cond (l .readable) (s .tally) (counted (s .tally) 0 Unread) }
 
 unfoldable pub unreadLine : Standing → Standing
 unreadLine s = record { space = s .space; ends = s .ends; state = s .state; waits = none; tally = counted (s .tally) 0 Unread }
@@ -136,7 +132,7 @@ pub examples : Examples
 unfolding
     tallyOf closing closedBy afterLines next nextBy taken answered counted plus setBy unreadLine firstStanding noTally
     allCleared firstCleared cleared linesOf lead onFirst wordOf textOf upto placeOf settingOf questionOf columnsOf columnsFrom nameOf sameName sameBytes
-    judged judgedBytes judgedText questionBytesIn within unescaped before beforeByte plain questionVerdict replyTo verdictOf
+    judged judgedBytes judgedText questionBytes within unescaped before beforeByte plain questionVerdict replyTo verdictOf
     numberAnswer integerAnswer wordsAnswer saying composed numberOf meaning spelt after digitOn digitOf answerOf
     spoken signText spelled decimal places partAt cellsText tablesIn areaIn tables.tablesIn tables.tableIn tabulate
 examples = record { four = refl }

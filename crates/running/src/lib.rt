@@ -16,9 +16,7 @@ use scripts::verb::setting_of;
 use scripts::verb::text_of;
 use scripts::verb::word_of;
 use settings::SETTINGS;
-use settings::STATE;
-use settings::set_area;
-use settings::set_state;
+use settings::set_line;
 use std::num::wrapping_sub_usize;
 use tallies::Tally;
 use tallies::count;
@@ -110,19 +108,12 @@ fn take_setting(
         ≡ setBy (standing (now (space .entry)) (now (ends .entry)) state none tally) k (textOf (now (line .entry))) ⌝ }
     ensures { λ r. ⌜ r ≡ stood (r .state) (r .tally) ⌝ }
 {
-    if k == STATE {
-        let l = set_state(text_of(line), state);
-        if l.readable {
-            return stands(l.state, tally);
-        }
-        say_unread(name, number, line);
-        return stands(l.state, count(tally, 0, Verdict::Unread));
-    }
-    if set_area(k, text_of(line), space, ends) {
-        return stands(state, tally);
+    let l = set_line(k, text_of(line), space, ends, state);
+    if l.readable {
+        return stands(l.state, tally);
     }
     say_unread(name, number, line);
-    stands(state, count(tally, 0, Verdict::Unread))
+    stands(l.state, count(tally, 0, Verdict::Unread))
 }
 
 // A line that isn't an answer; from and to are its place in the text.
