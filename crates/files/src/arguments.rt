@@ -11,3 +11,12 @@ pub fn say_argument(k: usize) {
     words(&text[..count]);
     words(b":\n");
 }
+
+// Whether the argument that was asked for last is too long; if so it is said.
+pub fn is_too_long() -> bool {
+    if os::errno() == 0 {
+        return false;
+    }
+    words(b"an argument is over 4,096 bytes long\n");
+    true
+}
