@@ -111,3 +111,18 @@ pub fn say_unread(file: &[u8], error: i32) {
     say_error(error);
     words(b"\n");
 }
+
+// What is said of a file's end: that it was not read on, that it ends within a packet, or that it is empty.
+pub fn say_rest(file: &[u8], packets: usize, from: usize, to: usize, error: i32) {
+    if error != 0 {
+        say_unread(file, error);
+        return;
+    }
+    if from < to {
+        say_left(packets, to - from);
+        return;
+    }
+    if packets == 0 {
+        say_empty(file);
+    }
+}
