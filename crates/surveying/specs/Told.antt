@@ -1,7 +1,7 @@
--- What a question tells of a packet in a survey: the number of its refusal, 0 where it is answered, and a weight that stands for the answer.
+-- What a question tells of a packet in a survey: a weight that stands for the answer, or that it is refused.
 use Prim.Native.Nat.{ℕ}
 use mathlib.Core.Path.{_≡_, refl}
-use mathlib.Core.Bool.{cond, true}
+use mathlib.Core.Bool.{cond, true, false}
 use mathlib.Core.List.{List}
 use lib.IntN.{negsuc, natAbs}
 use Rattle.outcomes.specs.Outcome.{Outcome, refused, answer}
@@ -15,9 +15,7 @@ use Rattle.extraction.specs.Engineering.{engineerBy}
 use Rattle.surveying.specs.declared.asking.Question.{Question}
 use Rattle.surveying.specs.declared.asking.Question.the-variants.{Identify, Extract, Engineer}
 use Rattle.surveying.specs.declared.asking.Told.{Told}
-
-abbrev pub toldBy : (refusal weight : ℕ) → Told
-toldBy refusal weight = record { refusal = refusal; weight = weight }
+use Rattle.surveying.specs.declared.asking.Told.the-variants.{Weighs, Refused}
 
 -- a number weighs what it is without its sign, a string where it starts
 unfoldable pub weightOf : Value → ℕ
@@ -26,19 +24,19 @@ weightOf (part start bytes) = start
 
 -- a packet's weight is its SPID
 unfoldable pub tellIdentity : Outcome Identity → Told
-tellIdentity (refused n place) = toldBy n 0
-tellIdentity (answer identity) = toldBy 0 (identity .spid)
+tellIdentity (refused n place) = Refused
+tellIdentity (answer identity) = Weighs (identity .spid)
 
 -- a reading's its value, where it is valid
 unfoldable pub tellReading : Outcome Reading → Told
-tellReading (refused n place) = toldBy n 0
-tellReading (answer reading) = toldBy 0 (cond (reading .valid) (weightOf (reading .value)) 0)
+tellReading (refused n place) = Refused
+tellReading (answer reading) = Weighs (cond (reading .valid) (weightOf (reading .value)) 0)
 
 -- a text weighs where it starts in its table
 unfoldable pub tellEngineered : Outcome Engineered → Told
-tellEngineered (refused n place) = toldBy n 0
-tellEngineered (answer (value v)) = toldBy 0 (weightOf v)
-tellEngineered (answer (text t)) = toldBy 0 (t .start)
+tellEngineered (refused n place) = Refused
+tellEngineered (answer (value v)) = Weighs (weightOf v)
+tellEngineered (answer (text t)) = Weighs (t .start)
 
 -- of a parameter its occurrence 0 is asked for
 unfoldable pub told : Rows → (name : List ℕ) → Question → (packet : List ℕ) → Told
@@ -47,9 +45,10 @@ told rows name Extract p = tellReading (extractBy rows p name 0)
 told rows name Engineer p = tellEngineered (engineerBy rows p name 0)
 
 pub record Examples : Type 0 where
-  pub refusal : tellReading (refused 28 12) ≡ toldBy 28 0
-  pub minus : tellReading (answer (record { value = number (negsuc 122); valid = true })) ≡ toldBy 0 123
+  pub refusal : tellReading (refused 28 12) ≡ Refused
+  pub minus : tellReading (answer (record { value = number (negsuc 122); valid = true })) ≡ Weighs 123
+  pub invalid : tellReading (answer (record { value = number (negsuc 122); valid = false })) ≡ Weighs 0
 
 pub examples : Examples
 unfolding tellReading weightOf
-examples = record { refusal = refl; minus = refl }
+examples = record { refusal = refl; minus = refl; invalid = refl }

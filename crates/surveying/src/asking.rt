@@ -5,20 +5,17 @@ use extraction::engineer::engineer_in;
 use extraction::extract::extract_in;
 use identification::Identified;
 use identification::identify_in;
-use outcomes::Refusal;
 use outcomes::Value;
-use outcomes::number_of;
 use readings::Reading;
 use tables::TABLES;
 ghost use mathlib.Core.Path.{_≡_};
 ghost use mathlib.Core.List.{map};
-ghost use Rattle.outcomes.specs.Refusals.{numberOf};
 ghost use Rattle.outcomes.specs.Values.{valueOf};
 ghost use Rattle.database.specs.Arrays.{database, answers};
 ghost use Rattle.identification.specs.Identification.{saidIdentified};
 ghost use Rattle.readings.specs.Readings.{saidReading};
 ghost use Rattle.engineering.specs.Engineering.{saidEngineered};
-ghost use Rattle.surveying.specs.Told.{toldBy, weightOf, tellIdentity, tellReading, tellEngineered, told};
+ghost use Rattle.surveying.specs.Told.{weightOf, tellIdentity, tellReading, tellEngineered, told};
 
 pub enum Question {
     Identify,
@@ -26,19 +23,10 @@ pub enum Question {
     Engineer,
 }
 
-// The number of its refusal, 0 where it is answered, and what the answer weighs.
-pub struct Told {
-    pub refusal: u8,
-    pub weight: u64,
-}
-
-fn refused(refusal: Refusal) -> Told
-    ensures { λ r. ⌜ r ≡ toldBy (numberOf refusal) 0 ⌝ }
-{
-    Told {
-        refusal: number_of(refusal),
-        weight: 0,
-    }
+// What the answer weighs, or that there is none.
+pub enum Told {
+    Weighs(u64),
+    Refused,
 }
 
 fn weigh(value: Value) -> u64
@@ -50,18 +38,12 @@ fn weigh(value: Value) -> u64
     }
 }
 
-fn answered(weight: u64) -> Told
-    ensures { λ r. ⌜ r ≡ toldBy 0 weight ⌝ }
-{
-    Told { refusal: 0, weight }
-}
-
 fn tell_identity(identified: Identified) -> Told
     ensures { λ r. ⌜ r ≡ tellIdentity (saidIdentified identified) ⌝ }
 {
     match identified {
-        Identified::Is(_, spid, _) => answered(spid.0 as u64),
-        Identified::Refused(refusal) => refused(refusal),
+        Identified::Is(_, spid, _) => Told::Weighs(spid.0 as u64),
+        Identified::Refused(_) => Told::Refused,
     }
 }
 
@@ -71,12 +53,11 @@ fn tell_reading(reading: Reading) -> Told
     match reading {
         Reading::Is(value, valid) => {
             if valid {
-                answered(weigh(value))
-            } else {
-                answered(0)
+                return Told::Weighs(weigh(value));
             }
+            Told::Weighs(0)
         }
-        Reading::Refused(refusal) => refused(refusal),
+        Reading::Refused(_) => Told::Refused,
     }
 }
 
@@ -84,14 +65,14 @@ fn tell_engineered(engineered: Engineered) -> Told
     ensures { λ r. ⌜ r ≡ tellEngineered (saidEngineered engineered) ⌝ }
 {
     match engineered {
-        Engineered::Is(value) => answered(weigh(value)),
-        Engineered::Text(_, from, _) => answered(from.0 as u64),
-        Engineered::Refused(refusal) => refused(refusal),
+        Engineered::Is(value) => Told::Weighs(weigh(value)),
+        Engineered::Text(_, from, _) => Told::Weighs(from.0 as u64),
+        Engineered::Refused(_) => Told::Refused,
     }
 }
 
 // Of a parameter its occurrence 0 is asked for.
-pub fn ask(
+pub(crate) fn ask(
     tables: [&[u8]; TABLES],
     words: &[u64],
     links: &[u16],

@@ -1,3 +1,4 @@
-// A question asked of each packet that stands in bytes, over loaded tables, and its answers counted.
+// A question asked of each packet of an archive, over loaded tables, and its answers added up.
+pub mod archive;
 pub mod asking;
 pub mod counting;

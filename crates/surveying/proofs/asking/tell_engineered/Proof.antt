@@ -1,9 +1,9 @@
 -- Case by case.
-use Prim.Native.Nat.{ℕ}
-use mathlib.Core.Path.{ap, _∙_}
+use mathlib.Core.Path.{ap}
 use Rattle.outcomes.specs.Refusals.{refusedBy}
 use Rattle.engineering.specs.Engineering.{saidEngineered}
-use Rattle.surveying.specs.Told.{toldBy, tellEngineered}
+use Rattle.surveying.specs.declared.asking.Told.the-variants.{Weighs}
+use Rattle.surveying.specs.Told.{tellEngineered}
 use borrow.Author.Needs.{needs}
 use Rattle.surveying.proofs.asking.tell_engineered.Statement.{statement}
 use Rattle.surveying.proofs.asking.tell_engineered.Tie as tie
@@ -14,32 +14,23 @@ enum-known-engineered c = search needs
 weigh-requires : tie.Need-weigh-requires
 weigh-requires c κs = search needs
 
-answered-requires : tie.Need-answered-requires
-answered-requires c κs = search needs
-
 enum-known-engineered-2 : tie.Need-enum-known-engineered-2
 enum-known-engineered-2 c = search needs
 
-answered-requires-2 : tie.Need-answered-requires-2
-answered-requires-2 c κs = search needs
-
-enum-known-engineered-3 : tie.Need-enum-known-engineered-3
-enum-known-engineered-3 c = search needs
-
-refused-requires : tie.Need-refused-requires
-refused-requires c κs = search needs
+enum-told : tie.Need-enum-told
+enum-told c = search needs
 
 returns : tie.Need-returns
 unfolding tellEngineered saidEngineered
-returns c = rw (c .before .before .before .engineered .given .1) (c .answered .ensures ∙ ap (λ (n : ℕ). toldBy 0 n) (c .before .weigh .ensures))
+returns c = rw (c .before .before .engineered .given .1) (ap Weighs (c .weigh .ensures))
 
 returns-2 : tie.Need-returns-2
 unfolding tellEngineered saidEngineered
-returns-2 c = rw (c .before .before .engineered2 .given .1) (c .answered2 .ensures)
+returns-2 c = rw (c .before .engineered2 .given .1)
 
 returns-3 : tie.Need-returns-3
 unfolding tellEngineered saidEngineered refusedBy
-returns-3 c = rw (c .before .before .engineered3 .given .1) (c .refused .ensures)
+returns-3 c = rw (c .enum-told .given .1)
 
 pub tell-engineered-spec : {M : Type 1} → statement M
 tell-engineered-spec =
@@ -47,11 +38,8 @@ tell-engineered-spec =
     (tie.spec
     enum-known-engineered
     weigh-requires
-    answered-requires
     enum-known-engineered-2
-    answered-requires-2
-    enum-known-engineered-3
-    refused-requires
+    enum-told
     returns
     returns-2
     returns-3)

@@ -12,11 +12,11 @@ use Rattle.surveying.proofs.counting.survey.Statement.{statement}
 use Rattle.surveying.proofs.counting.survey.Tie as tie
 
 abbrev Inv-loop : tie.InvT-loop
-Inv-loop tables words links columns name question bytes counts₀ at₀ counts at = SurveysSo
-    (answers (database (map now tables) words links columns)) name question bytes counts₀ counts at
+Inv-loop tables words links columns name question bytes tally₀ at₀ tally at = SurveysSo
+    (answers (database (map now tables) words links columns)) name question tally₀ bytes tally at
 
 abbrev μ-loop : tie.MeasureT-loop
-μ-loop tables words links columns name question bytes counts₀ at₀ counts at = length bytes - at
+μ-loop tables words links columns name question bytes tally₀ at₀ tally at = length bytes - at
 
 loop-holds : tie.Need-loop-holds Inv-loop μ-loop
 loop-holds c = surveys-none _ _ _
@@ -38,22 +38,18 @@ note-requires c κs = search needs
 
 loop-less : tie.Need-loop-less Inv-loop μ-loop
 loop-less c =
-    let e = c .before .before .before .before .before .before .before in
+    let e = c .before .before .before .before in
     next-less _ _ (sym (e .before .before .packet-at .ensures) ∙ e .end .given .1)
 
 loop-again : tie.Need-loop-again Inv-loop μ-loop
 loop-again c =
-    let n = c .before .before in
-    let a = n .before .before in
+    let a = c .before in
     let e = a .before .before .before in
     let p = e .before .before in
-    surveys-more _ _ _ (p .before .loop .inv) (sym (p .packet-at .ensures) ∙ e .end .given .1) (a .before .part .ensures) (a .ask .ensures) (n .note .ensures)
+    surveys-more _ _ _ (p .before .loop .inv) (sym (p .packet-at .ensures) ∙ e .end .given .1) (a .before .part .ensures) (a .ask .ensures) (c .note .ensures)
 
 enum-told : tie.Need-enum-told Inv-loop μ-loop
 enum-told c = search needs
-
-same-length : tie.Need-same-length Inv-loop μ-loop
-same-length c = c .before .before .before .loop .inv .size
 
 returns : tie.Need-returns Inv-loop μ-loop
 returns c =
@@ -75,5 +71,4 @@ survey-spec =
     loop-less
     loop-again
     enum-told
-    same-length
     returns)
