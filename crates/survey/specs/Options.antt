@@ -1,0 +1,25 @@
+-- Which question is asked, by the program's last argument.
+use Prim.Native.Nat.{ℕ}
+use mathlib.Core.Path.{_≡_, refl}
+use mathlib.Core.Bool.{cond}
+use mathlib.Core.List.{List}
+use Rattle.laws.specs.Text.{ascii}
+use Rattle.lines.specs.Names.{nameOf, sameBytes, sameName}
+use Rattle.surveying.specs.declared.asking.Question.the-variants.{Identify, Extract, Engineer}
+use Rattle.survey.specs.declared.options.Choice.{Choice}
+use Rattle.survey.specs.declared.options.Choice.the-variants.{Is, Unknown}
+
+unfoldable pub chosenBy : List ℕ → Choice
+chosenBy option =
+    cond (sameName (nameOf option) (nameOf (ascii "identify"))) (Is Identify)
+    (cond (sameName (nameOf option) (nameOf (ascii "extract"))) (Is Extract)
+    (cond (sameName (nameOf option) (nameOf (ascii "engineer"))) (Is Engineer) Unknown))
+
+pub record Examples : Type 0 where
+  pub identify : chosenBy (ascii "identify") ≡ Is Identify
+  pub engineer : chosenBy (ascii "engineer") ≡ Is Engineer
+  pub other : chosenBy (ascii "import") ≡ Unknown
+
+pub examples : Examples
+unfolding chosenBy nameOf sameName sameBytes
+examples = record { identify = refl; engineer = refl; other = refl }

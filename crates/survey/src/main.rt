@@ -1,0 +1,93 @@
+// Asks a question of every packet of an archive, on tables that are loaded once.
+mod archive;
+mod directory;
+mod loaded;
+mod options;
+mod say;
+
+use directory::survey_directory;
+use files::arguments::LONGEST;
+use files::arguments::is_too_long;
+use files::directory::SPACE;
+use options::Choice;
+use options::chosen;
+use surveying::asking::Question;
+use words::say::words;
+
+fn say_usage() {
+    words(b"usage: survey DIR NAME FILE (identify | extract | engineer)\n");
+    words(b"  DIR   a directory with the tables pid.dat to ocp.dat\n");
+    words(b"  NAME  the parameter whose occurrence 0 is extracted or engineered\n");
+    words(b"  FILE  packets end to end, as an archive has them\n");
+    words(
+        b"It says how many packets are answered, and the sum of the answers, by which two surveys can be compared:\n",
+    );
+    words(
+        b"SPIDs, or valid values without their sign; a string or a text counts as the place where it starts.\n",
+    );
+}
+
+fn survey_in(
+    directory: &[u8],
+    name: &[u8],
+    file: &[u8],
+    question: Question,
+    space: &mut [u8; SPACE],
+) {
+    survey_directory(directory, name, file, question, space);
+}
+
+fn survey(directory: &[u8], name: &[u8], file: &[u8], question: Question) {
+    let mut space = [0u8; SPACE];
+    survey_in(directory, name, file, question, &mut space);
+}
+
+// The first three arguments.
+fn survey_as(question: Question) {
+    let mut directory = [0u8; LONGEST];
+    let mut name = [0u8; LONGEST];
+    let mut file = [0u8; LONGEST];
+    let directory_length = os::arg(1, &mut directory);
+    if is_too_long() {
+        return;
+    }
+    let name_length = os::arg(2, &mut name);
+    if is_too_long() {
+        return;
+    }
+    let file_length = os::arg(3, &mut file);
+    if is_too_long() {
+        return;
+    }
+    survey(
+        &directory[..directory_length],
+        &name[..name_length],
+        &file[..file_length],
+        question,
+    );
+}
+
+// The fourth.
+fn survey_by_option() {
+    let mut option = [0u8; LONGEST];
+    let length = os::arg(4, &mut option);
+    if is_too_long() {
+        return;
+    }
+    match chosen(&option[..length]) {
+        Choice::Is(question) => survey_as(question),
+        Choice::Unknown => {
+            words(&option[..length]);
+            words(b": there is no such question\n");
+            say_usage();
+        }
+    }
+}
+
+fn main() {
+    if os::arg_count() == 5 {
+        survey_by_option();
+        return;
+    }
+    say_usage();
+}
