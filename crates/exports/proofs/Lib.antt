@@ -1,3 +1,3 @@
-pub mod AnswerLaws
 pub mod ImportPlaces
 pub mod StepPlaces
+pub mod DeliverLaws

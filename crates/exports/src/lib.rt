@@ -1,22 +1,22 @@
 // The questions for programs in other languages; include/petrolyaz.h declares these functions for C.
-use crate::tell::tell_engineered;
-use crate::tell::tell_extracted;
-use crate::tell::tell_identified;
-use crate::tell::tell_imported;
-use crate::tell::tell_stepped;
 use calls::engineer::engineer;
 use calls::extract::extract;
 use calls::identify::identify;
 use import::import;
 use offered_step::limit_step_from;
+use telling::deliver::deliver;
+use telling::tell::tell_engineered;
+use telling::tell::tell_extracted;
+use telling::tell::tell_identified;
+use telling::tell::tell_imported;
+use telling::tell::tell_stepped;
 ghost use mathlib.Core.Path.{_≡_};
 ghost use Rattle.offered.specs.Offered.{offeredState};
 ghost use Rattle.calls.specs.Calls.{identifyOf, extractOf, engineerOf};
 ghost use Rattle.offered_step.specs.OfferedStep.{limitStepFrom};
-ghost use Rattle.exports.specs.Answers.{ofIdentity, ofReading, ofEngineered, ofState, Told, ImportTold, ten, version};
-
-mod places;
-mod tell;
+ghost use Rattle.telling.specs.Values.{ofIdentity, ofReading, ofEngineered, ofState};
+ghost use Rattle.telling.specs.Answers.{plainOf, Told};
+ghost use Rattle.exports.specs.Exports.{ImportTold, ten, version};
 
 // The version of these functions, which PETROLYAZ_VERSION of the header is too.
 const VERSION: u32 = 1;
@@ -50,7 +50,7 @@ pub extern "C" fn petrolyaz_import<'a>(
         (now (cells .entry)) (now (cells .exit)) (now (answer .entry)) (now (answer .exit)) r ⌝ }
 {
     let tables = [pid, pic, plf, pcf, caf, cap, txf, txp, ocf, ocp];
-    tell_imported(import(tables, cells), answer)
+    deliver(tell_imported(import(tables, cells)), answer)
 }
 
 // Which packet it is.
@@ -69,13 +69,13 @@ pub extern "C" fn petrolyaz_identify<'a>(
     packet: &[u8],
     answer: &mut [i64; 8],
 ) -> u64
-    ensures { λ r. ⌜ Told ofIdentity (identifyOf
+    ensures { λ r. ⌜ Told (plainOf ofIdentity (identifyOf
         (ten (now (pid .entry)) (now (pic .entry)) (now (plf .entry)) (now (pcf .entry)) (now (caf .entry))
         (now (cap .entry)) (now (txf .entry)) (now (txp .entry)) (now (ocf .entry)) (now (ocp .entry)))
-        (now (packet .entry))) (now (answer .entry)) (now (answer .exit)) r ⌝ }
+        (now (packet .entry)))) (now (answer .entry)) (now (answer .exit)) r ⌝ }
 {
     let tables = [pid, pic, plf, pcf, caf, cap, txf, txp, ocf, ocp];
-    tell_identified(identify(tables, packet), answer)
+    deliver(tell_identified(identify(tables, packet)), answer)
 }
 
 // What a packet says of a parameter: its raw value and whether it is valid.
@@ -96,13 +96,16 @@ pub extern "C" fn petrolyaz_extract<'a>(
     occurrence: usize,
     answer: &mut [i64; 8],
 ) -> u64
-    ensures { λ r. ⌜ Told ofReading (extractOf
+    ensures { λ r. ⌜ Told (plainOf ofReading (extractOf
         (ten (now (pid .entry)) (now (pic .entry)) (now (plf .entry)) (now (pcf .entry)) (now (caf .entry))
         (now (cap .entry)) (now (txf .entry)) (now (txp .entry)) (now (ocf .entry)) (now (ocp .entry)))
-        (now (packet .entry)) (now (name .entry)) occurrence) (now (answer .entry)) (now (answer .exit)) r ⌝ }
+        (now (packet .entry)) (now (name .entry)) occurrence)) (now (answer .entry)) (now (answer .exit)) r ⌝ }
 {
     let tables = [pid, pic, plf, pcf, caf, cap, txf, txp, ocf, ocp];
-    tell_extracted(extract(tables, packet, name, occurrence), answer)
+    deliver(
+        tell_extracted(extract(tables, packet, name, occurrence)),
+        answer,
+    )
 }
 
 // Its engineering value.
@@ -123,13 +126,16 @@ pub extern "C" fn petrolyaz_engineer<'a>(
     occurrence: usize,
     answer: &mut [i64; 8],
 ) -> u64
-    ensures { λ r. ⌜ Told ofEngineered (engineerOf
+    ensures { λ r. ⌜ Told (plainOf ofEngineered (engineerOf
         (ten (now (pid .entry)) (now (pic .entry)) (now (plf .entry)) (now (pcf .entry)) (now (caf .entry))
         (now (cap .entry)) (now (txf .entry)) (now (txp .entry)) (now (ocf .entry)) (now (ocp .entry)))
-        (now (packet .entry)) (now (name .entry)) occurrence) (now (answer .entry)) (now (answer .exit)) r ⌝ }
+        (now (packet .entry)) (now (name .entry)) occurrence)) (now (answer .entry)) (now (answer .exit)) r ⌝ }
 {
     let tables = [pid, pic, plf, pcf, caf, cap, txf, txp, ocf, ocp];
-    tell_engineered(engineer(tables, packet, name, occurrence), answer)
+    deliver(
+        tell_engineered(engineer(tables, packet, name, occurrence)),
+        answer,
+    )
 }
 
 // A parameter's limit state after a packet, by its state before: fresh, APID, count, run, announced.
@@ -150,11 +156,14 @@ pub extern "C" fn petrolyaz_limit_step<'a>(
     state: &[i64; 5],
     answer: &mut [i64; 8],
 ) -> u64
-    ensures { λ r. ⌜ Told ofState (limitStepFrom
+    ensures { λ r. ⌜ Told (plainOf ofState (limitStepFrom
         (ten (now (pid .entry)) (now (pic .entry)) (now (plf .entry)) (now (pcf .entry)) (now (caf .entry))
         (now (cap .entry)) (now (txf .entry)) (now (txp .entry)) (now (ocf .entry)) (now (ocp .entry)))
-        (now (packet .entry)) (now (name .entry)) (offeredState (now (state .entry)))) (now (answer .entry)) (now (answer .exit)) r ⌝ }
+        (now (packet .entry)) (now (name .entry)) (offeredState (now (state .entry))))) (now (answer .entry)) (now (answer .exit)) r ⌝ }
 {
     let tables = [pid, pic, plf, pcf, caf, cap, txf, txp, ocf, ocp];
-    tell_stepped(limit_step_from(tables, packet, name, state), answer)
+    deliver(
+        tell_stepped(limit_step_from(tables, packet, name, state)),
+        answer,
+    )
 }

@@ -1,10 +1,9 @@
--- What `identify` says, told.
+-- What `identify` says, delivered.
 use mathlib.Core.Path.{refl}
-use borrow.Author.Needs.{needs}
-use Rattle.refusal_places.proofs.SmallLaws.{small-same}
 use Rattle.refusal_places.proofs.CallPlaces.{identify-of-small}
-use Rattle.exports.specs.Answers.{ofIdentity}
-use Rattle.exports.proofs.AnswerLaws.{told-same}
+use Rattle.telling.specs.Values.{ofIdentity}
+use Rattle.exports.proofs.DeliverLaws.{delivered}
+use borrow.Author.Needs.{needs}
 use Rattle.exports.proofs.petrolyaz_identify.Statement.{statement}
 use Rattle.exports.proofs.petrolyaz_identify.Tie as tie
 
@@ -12,10 +11,16 @@ identify-requires : tie.Need-identify-requires
 identify-requires c κs = search needs
 
 tell-identified-requires : tie.Need-tell-identified-requires
-tell-identified-requires c κs = small-same (c .before .identify .ensures) (identify-of-small _ refl _)
+tell-identified-requires c κs = search needs
+
+deliver-requires : tie.Need-deliver-requires
+deliver-requires c κs = search needs
 
 returns : tie.Need-returns
-returns c = told-same ofIdentity (c .before .before .identify .ensures) (c .tell-identified .ensures)
+returns c =
+    delivered ofIdentity _ (c .before .before .before .identify .ensures) (identify-of-small _ refl _)
+    (c .before .before .tell-identified .ensures) (c .deliver .ensures .0) (c .deliver .ensures .1)
 
 pub petrolyaz-identify-spec : {M : Type 1} → statement M
-petrolyaz-identify-spec = tie.close (tie.spec identify-requires tell-identified-requires returns)
+petrolyaz-identify-spec =
+    tie.close (tie.spec identify-requires tell-identified-requires deliver-requires returns)

@@ -1,10 +1,7 @@
--- What `import` says, told, and the cells as it leaves them.
-use mathlib.Core.Path.{refl, ap}
+-- What `import` says, delivered, and the cells as it leaves them.
+use mathlib.Core.Path.{refl}
+use Rattle.exports.proofs.DeliverLaws.{import-delivered}
 use borrow.Author.Needs.{needs}
-use Rattle.refusal_places.proofs.SmallLaws.{small-same}
-use Rattle.exports.specs.Answers.{countsOf}
-use Rattle.exports.proofs.ImportPlaces.{import-small}
-use Rattle.exports.proofs.AnswerLaws.{import-told}
 use Rattle.exports.proofs.petrolyaz_import.Statement.{statement}
 use Rattle.exports.proofs.petrolyaz_import.Tie as tie
 
@@ -12,16 +9,20 @@ import-requires : tie.Need-import-requires
 import-requires c κs = search needs
 
 tell-imported-requires : tie.Need-tell-imported-requires
-tell-imported-requires c κs = small-same (ap countsOf (c .before .before .before .import .ensures .0)) (import-small _ refl _)
+tell-imported-requires c κs = search needs
+
+deliver-requires : tie.Need-deliver-requires
+deliver-requires c κs = search needs
 
 same-length : tie.Need-same-length
 same-length c = search needs
 
 returns : tie.Need-returns
 returns c =
-    let e = c .before .before .before .before .import .ensures in
-    import-told _ _ (e .0) (e .1) (c .tell-imported .ensures)
+    let e = c .before .before .before .before .before .import .ensures in
+    import-delivered _ refl _ _ (e .0) (e .1) (c .before .before .tell-imported .ensures) (c .deliver .ensures .0) (c .deliver .ensures .1)
 
 pub petrolyaz-import-spec : {M : Type 1} → statement M
 petrolyaz-import-spec =
-    tie.close (tie.spec import-requires tell-imported-requires same-length returns)
+    tie.close
+    (tie.spec import-requires tell-imported-requires deliver-requires same-length returns)

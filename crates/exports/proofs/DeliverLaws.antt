@@ -1,0 +1,44 @@
+-- What is delivered of an answer whose place is small.
+use mathlib.Core.Path.{_≡_, refl, sym, ap, ap₂, _∙_}
+use mathlib.Core.List.{List}
+use Prim.Native.Nat.{ℕ, _^_, _%_, _<_}
+use native.Mathlib.Omega.{arith}
+use lib.IntN.{ℤ}
+use lib.ListN.{length, take}
+use Rattle.outcomes.specs.Outcome.{Outcome, refused, answer}
+use Rattle.verdicts.specs.Answer.{Imported, importOf, cellsAfter}
+use Rattle.verdicts.specs.Entries.{tableCount}
+use Rattle.refusal_places.specs.Small.{placeIn, Small}
+use Rattle.telling.specs.declared.Telling.{Telling}
+use Rattle.telling.specs.Values.{countsOf, ofCounts}
+use Rattle.telling.specs.Answers.{Plain, plainOf, said, code, written, Told}
+use Rattle.exports.specs.Exports.{ImportTold}
+use Rattle.exports.proofs.ImportPlaces.{import-small}
+
+place-plain : {A : Type 0} (valuesOf : A → List ℤ) (o : Outcome A) → plainOf valuesOf o .place ≡ placeIn o
+unfolding plainOf placeIn
+place-plain valuesOf (refused number place) = refl
+place-plain valuesOf (answer a) = refl
+
+module _ {A : Type 0} (valuesOf : A → List ℤ) {o q : Outcome A} (t : Telling) {before after : List ℤ} {r : ℕ} where
+  pub delivered : o ≡ q → Small q → said t ≡ plainOf valuesOf o → r ≡ code (t .number) (t .place % 2 ^ 32)
+      → after ≡ written before (take (t .count) (t .values)) → Told (plainOf valuesOf q) before after r
+  unfolding said
+  delivered e s l c w =
+      let m : said t ≡ plainOf valuesOf q = l ∙ ap (plainOf valuesOf) e in
+      let k : t .place ≡ placeIn q = ap (λ (p : Plain). p .place) m ∙ place-plain valuesOf q in
+      let b : placeIn q < 2 ^ 32 = s .below in
+      let u : t .place % 2 ^ 32 ≡ t .place = omega arith in
+      record {
+        result = c ∙ ap (code (t .number)) u ∙ ap (λ (p : Plain). code (p .number) (p .place)) m;
+        places = w ∙ ap (λ (p : Plain). written before (p .values)) m;
+      }
+
+pub import-delivered : (texts : List (List ℕ)) → length texts ≡ tableCount → (cells : List ℕ) {x : Imported} {cells′ : List ℕ} (t : Telling)
+    {before after : List ℤ} {r : ℕ} → x ≡ importOf texts (length cells) → cells′ ≡ cellsAfter texts cells x → said t ≡ plainOf ofCounts (countsOf x)
+    → r ≡ code (t .number) (t .place % 2 ^ 32) → after ≡ written before (take (t .count) (t .values)) → ImportTold texts cells cells′ before after r
+import-delivered texts all cells t e l k c w =
+    record {
+      told = delivered ofCounts t (ap countsOf e) (import-small texts all (length cells)) k c w;
+      left = l ∙ ap (cellsAfter texts cells) e;
+    }

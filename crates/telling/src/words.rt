@@ -1,0 +1,20 @@
+// Numbers and flags as values.
+ghost use mathlib.Core.Path.{_≡_};
+ghost use Rattle.telling.specs.Values.{word, flag};
+
+// A number of 64 bits as the i64 of the same bits.
+pub(crate) fn as_word(n: u64) -> i64
+    ensures { λ r. ⌜ r ≡ word n ⌝ }
+{
+    if n < 9223372036854775808 {
+        return n as i64;
+    }
+    let below = (18446744073709551615 - n) as i64;
+    -1 - below
+}
+
+pub(crate) fn as_flag(yes: bool) -> i64
+    ensures { λ r. ⌜ r ≡ flag yes ⌝ }
+{
+    if yes { 1 } else { 0 }
+}
