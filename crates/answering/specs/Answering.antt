@@ -1,11 +1,14 @@
 -- What is answered to a call, whichever it is.
 use Prim.Native.Nat.{ℕ}
-use mathlib.Core.Path.{_≡_}
-use mathlib.Core.List.{List}
-use Rattle.outcomes.specs.Outcome.{Outcome}
+use mathlib.Core.Path.{_≡_, refl}
+use mathlib.Core.List.{List, []}
+use Rattle.outcomes.specs.Outcome.{Outcome, refused}
+use Rattle.outcomes.specs.Refusals.{numberOf, placeOf, refusedBy}
+use Rattle.outcomes.specs.declared.Refusal.the-variants.{FieldLeaves}
 use Rattle.database.specs.Rows.{Rows}
 use Rattle.identification.specs.Identification.{Identity, identifyBy, saidIdentified}
 use Rattle.readings.specs.Readings.{Reading, saidReading}
+use Rattle.readings.specs.declared.Reading.the-variants.{Refused}
 use Rattle.engineering.specs.Engineering as engineering
 use Rattle.engineering.specs.Engineering.{saidEngineered}
 use Rattle.limit_state.specs.declared.state.LimitState.{LimitState}
@@ -40,3 +43,8 @@ Answering ask p name (LimitStep s) (Identified r) = ⊥
 Answering ask p name (LimitStep s) (Read r) = ⊥
 Answering ask p name (LimitStep s) (Engineered r) = ⊥
 Answering ask p name (LimitStep s) (Stepped r) = Answers s (ask LimitState (λ rows. stepIn rows p name s)) r
+
+-- where all is refused with 28 at byte 14, an extraction is
+pub example : Answering (λ _ _. refused 28 14) [] [] (Extract 0) (Read (Refused (FieldLeaves (record { 0 = 14 }))))
+unfolding Answering saidReading refusedBy numberOf placeOf
+example = refl
