@@ -16,7 +16,7 @@ use options::chosen;
 use showing::stretches::Showing;
 use tables::TABLES;
 use words::say::words;
-ghost use Rattle.files.specs.Space.{DirectoryInto};
+ghost use Rattle.directories.specs.Space.{DirectoryInto};
 
 fn say_usage() {
     words(b"usage: replay DIR NAME FILE [runs | last]\n");

@@ -13,8 +13,8 @@ use Rattle.loading.specs.Loaded.{Lent}
 use Rattle.full_loading.specs.FullLoads.{FullLoads}
 use Rattle.full_loading.specs.declared.FullLoading.{FullLoading}
 use Rattle.full_loading.specs.declared.FullLoading.the-variants.{Done}
-use Rattle.files.specs.declared.directory.Loaded.{Loaded}
-use Rattle.files.specs.Space.{DirectoryInto}
+use Rattle.directories.specs.declared.Loaded.{Loaded}
+use Rattle.directories.specs.Space.{DirectoryInto}
 use Rattle.surveying.specs.declared.asking.Question.{Question}
 use Rattle.surveying.specs.declared.archive.Standing.{Standing}
 use Rattle.surveying.specs.Archive.{standing, SurveyedFile}

@@ -6,8 +6,8 @@ use mathlib.Core.List.{List}
 use Rattle.tables.specs.Parts.{tablesIn}
 use Rattle.tables.specs.Sizes.{sizesOf, refusedBy}
 use Rattle.database.specs.GoodRows.{ofTables}
-use Rattle.files.specs.declared.directory.Loaded.{Loaded}
-use Rattle.files.specs.Space.{DirectoryInto}
+use Rattle.directories.specs.declared.Loaded.{Loaded}
+use Rattle.directories.specs.Space.{DirectoryInto}
 use Rattle.surveying.specs.declared.asking.Question.{Question}
 use Rattle.surveying.specs.declared.archive.Standing.{Standing}
 use Rattle.surveying.specs.Archive.{standing, SurveyedFile}

@@ -1,7 +1,7 @@
 // The tables of a directory.
 use crate::loaded::survey_tables;
-use files::directory::load_directory;
-use files::directory::tables_in;
+use directories::load_directory;
+use directories::tables_in;
 use surveying::archive::Standing;
 use surveying::archive::at_start;
 use surveying::asking::Question;

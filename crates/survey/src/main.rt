@@ -8,7 +8,7 @@ mod say;
 use directory::survey_directory;
 use files::arguments::LONGEST;
 use files::arguments::is_too_long;
-use files::directory::SPACE;
+use directories::SPACE;
 use options::Choice;
 use options::chosen;
 use surveying::asking::Question;
