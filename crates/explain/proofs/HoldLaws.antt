@@ -22,7 +22,7 @@ use Rattle.kept.specs.Stored.{key1Column, key2Column, groupColumn}
 use Rattle.judged.specs.Passes.{columnOf}
 use Rattle.judged.proofs.Held.{coding, Held}
 use Rattle.judged.proofs.KeptLaws.{kept}
-use Rattle.pointing.specs.Pointing.{inColumn, hasKey, sharesBy}
+use Rattle.key_rows.specs.KeyRows.{inColumn, hasKey, sharesBy}
 
 -- one of at most two keys
 one-of-two : (k : Key) (ks : List Key) → Apart ks → any (sameKey k) ks ≡ (firstIs k ks || firstIs k (drop 1 ks))

@@ -25,7 +25,8 @@ use Rattle.meaning.specs.Kept.{Known, rowAt}
 use Rattle.arrays.specs.Room.{mostPlaces}
 use Rattle.kept.specs.Stored.{name1Column, name2Column, code1Column, code2Column, namedId}
 use Rattle.judged.proofs.Held.{coding, Held, column-at}
-use Rattle.pointing.specs.Pointing.{inColumn, hasKey, namedBy, namedAtBy}
+use Rattle.key_rows.specs.KeyRows.{inColumn, hasKey}
+use Rattle.named_rows.specs.NamedRows.{namedBy, namedAtBy}
 use Rattle.explain.proofs.HoldLaws.{holds-by, nothing-held}
 
 -- the first of some namings passes a test, and its key is held

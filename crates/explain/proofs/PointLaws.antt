@@ -24,7 +24,9 @@ use Rattle.judged.proofs.Held.{coding, Held, column-at}
 use Rattle.judged.proofs.KeptLaws.{own-kept}
 use Rattle.causes.specs.Causes.{counted, speaksOf, causes}
 use Rattle.causes.proofs.SoundCells.{sound-cell}
-use Rattle.pointing.specs.Pointing.{inColumn, soundBy, countedBy, followerBy, pointsTo}
+use Rattle.key_rows.specs.KeyRows.{inColumn, soundBy, countedBy}
+use Rattle.named_rows.specs.NamedRows.{followerBy}
+use Rattle.pointing.specs.Pointing.{pointsTo}
 use Rattle.explain.proofs.HoldLaws.{row-kept, shares-are, belongs-by}
 use Rattle.explain.proofs.NameLaws.{named-at, follows-are}
 

@@ -1,7 +1,8 @@
 // What a row that isn't good leans on.
 use crate::places::say_place;
-use crate::texts::say_column_text;
 use arrays::half_at;
+use key_texts::say_column_text;
+use key_texts::text_column;
 use pointing::Cause;
 use pointing::count_causes;
 use pointing::next_cause;
@@ -10,16 +11,12 @@ use tables::TABLES;
 use words::reasons::say_reason;
 use words::say;
 use words::say::words;
-ghost use mathlib.Core.Path.{_≡_};
-ghost use Rattle.leaning.specs.Places.{keyColumn};
 
 // At most so many rows are told one by one.
 const TOLD: usize = 5;
 
-// The column of ocf that asks for CURTX of the row that NAME, column 1, names.
+// The column of ocf that asks for CURTX of the row that it names.
 const INTER: usize = 4;
-
-const NAME: usize = 1;
 
 // A row that a name leads to, and why it doesn't do: "pcf 8 is not good: 2304"
 fn say_named(tables: [&[u8]; TABLES], bytes: &[u8], cells: &[u16], j: usize, column: usize) {
@@ -155,19 +152,6 @@ fn say_others(
         words(b": by VALID next is ");
     }
     say_causes(tables, halves, bytes, cells, n, i, count);
-}
-
-// The column whose text is told: the key that ocf names by INTER stands in NAME.
-fn text_column(reason: usize, column: usize) -> usize
-    ensures { λ r. ⌜ r ≡ keyColumn reason column ⌝ }
-{
-    if reason != 11 {
-        return column;
-    }
-    if column == INTER {
-        return NAME;
-    }
-    column
 }
 
 // Why row i isn't good, and what it leans on.

@@ -1,7 +1,6 @@
 // A row that isn't good in a line: its verdict in words, and what it leans on.
 mod leans;
 mod places;
-mod texts;
 mod verdict;
 
 pub use verdict::say_row;

@@ -1,8 +1,9 @@
 // A row that isn't good, in a line.
 use crate::leans::say_leans;
 use crate::places::say_place;
-use crate::places::table_of;
 use arrays::half_at;
+use judged::parts::TABLE;
+use key_rows::byte;
 use schemas::Table;
 use table_names::column_name;
 use tables::TABLES;
@@ -22,7 +23,7 @@ fn say_column(kind: Table, column: usize) {
 fn say_at(bytes: &[u8], i: usize, column: usize) {
     say::number(column);
     words(b" (");
-    say_column(kind_of(table_of(bytes, i) as usize), column);
+    say_column(kind_of(byte(bytes, TABLE, i) as usize), column);
     words(b")");
 }
 

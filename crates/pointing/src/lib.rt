@@ -1,17 +1,14 @@
 // Which rows a row's verdict points to, by what is kept of the rows and the cells of their verdicts.
-use crate::keys::is_counted;
-use crate::keys::shares;
-use crate::names::follows;
-use crate::names::names_at;
 use arrays::half_at;
+use key_rows::is_counted;
+use key_rows::shares;
+use named_rows::follows;
+use named_rows::names_at;
 ghost use mathlib.Core.Path.{_≡_};
 ghost use Prim.Native.Nat.{_-_};
 ghost use lib.ListN.{length};
 ghost use Rattle.laws.specs.Prefix.{allFrom};
 ghost use Rattle.pointing.specs.Pointing.{pointsTo, firstOf};
-
-mod keys;
-mod names;
 
 // A row by its place among all rows, from 0; or there is none.
 pub enum Cause {

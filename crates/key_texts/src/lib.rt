@@ -1,0 +1,113 @@
+// The text of a row's column, as the table writes it.
+use arrays::byte_at;
+use arrays::put_byte;
+use judged::parts::TABLE;
+use key_rows::byte;
+use key_rows::half;
+use lines::columns::column;
+use lines::columns::divide;
+use lines::columns::part;
+use lines::walk::next_line;
+use tables::TABLES;
+use tables::table_at;
+use words::say::words;
+ghost use mathlib.Core.Path.{_≡_};
+ghost use lib.Seq.{sets};
+ghost use Rattle.laws.specs.Values.{tabulate};
+ghost use mathlib.Core.List.{map};
+ghost use Rattle.key_texts.specs.Shown.{shownAs, shownAt, lineIn, textOf, keyColumn};
+
+// A text is shown up to so many bytes.
+const SHOWN: usize = 64;
+
+// The column of where lines start.
+const START: u8 = 7;
+
+// The column of ocf that asks for CURTX of the row that NAME, column 1, names.
+const INTER: usize = 4;
+
+const NAME: usize = 1;
+
+// A byte as it is shown: one that isn't from 0x20 to 0x7E is a question mark.
+fn shown(b: u8) -> u8
+    ensures { λ r. ⌜ r ≡ shownAs b ⌝ }
+{
+    if b < 0x20 {
+        return b'?';
+    }
+    if 0x7E < b {
+        return b'?';
+    }
+    b
+}
+
+// The first n bytes of a text as they are shown.
+fn put_shown(text: &[u8], letters: &mut [u8], n: usize)
+    ensures { λ _. ⌜ now (letters .exit) ≡ sets (now (letters .entry)) 0 (tabulate (shownAt (now (text .entry))) 0 n) ⌝ }
+{
+    let mut k: usize = 0;
+    while k < n {
+        put_byte(letters, k, shown(byte_at(text, k)));
+        k += 1;
+    }
+}
+
+// The start of a text, in quotes.
+fn say_text(text: &[u8]) {
+    let mut letters = [0u8; SHOWN];
+    put_shown(text, &mut letters, SHOWN);
+    words(b"\"");
+    if SHOWN < text.len() {
+        words(&letters);
+        words(b"..");
+    } else {
+        words(part(&letters, 0, text.len()));
+    }
+    words(b"\"");
+}
+
+fn line_at<'a>(table: &'a [u8], start: usize) -> &'a [u8]
+    ensures { λ r. ⌜ now r ≡ lineIn (now (table .entry)) start ⌝ }
+{
+    let end = next_line(table, start).end;
+    part(table, start, end)
+}
+
+// Column k of row i, from 1; nothing for column 0.
+fn text_of<'a>(
+    tables: [&'a [u8]; TABLES],
+    halves: &[u16],
+    bytes: &[u8],
+    i: usize,
+    k: usize,
+) -> &'a [u8]
+    ensures { λ r. ⌜ now r ≡ textOf (map now (tables .entry)) (now (halves .entry)) (now (bytes .entry)) i k ⌝ }
+{
+    let table = table_at(tables, byte(bytes, TABLE, i) as usize);
+    let line = line_at(table, half(halves, START, i) as usize);
+    if k == 0 {
+        return part(line, 0, 0);
+    }
+    let ends = divide(line);
+    column(line, &ends, k - 1)
+}
+
+// Says it, where there is one.
+pub fn say_column_text(tables: [&[u8]; TABLES], halves: &[u16], bytes: &[u8], i: usize, k: usize) {
+    if 0 < k {
+        say_text(text_of(tables, halves, bytes, i, k));
+    }
+}
+
+// The column whose text is told: the key that ocf names by INTER stands in NAME.
+pub fn text_column(reason: usize, column: usize) -> usize
+    ensures { λ r. ⌜ r ≡ keyColumn reason column ⌝ }
+{
+    if reason != 11 {
+        return column;
+    }
+    if column == INTER {
+        return NAME;
+    }
+    column
+}
