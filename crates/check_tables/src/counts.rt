@@ -4,7 +4,7 @@ use words::say;
 use words::say::words;
 ghost use mathlib.Core.Path.{_≡_};
 ghost use Rattle.laws.specs.Prefix.{countWith};
-ghost use Rattle.check_tables.specs.Order.{hasReason};
+ghost use Rattle.check_tables.specs.Reasons.{hasReason};
 
 // How many of the first n cells have this reason; the good ones have reason 0.
 fn count_reason(cells: &[u16], n: usize, reason: u16) -> usize

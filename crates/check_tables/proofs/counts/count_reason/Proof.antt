@@ -5,8 +5,8 @@ use native.Mathlib.Omega.{arith}
 use mathlib.Core.Path.{_∙_, ap}
 use borrow.Author.Needs.{needs}
 use Rattle.laws.specs.Prefix.{countWith}
-use Rattle.check_tables.specs.Order.{hasReason}
-use Rattle.check_tables.proofs.OrderLaws.{counted-none, counted-one, counted-not, counted-all}
+use Rattle.check_tables.specs.Reasons.{hasReason}
+use Rattle.check_tables.proofs.CountLaws.{counted-none, counted-one, counted-not, counted-all}
 use Rattle.check_tables.proofs.counts.count_reason.Statement.{statement}
 use Rattle.check_tables.proofs.counts.count_reason.Tie as tie
 

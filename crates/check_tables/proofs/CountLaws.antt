@@ -1,31 +1,14 @@
--- One law for each return: the turn of a row, rows counted by their reason, and whether a row is due.
+-- Rows counted by their reason.
 use mathlib.Core.Path.{_≡_, refl, ap, _∙_}
-use mathlib.Core.Bool.{Bool, true, false, cond, _&&_}
+use mathlib.Core.Bool.{Bool, true, false}
 use mathlib.Core.List.{List}
 use Prim.Native.Nat.{ℕ, zero, suc, _+_, _/_, _≤_, _<_}
 use native.Mathlib.Omega.{arith}
 use lib.Dec.{eqb}
 use lib.ListN.{getD}
-use borrow.Author.Tests.{eq-eqb, ne-eqb, lt-ltb, le-ltb}
+use borrow.Author.Tests.{eq-eqb, ne-eqb}
 use Rattle.laws.specs.Prefix.{countWith}
-use Rattle.check_tables.specs.Order.{hasReason, turnOf}
-
-module _ (v : ℕ) where
-  pub turn-good : v / 256 < 1 → 0 ≡ turnOf v
-  unfolding turnOf
-  turn-good a = rw (lt-ltb _ _ a)
-
-  pub turn-formed : 1 ≤ v / 256 → v / 256 < 9 → 1 ≡ turnOf v
-  unfolding turnOf
-  turn-formed a b = rw (le-ltb _ _ a, lt-ltb _ _ b)
-
-  pub turn-naming : 1 ≤ v / 256 → 9 ≤ v / 256 → v / 256 ≡ 11 → 3 ≡ turnOf v
-  unfolding turnOf
-  turn-naming a b e = rw (le-ltb _ _ a, le-ltb _ _ b, eq-eqb _ _ e)
-
-  pub turn-keyed : 1 ≤ v / 256 → 9 ≤ v / 256 → (v / 256 ≡ 11 → ⊥) → 2 ≡ turnOf v
-  unfolding turnOf
-  turn-keyed a b e = rw (le-ltb _ _ a, le-ltb _ _ b, ne-eqb _ _ e)
+use Rattle.check_tables.specs.Reasons.{hasReason}
 
 -- no row is passed
 pub counted-none : (cells : List ℕ) (reason : ℕ) → 0 ≡ countWith (hasReason cells reason) 0
@@ -50,11 +33,3 @@ module _ (cells : List ℕ) (reason i count : ℕ) (so-far : count ≡ countWith
   counted-not e =
       let y : i + 1 ≡ suc i = omega arith in
       rw (y, ← read, ne-eqb (x / 256) reason e, so-far)
-
--- whether a row is due
-module _ (cells told : List ℕ) (i : ℕ) (v : ℕ) (cell : v ≡ getD cells i 0) (t : ℕ) (turn : t ≡ turnOf v) where
-  pub due-turn : t ≡ 3 → (m : ℕ) → m ≡ getD told i 0 → eqb m 0 ≡ (eqb (turnOf (getD cells i 0)) 3 && eqb (getD told i 0) 0)
-  due-turn e m mark = rw (← cell, ← turn, eq-eqb t 3 e, ← mark)
-
-  pub due-not : (t ≡ 3 → ⊥) → false ≡ (eqb (turnOf (getD cells i 0)) 3 && eqb (getD told i 0) 0)
-  due-not e = rw (← cell, ← turn, ne-eqb t 3 e)

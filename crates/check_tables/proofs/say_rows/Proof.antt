@@ -1,26 +1,27 @@
--- From the end of the way back.
+-- One row after the other.
+use Prim.Native.Nat.{_-_}
 use native.Mathlib.Omega.{arith}
 use borrow.Author.Needs.{needs}
-use Rattle.check_tables.proofs.order.say_back.Statement.{statement}
-use Rattle.check_tables.proofs.order.say_back.Tie as tie
+use Rattle.check_tables.proofs.say_rows.Statement.{statement}
+use Rattle.check_tables.proofs.say_rows.Tie as tie
 
 abbrev Inv-loop : tie.InvT-loop
-Inv-loop tables halves bytes cells n way depth k₀ k = Unit {0}
+Inv-loop tables halves bytes cells n order count k₀ k = Unit {0}
 
 abbrev μ-loop : tie.MeasureT-loop
-μ-loop tables halves bytes cells n way depth k₀ k = k
+μ-loop tables halves bytes cells n order count k₀ k = count - k
 
 loop-holds : tie.Need-loop-holds Inv-loop μ-loop
 loop-holds c = tt
 
-sub-k : tie.Need-sub-k Inv-loop μ-loop
-sub-k c = omega arith
-
-way-at-requires : tie.Need-way-at-requires Inv-loop μ-loop
-way-at-requires c κs = search needs
+row-in-requires : tie.Need-row-in-requires Inv-loop μ-loop
+row-in-requires c κs = search needs
 
 say-row-requires : tie.Need-say-row-requires Inv-loop μ-loop
 say-row-requires c κs = search needs
+
+add-k : tie.Need-add-k Inv-loop μ-loop
+add-k c = omega arith
 
 loop-less : tie.Need-loop-less Inv-loop μ-loop
 loop-less c = omega arith
@@ -31,16 +32,16 @@ loop-again c = tt
 returns : tie.Need-returns Inv-loop μ-loop
 returns c = search needs
 
-pub say-back-spec : {M : Type 1} → statement M
-say-back-spec =
+pub say-rows-spec : {M : Type 1} → statement M
+say-rows-spec =
     tie.close
     (tie.spec
     Inv-loop
     μ-loop
     loop-holds
-    sub-k
-    way-at-requires
+    row-in-requires
     say-row-requires
+    add-k
     loop-less
     loop-again
     returns)

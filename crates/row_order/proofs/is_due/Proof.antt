@@ -1,8 +1,8 @@
 -- By the turn and the mark.
-use Rattle.check_tables.proofs.OrderLaws.{due-turn, due-not}
+use Rattle.row_order.proofs.TurnLaws.{due-turn, due-not}
 use borrow.Author.Needs.{needs}
-use Rattle.check_tables.proofs.order.is_due.Statement.{statement}
-use Rattle.check_tables.proofs.order.is_due.Tie as tie
+use Rattle.row_order.proofs.is_due.Statement.{statement}
+use Rattle.row_order.proofs.is_due.Tie as tie
 
 half-at-requires : tie.Need-half-at-requires
 half-at-requires c κs = search needs

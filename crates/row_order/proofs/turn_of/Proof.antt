@@ -1,7 +1,7 @@
 -- By the reason.
-use Rattle.check_tables.proofs.OrderLaws.{turn-good, turn-formed, turn-naming, turn-keyed}
-use Rattle.check_tables.proofs.order.turn_of.Statement.{statement}
-use Rattle.check_tables.proofs.order.turn_of.Tie as tie
+use Rattle.row_order.proofs.TurnLaws.{turn-good, turn-formed, turn-naming, turn-keyed}
+use Rattle.row_order.proofs.turn_of.Statement.{statement}
+use Rattle.row_order.proofs.turn_of.Tie as tie
 
 returns : tie.Need-returns
 returns c = turn-good _ (c .if1 .taken)

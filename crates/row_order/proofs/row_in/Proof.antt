@@ -3,8 +3,8 @@ use mathlib.Core.Path.{sym}
 use lib.ListN.{List·getD-eq-default}
 use native.Mathlib.Omega.{arith}
 use borrow.Author.Needs.{needs}
-use Rattle.check_tables.proofs.order.way_at.Statement.{statement}
-use Rattle.check_tables.proofs.order.way_at.Tie as tie
+use Rattle.row_order.proofs.row_in.Statement.{statement}
+use Rattle.row_order.proofs.row_in.Tie as tie
 
 mul-result : tie.Need-mul-result
 mul-result c = search needs
@@ -16,7 +16,7 @@ returns : tie.Need-returns
 returns c = search needs
 
 returns-2 : tie.Need-returns-2
-returns-2 c = sym (List·getD-eq-default (c .before .args .way .now) 0 {n = c .before .args .k} (omega arith))
+returns-2 c = sym (List·getD-eq-default (c .before .args .order .now) 0 {n = c .before .args .k} (omega arith))
 
-pub way-at-spec : {M : Type 1} → statement M
-way-at-spec = tie.close (tie.spec mul-result shared-slice-read-result returns returns-2)
+pub row-in-spec : {M : Type 1} → statement M
+row-in-spec = tie.close (tie.spec mul-result shared-slice-read-result returns returns-2)

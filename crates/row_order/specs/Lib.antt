@@ -1,0 +1,2 @@
+pub mod RowOrder
+pub mod Telling
