@@ -16,14 +16,11 @@ use words::say::words;
 
 fn say_usage() {
     words(b"usage: survey DIR NAME FILE (identify | extract | engineer)\n");
-    words(b"  DIR   a directory with the tables pid.dat to ocp.dat\n");
-    words(b"  NAME  the parameter whose occurrence 0 is extracted or engineered\n");
-    words(b"  FILE  packets end to end, as an archive has them\n");
     words(
-        b"It says how many packets are answered, and the sum of the answers, by which two surveys can be compared:\n",
+        b"  DIR   a directory with the tables pid.dat to ocp.dat\n  NAME  a parameter, of which occurrence 0 is asked for\n",
     );
     words(
-        b"SPIDs, or valid values without their sign; a string or a text counts as the place where it starts.\n",
+        b"  FILE  packets end to end, as an archive has them\nAn answer weighs its SPID, its value without sign, or where its text starts.\n",
     );
 }
 

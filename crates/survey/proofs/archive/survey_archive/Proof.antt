@@ -19,8 +19,8 @@ at-start-requires c κs = search needs
 returns : tie.Need-returns
 returns c = surveyed-start _ _ _ (c .at-start .ensures)
 
-take-blocks-requires : tie.Need-take-blocks-requires
-take-blocks-requires c κs = search needs
+survey-open-requires : tie.Need-survey-open-requires
+survey-open-requires c κs = search needs
 
 short-requires : tie.Need-short-requires
 short-requires c κs = search needs
@@ -43,7 +43,7 @@ survey-archive-spec =
     say-unread-requires
     at-start-requires
     returns
-    take-blocks-requires
+    survey-open-requires
     short-requires
     say-end-requires
     close-requires

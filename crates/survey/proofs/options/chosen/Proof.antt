@@ -1,5 +1,5 @@
 -- By the name that it is.
-use Rattle.survey.proofs.ChoiceLaws.{chosen-identify, chosen-extract, chosen-engineer, chosen-none}
+use Rattle.survey.proofs.ChoiceLaws.{compared, chosen-identify, chosen-extract, chosen-engineer, chosen-none}
 use borrow.Author.Needs.{needs}
 use Rattle.survey.proofs.options.chosen.Statement.{statement}
 use Rattle.survey.proofs.options.chosen.Tie as tie
@@ -17,7 +17,10 @@ same-name-requires : tie.Need-same-name-requires
 same-name-requires c κs = search needs
 
 returns : tie.Need-returns
-returns c = chosen-identify _ (cc)
+returns c =
+    let i = c .before in
+    let n = i .before .before .before in
+    chosen-identify _ (compared (i .same-name .ensures) (n .name-of .ensures) (i .before .name-of2 .ensures) (c .if1 .taken))
 
 slice-aggregate-name-of-2 : tie.Need-slice-aggregate-name-of-2
 slice-aggregate-name-of-2 c = search needs
@@ -29,7 +32,13 @@ same-name-requires-2 : tie.Need-same-name-requires-2
 same-name-requires-2 c κs = search needs
 
 returns-2 : tie.Need-returns-2
-returns-2 c = chosen-extract _ (cc) (cc)
+returns-2 c =
+    let x = c .before in
+    let f = x .before .before .before in
+    let i = f .before in
+    let n = i .before .before .before in
+    chosen-extract _ (compared (i .same-name .ensures) (n .name-of .ensures) (i .before .name-of2 .ensures) (f .if1 .left))
+    (compared (x .same-name2 .ensures) (n .name-of .ensures) (x .before .name-of3 .ensures) (c .if2 .taken))
 
 slice-aggregate-name-of-3 : tie.Need-slice-aggregate-name-of-3
 slice-aggregate-name-of-3 c = search needs
@@ -41,10 +50,28 @@ same-name-requires-3 : tie.Need-same-name-requires-3
 same-name-requires-3 c κs = search needs
 
 returns-3 : tie.Need-returns-3
-returns-3 c = chosen-engineer _ (cc) (cc) (cc)
+returns-3 c =
+    let e = c .before in
+    let g = e .before .before .before in
+    let x = g .before in
+    let f = x .before .before .before in
+    let i = f .before in
+    let n = i .before .before .before in
+    chosen-engineer _ (compared (i .same-name .ensures) (n .name-of .ensures) (i .before .name-of2 .ensures) (f .if1 .left))
+    (compared (x .same-name2 .ensures) (n .name-of .ensures) (x .before .name-of3 .ensures) (g .if2 .left))
+    (compared (e .same-name3 .ensures) (n .name-of .ensures) (e .before .name-of4 .ensures) (c .if3 .taken))
 
 returns-4 : tie.Need-returns-4
-returns-4 c = chosen-none _ (cc) (cc) (cc)
+returns-4 c =
+    let e = c .before in
+    let g = e .before .before .before in
+    let x = g .before in
+    let f = x .before .before .before in
+    let i = f .before in
+    let n = i .before .before .before in
+    chosen-none _ (compared (i .same-name .ensures) (n .name-of .ensures) (i .before .name-of2 .ensures) (f .if1 .left))
+    (compared (x .same-name2 .ensures) (n .name-of .ensures) (x .before .name-of3 .ensures) (g .if2 .left))
+    (compared (e .same-name3 .ensures) (n .name-of .ensures) (e .before .name-of4 .ensures) (c .if3 .left))
 
 pub chosen-spec : {M : Type 1} → statement M
 chosen-spec =
