@@ -2,7 +2,7 @@
 use mathlib.Core.Path.{_≡_, refl}
 use mathlib.Core.Bool.{true}
 use Rattle.outcomes.specs.Outcome.{Outcome, refused, answer}
-use Rattle.outcomes.specs.Refusals.{numberOf, placeOf, refusedBy}
+use Rattle.outcomes.specs.Refusals.{refusalNumber, refusalPlace, refusedBy}
 use Rattle.outcomes.specs.declared.Refusal.the-variants.{NotNewer}
 use Rattle.limit_state.specs.declared.state.LimitState.{LimitState}
 use Rattle.accepting.specs.Accepted.{stateAfter}
@@ -21,5 +21,5 @@ pub record Answers (offered : LimitState) (outcome : Outcome LimitState) (r : St
   pub after : r .state ≡ stateAfter offered outcome
 
 pub example : saidStep (Refused NotNewer) (record { fresh = true; apid = 0; count = 0; run = 0; announced = 0 }) ≡ refused 35 0
-unfolding saidStep refusedBy numberOf placeOf
+unfolding saidStep refusedBy refusalNumber refusalPlace
 example = refl

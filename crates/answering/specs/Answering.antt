@@ -3,7 +3,7 @@ use Prim.Native.Nat.{ℕ}
 use mathlib.Core.Path.{_≡_, refl}
 use mathlib.Core.List.{List, []}
 use Rattle.outcomes.specs.Outcome.{Outcome, refused}
-use Rattle.outcomes.specs.Refusals.{numberOf, placeOf, refusedBy}
+use Rattle.outcomes.specs.Refusals.{refusalNumber, refusalPlace, refusedBy}
 use Rattle.outcomes.specs.declared.Refusal.the-variants.{FieldLeaves}
 use Rattle.database.specs.Rows.{Rows}
 use Rattle.identification.specs.Identification.{Identity, identifyBy, saidIdentified}
@@ -46,5 +46,5 @@ Answering ask p name (LimitStep s) (Stepped r) = Answers s (ask LimitState (λ r
 
 -- where all is refused with 28 at byte 14, an extraction is
 pub example : Answering (λ _ _. refused 28 14) [] [] (Extract 0) (Read (Refused (FieldLeaves (record { 0 = 14 }))))
-unfolding Answering saidReading refusedBy numberOf placeOf
+unfolding Answering saidReading refusedBy refusalNumber refusalPlace
 example = refl

@@ -10,13 +10,13 @@ use borrow.Author.Tests.{le-leb, lt-leb}
 use Rattle.lines.specs.Columns.{partOf}
 use Rattle.archives.specs.declared.Framed.{Framed}
 use Rattle.archives.specs.declared.Framed.the-variants.{Whole, Cut}
-use Rattle.archives.specs.Packets.{lengthSaid, isWhole, packetsIn, leftIn}
+use Rattle.archives.specs.Packets.{lengthSaid, isComplete, packetsIn, leftIn}
 use Rattle.archives.specs.Framing.{framedAt}
 use Rattle.archives.proofs.PacketLaws.{said-least, whole-long, packets-whole, left-whole}
 
 module _ (bytes : List ℕ) (at : ℕ) where
   beyond : (n : ℕ) → lengthSaid (drop at bytes) ≡ n → length bytes - at < n → Cut ≡ framedAt bytes at
-  unfolding framedAt isWhole
+  unfolding framedAt isComplete
   beyond n e h = rw (lt-leb (lengthSaid (drop at bytes)) (length (drop at bytes)) (simp length-drop (omega arith)))
 
   -- fewer bytes than the shortest packet has
@@ -32,7 +32,7 @@ module _ (bytes : List ℕ) (at : ℕ) where
     framed-cut h = beyond (a * 256 + b + 7) said-here h
 
     pub framed-whole : a * 256 + b + 7 ≤ length bytes - at → Whole (at + (a * 256 + b + 7)) ≡ framedAt bytes at
-    unfolding framedAt isWhole
+    unfolding framedAt isComplete
     framed-whole h =
         rw (le-leb (lengthSaid (drop at bytes)) (length (drop at bytes)) (simp length-drop (omega (arith, said-here))), said-here)
 
@@ -47,13 +47,13 @@ said-cut true n e = absurd (let z : _≡_ {A = ℕ} 0 1 = cc in omega arith)
 said-cut false n e = refl
 
 module _ (bytes : List ℕ) (at : ℕ) where
-  pub whole-says : {end : ℕ} → framedAt bytes at ≡ Whole end → (isWhole (drop at bytes) ≡ true) × (end ≡ at + lengthSaid (drop at bytes))
+  pub whole-says : {end : ℕ} → framedAt bytes at ≡ Whole end → (isComplete (drop at bytes) ≡ true) × (end ≡ at + lengthSaid (drop at bytes))
   unfolding framedAt
-  whole-says {end} e = said-whole (isWhole (drop at bytes)) (at + lengthSaid (drop at bytes)) end e
+  whole-says {end} e = said-whole (isComplete (drop at bytes)) (at + lengthSaid (drop at bytes)) end e
 
-  pub cut-says : framedAt bytes at ≡ Cut → isWhole (drop at bytes) ≡ false
+  pub cut-says : framedAt bytes at ≡ Cut → isComplete (drop at bytes) ≡ false
   unfolding framedAt
-  cut-says e = said-cut (isWhole (drop at bytes)) (at + lengthSaid (drop at bytes)) e
+  cut-says e = said-cut (isComplete (drop at bytes)) (at + lengthSaid (drop at bytes)) e
 
 -- a whole packet is the next of the packets, and those behind it are the others
 module _ (bytes : List ℕ) (at : ℕ) {end : ℕ} (w : framedAt bytes at ≡ Whole end) where

@@ -11,17 +11,17 @@ unfoldable pub lengthSaid : List ℕ → ℕ
 lengthSaid bytes = getD bytes 4 0 * 256 + getD bytes 5 0 + 7
 
 -- the packet that starts here is there to its end
-unfoldable pub isWhole : List ℕ → Bool
-isWhole bytes = leb (lengthSaid bytes) (length bytes)
+unfoldable pub isComplete : List ℕ → Bool
+isComplete bytes = leb (lengthSaid bytes) (length bytes)
 
 -- the packets of so many at most, and the bytes behind them
 unfoldable pub packetsUpto : ℕ → List ℕ → List (List ℕ)
 packetsUpto zero bytes = []
-packetsUpto (suc n) bytes = cond (isWhole bytes) (take (lengthSaid bytes) bytes ∷ packetsUpto n (drop (lengthSaid bytes) bytes)) []
+packetsUpto (suc n) bytes = cond (isComplete bytes) (take (lengthSaid bytes) bytes ∷ packetsUpto n (drop (lengthSaid bytes) bytes)) []
 
 unfoldable pub leftUpto : ℕ → List ℕ → List ℕ
 leftUpto zero bytes = bytes
-leftUpto (suc n) bytes = cond (isWhole bytes) (leftUpto n (drop (lengthSaid bytes) bytes)) bytes
+leftUpto (suc n) bytes = cond (isComplete bytes) (leftUpto n (drop (lengthSaid bytes) bytes)) bytes
 
 -- all packets, of which there are fewer than bytes
 unfoldable pub packetsIn : List ℕ → List (List ℕ)
@@ -45,5 +45,5 @@ pub record Examples : Type 0 where
   pub left : leftIn bytes ≡ 0x08 ∷ 0x0A ∷ 0xC0 ∷ []
 
 pub examples : Examples
-unfolding lengthSaid isWhole packetsUpto leftUpto packetsIn leftIn
+unfolding lengthSaid isComplete packetsUpto leftUpto packetsIn leftIn
 examples = record { shortest = refl; packets = refl; left = refl }

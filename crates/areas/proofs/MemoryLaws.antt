@@ -10,7 +10,7 @@ use borrow.Author.Tests.{lt-ltb, le-ltb}
 use Rattle.laws.proofs.Lists.{split}
 use Rattle.lines.specs.Columns.{partOf}
 use Rattle.tables.specs.Parts.{partSize}
-use Rattle.areas.specs.Memory.{Memory, Kept, areaIn, cleared, added, areaCount}
+use Rattle.areas.specs.Memory.{Memory, KeptMemory, areaIn, cleared, added, areaCount}
 use Rattle.areas.specs.Memory.{unread}
 
 -- Bytes put one after the other
@@ -66,5 +66,5 @@ module _ (m : Memory) (t : ℕ) (bytes : List ℕ) where
 
 -- what is kept, part by part
 pub kept-parts : (r : Bool) {s s′ e e′ : List ℕ} → s ≡ s′ → e ≡ e′
-    → _≡_ {A = Kept} (record { readable = r; space = s; ends = e }) (record { readable = r; space = s′; ends = e′ })
+    → _≡_ {A = KeptMemory} (record { readable = r; space = s; ends = e }) (record { readable = r; space = s′; ends = e′ })
 kept-parts r p q = λ i. record { readable = r; space = p i; ends = q i }

@@ -21,15 +21,15 @@ abbrev pub memory : (space ends : List ℕ) → Memory
 memory space ends = record { space = space; ends = ends }
 
 -- whether a line could be read, and the memory after it
-pub record Kept : Type 0 where
+pub record KeptMemory : Type 0 where
   pub readable : Bool
   pub space : List ℕ
   pub ends : List ℕ
 
-abbrev pub kept : Bool → (space ends : List ℕ) → Kept
+abbrev pub kept : Bool → (space ends : List ℕ) → KeptMemory
 kept readable space ends = record { readable = readable; space = space; ends = ends }
 
-unfoldable pub unread : Memory → Kept
+unfoldable pub unread : Memory → KeptMemory
 unread m = record { readable = false; space = m .space; ends = m .ends }
 
 -- the tables' areas come first, and the packet's after them
@@ -47,8 +47,8 @@ spaceSize = areaCount * partSize
 unfoldable pub areaIn : Memory → ℕ → List ℕ
 areaIn m t = cond (ltb t areaCount) (partOf (m .space) (t * partSize) (getD (m .ends) t 0)) []
 
-unfoldable pub tablesIn : Memory → List (List ℕ)
-tablesIn m = tables.tablesIn (m .space) (m .ends)
+unfoldable pub areaTables : Memory → List (List ℕ)
+areaTables m = tables.tablesIn (m .space) (m .ends)
 
 -- an area without bytes
 unfoldable pub cleared : List ℕ → ℕ → List ℕ
@@ -63,7 +63,7 @@ unfoldable pub allCleared : List ℕ → List ℕ
 allCleared ends = firstCleared areaCount ends
 
 -- bytes added to an area, where there is room for them
-unfoldable pub added : Memory → ℕ → List ℕ → Kept
+unfoldable pub added : Memory → ℕ → List ℕ → KeptMemory
 added m t bytes =
     cond (ltb t areaCount)
     (cond (ltb (length (m .space)) (t * partSize + partSize)) (unread m)

@@ -8,7 +8,7 @@ ghost use mathlib.Core.List.{map};
 ghost use Prim.Native.Nat.{_+_, _≤_};
 ghost use lib.ListN.{length, getD};
 ghost use lib.Seq.{sets};
-ghost use Rattle.areas.specs.Memory.{memory, kept, areaIn, tablesIn, cleared, allCleared, added};
+ghost use Rattle.areas.specs.Memory.{memory, kept, areaIn, areaTables, cleared, allCleared, added};
 
 // The tables' areas come first, and the packet's after them.
 pub const PACKET: usize = TABLES;
@@ -39,7 +39,7 @@ pub fn area_in<'a>(space: &'a [u8], ends: &[usize], t: usize) -> &'a [u8]
 }
 
 pub fn tables_in<'a>(space: &'a [u8], ends: &[usize]) -> [&'a [u8]; TABLES]
-    ensures { λ r. ⌜ map now r ≡ tablesIn (memory (now (space .entry)) (now (ends .entry))) ⌝ }
+    ensures { λ r. ⌜ map now r ≡ areaTables (memory (now (space .entry)) (now (ends .entry))) ⌝ }
 {
     tables::tables_in(space, ends)
 }

@@ -15,7 +15,7 @@ use Rattle.lines.specs.Lines.{Line}
 use Rattle.lines.specs.declared.names.CurveName.{CurveName}
 use Rattle.schemas.specs.declared.Table.{Table}
 use Rattle.schemas.specs.declared.Table.the-variants.{Caf, Cap}
-use Rattle.schemas.specs.Schema.{Column, Kind, aNumber, natural! }
+use Rattle.schemas.specs.Schema.{Column, ColumnKind, aNumber, natural! }
 use Rattle.schemas.specs.Tables.{schema, caf}
 use Rattle.schemas.specs.Reasons.{kindReason, columnReason}
 use Rattle.schemas.proofs.Meaning.{Absent, Given, column-fine}
@@ -82,7 +82,7 @@ natural-least c t lowest highest default q m h e = ⊎-elim absent given (column
 
     given : Given c t → lowest ≤ naturalOr default t
     given g =
-        let n = natural-column lowest highest default t h (ap (λ (k : Kind). kindReason k t) (sym q) ∙ g .kind-fits) in
+        let n = natural-column lowest highest default t h (ap (λ (k : ColumnKind). kindReason k t) (sym q) ∙ g .kind-fits) in
         omega (arith, n .low, n .says)
 
 ncurve-two : (line : Line) → formed Caf line ≡ 0 → 2 ≤ cafRow (line .bytes) .ncurve

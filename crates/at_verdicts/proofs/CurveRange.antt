@@ -16,7 +16,7 @@ use Rattle.laws.specs.Said.{Said, value, refused as refusedWith, free}
 use Rattle.laws.proofs.Cases.{false≢true, false-of, cond-cases, and-left, and-right, and-both}
 use Rattle.rows.specs.declared.letters.OffEnds.{OffEnds}
 use Rattle.rows.specs.declared.letters.OffEnds.the-variants.{Extrapolate, Refuse}
-use Rattle.curves.specs.Line.{within, isCoordinate, isPoint, isSegment, isRaw, heightAt, resultOf, lineAt}
+use Rattle.curves.specs.Line.{isBetween, isCoordinate, isPoint, isSegment, isRaw, heightAt, resultOf, lineAt}
 use Rattle.curves.specs.declared.line.Point.{Point}
 use Rattle.curves.proofs.LineLaws.{through-second}
 use Rattle.calibration.specs.Nearest.{passes, notAbove, below, above}
@@ -36,7 +36,7 @@ use Rattle.at_verdicts.proofs.NumberLaws.{Numbered}
 
 -- 01: "−2,147,483,648 to 2,147,483,647"
 abbrev fits : ℤ → Bool
-fits z = within (negsuc 2147483647) (pos 2147483647) z
+fits z = isBetween (negsuc 2147483647) (pos 2147483647) z
 
 -- an answer that isn't 30 is 31 where the height doesn't fit, and only there
 record Told (o : Outcome ℤ) (height : ℤ) : Type 0 where
@@ -105,7 +105,7 @@ module _ (numbers : List ℕ) (n30 : any (eqb 30) (0 ∷ numbers) ≡ true) (n31
 
 -- 01: "YVALS 14!, each −1,073,741,824 to 1,073,741,823"
 coordinate-fits : (y : ℤ) → isCoordinate y ≡ true → fits y ≡ true
-unfolding isCoordinate within
+unfolding isCoordinate isBetween
 coordinate-fits (pos n) e = let h = leb-true n 1073741823 e in le-leb n 2147483647 (omega arith)
 coordinate-fits (negsuc n) e = let h = leb-true n 1073741823 (and-left (leb n 1073741823) true e) in and-both (le-leb n 2147483647 (omega arith)) refl
 
@@ -125,7 +125,7 @@ module _ (c : Curve) (sound : Sound (c .xs) (c .ys)) (raw : ℤ) (is : isRaw raw
 
   -- at the last point the line through it and the one below it is as high as it
   last-fits : (i : ℕ) → Nearest NotAbove xs raw (length xs) (At i) → ltZ (x i) raw ≡ false → fits (heightBy xs ys (below xs (x i)) (At i) raw) ≡ true
-  unfolding passes heightBy within pointAt isPoint
+  unfolding passes heightBy isBetween pointAt isPoint
   last-fits i a f = by (below xs (x i)) (below-nearest xs (x i))
     where
       by : (b : Found) → Nearest Below xs (x i) (length xs) b → fits (heightBy xs ys b (At i) raw) ≡ true

@@ -16,7 +16,7 @@ use Rattle.lines.specs.Lines.{Line}
 use Rattle.lines.specs.declared.names.CurveName.{CurveName}
 use Rattle.schemas.specs.declared.Table.{Table}
 use Rattle.schemas.specs.declared.Table.the-variants.{Cap}
-use Rattle.schemas.specs.Schema.{Column, Kind, aNumber, integer! }
+use Rattle.schemas.specs.Schema.{Column, ColumnKind, aNumber, integer! }
 use Rattle.schemas.specs.Tables.{schema, cap}
 use Rattle.schemas.specs.Reasons.{kindReason, columnReason}
 use Rattle.schemas.proofs.Meaning.{Absent, Given, column-fine, number-fine}
@@ -24,7 +24,7 @@ use Rattle.rows.specs.Records.{cafRow, capRow}
 use Rattle.rows.specs.Values.{integerOr}
 use Rattle.formed.specs.Formed.{formed}
 use Rattle.formed.proofs.Meaning.{column-passes, integer-column}
-use Rattle.curves.specs.Line.{within, isCoordinate, isPoint, isRaw}
+use Rattle.curves.specs.Line.{isBetween, isCoordinate, isPoint, isRaw}
 use Rattle.calibration.specs.Curve.{pointAt}
 use Rattle.verdicts.specs.Key.{Key, curve, point}
 use Rattle.verdicts.specs.Facts.{factsOf, capFacts}
@@ -46,8 +46,8 @@ use Rattle.at_verdicts.proofs.CurveRange.{out-of-range}
 -- A coordinate. 01: "XVALS 14! and YVALS 14!, each −1,073,741,824 to 1,073,741,823"
 
 integer-within : (c : Column) (t : List ℕ) (lowest highest default : ℤ) → c .kind ≡ aNumber lowest highest → c .mandatory ≡ true → natAbs lowest < 2 ^ 60
-    → natAbs highest < 2 ^ 60 → columnReason c t ≡ 0 → within lowest highest (integerOr default t) ≡ true
-unfolding within
+    → natAbs highest < 2 ^ 60 → columnReason c t ≡ 0 → isBetween lowest highest (integerOr default t) ≡ true
+unfolding isBetween
 integer-within c t lowest highest default q m l h e = ⊎-elim absent given (column-fine c t e)
   where
     absent : Absent c t → (leZ lowest (integerOr default t) && leZ (integerOr default t) highest) ≡ true
@@ -55,7 +55,7 @@ integer-within c t lowest highest default q m l h e = ⊎-elim absent given (col
 
     given : Given c t → (leZ lowest (integerOr default t) && leZ (integerOr default t) highest) ≡ true
     given g =
-        let k : kindReason (aNumber lowest highest) t ≡ 0 = ap (λ (k : Kind). kindReason k t) (sym q) ∙ g .kind-fits in
+        let k : kindReason (aNumber lowest highest) t ≡ 0 = ap (λ (k : ColumnKind). kindReason k t) (sym q) ∙ g .kind-fits in
         let n = number-fine lowest highest t k in
         rw (integer-column lowest highest default t l h k) (and-both (n .low) (n .high))
 

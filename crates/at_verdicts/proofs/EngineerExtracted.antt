@@ -28,7 +28,7 @@ use Rattle.curve_values.specs.Along.{along}
 use Rattle.engineering.specs.Engineering.{Engineered, asValue, engineered}
 use Rattle.calls.specs.Tables.{afterSizes, asking}
 use Rattle.extraction.specs.Extraction.{extractBy}
-use Rattle.extraction.specs.Engineering.{ofValue, engineerBy}
+use Rattle.extraction.specs.Engineering.{engineeredFrom, engineerBy}
 use Rattle.calls.specs.Calls.{extractOf, engineerOf}
 use Rattle.at_verdicts.proofs.NumberLaws.{numberIn, Numbered, never-one, one-then, then-refused, earlier}
 use Rattle.at_verdicts.proofs.StepRows.{located-found}
@@ -54,7 +54,7 @@ engineered-numbers rows r raw = go (r .categ) (r .curtx .given) refl refl
 
 module _ (rows : Rows) (p name : List ℕ) (k n place : ℕ) (other : any (eqb n) (0 ∷ engineering) ≡ false) where
   abbrev asks : Reading → Outcome Engineered
-  asks r = ofValue rows (nameOf name) (r .value)
+  asks r = engineeredFrom rows (nameOf name) (r .value)
 
   -- what is read has its pcf row
   read-described : (r : Reading) → extractBy rows p name k ≡ answer r → (pcf : Row) × (rows .holder (parameter (nameOf name)) ≡ some pcf)
@@ -66,8 +66,8 @@ module _ (rows : Rows) (p name : List ℕ) (k n place : ℕ) (other : any (eqb n
       let f = located-found rows (nameOf name) (a .0 .spid) (b .0) (b .1) in
       (f .pcf, f .described)
 
-  value-numbers : (v : Value) (pcf : Row) → rows .holder (parameter (nameOf name)) ≡ some pcf → Numbered engineering (ofValue rows (nameOf name) v)
-  unfolding ofValue needed andThen
+  value-numbers : (v : Value) (pcf : Row) → rows .holder (parameter (nameOf name)) ≡ some pcf → Numbered engineering (engineeredFrom rows (nameOf name) v)
+  unfolding engineeredFrom needed andThen
   value-numbers (part start bytes) pcf e = refl
   value-numbers (number z) pcf e = rw e (engineered-numbers rows (pcfRow (pcf .bytes)) z)
 

@@ -28,7 +28,7 @@ use Rattle.readings.specs.Readings.{Reading, withValidity, readingWith, validit
 use Rattle.engineering.specs.Engineering.{Engineered, value, engineered}
 use Rattle.calls.specs.Tables.{afterSizes, asking}
 use Rattle.extraction.specs.Extraction.{extractBy}
-use Rattle.extraction.specs.Engineering.{ofValue, engineerBy}
+use Rattle.extraction.specs.Engineering.{engineeredFrom, engineerBy}
 use Rattle.calls.specs.Calls.{engineerOf}
 use Rattle.at_verdicts.specs.OffCurve.{OffItsCurve, OutOfItsRange, ReadSo}
 use Rattle.at_verdicts.specs.NoText.{Textless}
@@ -97,12 +97,12 @@ module _ (texts : List (List ℕ)) (p name : List ℕ) (k : ℕ) where
   -- What is made of it
 
   value-is : (z : ℤ) (row : Row) → ofTables texts .holder (parameter (nameOf name)) ≡ some row
-      → ofValue (ofTables texts) (nameOf name) (number z) ≡ engineered (ofTables texts) (pcfRow (row .bytes)) z
-  unfolding ofValue needed andThen
+      → engineeredFrom (ofTables texts) (nameOf name) (number z) ≡ engineered (ofTables texts) (pcfRow (row .bytes)) z
+  unfolding engineeredFrom needed andThen
   value-is z row e = rw e
 
-  value-none : (z : ℤ) → ofTables texts .holder (parameter (nameOf name)) ≡ none → ofValue (ofTables texts) (nameOf name) (number z) ≡ refused 26 0
-  unfolding ofValue needed andThen
+  value-none : (z : ℤ) → ofTables texts .holder (parameter (nameOf name)) ≡ none → engineeredFrom (ofTables texts) (nameOf name) (number z) ≡ refused 26 0
+  unfolding engineeredFrom needed andThen
   value-none z e = rw e
 
   -- a refusal that isn't of an extraction is what the value's own refusal means
@@ -111,18 +111,18 @@ module _ (texts : List (List ℕ)) (p name : List ℕ) (k : ℕ) where
       (exactly : (row : Row) → ofTables texts .holder (parameter (nameOf name)) ≡ some row → (raw : ℤ) → isRaw raw ≡ true
       → (engineered (ofTables texts) (pcfRow (row .bytes)) raw ≡ refused n 0) ↔ so (pcfRow (row .bytes)) raw) where
     read-so : engineerBy (ofTables texts) p name k ≡ refused n 0 → ReadSo (ofTables texts) p name k so
-    unfolding engineerBy ofValue
+    unfolding engineerBy engineeredFrom
     read-so e = go (w .0 .value) (ofTables texts .holder (parameter (nameOf name))) refl refl
       where
-        w : (r : Reading) × (extractBy (ofTables texts) p name k ≡ answer r) × (ofValue (ofTables texts) (nameOf name) (r .value) ≡ refused n 0)
+        w : (r : Reading) × (extractBy (ofTables texts) p name k ≡ answer r) × (engineeredFrom (ofTables texts) (nameOf name) (r .value) ≡ refused n 0)
         w =
-            later n 0 (extractBy (ofTables texts) p name k) (λ r. ofValue (ofTables texts) (nameOf name) (r .value)) (extract-never n x y z) e
+            later n 0 (extractBy (ofTables texts) p name k) (λ r. engineeredFrom (ofTables texts) (nameOf name) (r .value)) (extract-never n x y z) e
 
         never : (o : Outcome Engineered) → Numbered (26 ∷ []) o → o ≡ refused n 0 → ⊥
         never o h q = never-one n (26 ∷ []) o x h (ap (λ (o : Outcome Engineered). numberIn o) q)
 
-        told : {v : Value} → w .0 .value ≡ v → ofValue (ofTables texts) (nameOf name) v ≡ refused n 0
-        told q = ap (ofValue (ofTables texts) (nameOf name)) (sym q) ∙ w .2
+        told : {v : Value} → w .0 .value ≡ v → engineeredFrom (ofTables texts) (nameOf name) v ≡ refused n 0
+        told q = ap (engineeredFrom (ofTables texts) (nameOf name)) (sym q) ∙ w .2
 
         go : (v : Value) (o : Option Row) → w .0 .value ≡ v → ofTables texts .holder (parameter (nameOf name)) ≡ o → ReadSo (ofTables texts) p name k so
         go (part start bytes) o q f = absurd (never (answer (value (part start bytes))) refl (told q))
@@ -141,8 +141,8 @@ module _ (texts : List (List ℕ)) (p name : List ℕ) (k : ℕ) where
     so-read : ReadSo (ofTables texts) p name k so → engineerBy (ofTables texts) p name k ≡ refused n 0
     unfolding engineerBy
     so-read u =
-        then-is (extractBy (ofTables texts) p name k) (λ r. ofValue (ofTables texts) (nameOf name) (r .value)) (u .reading) (u .read)
-        ∙ ap (ofValue (ofTables texts) (nameOf name)) (u .isNumber) ∙ value-is (u .raw) (u .row) (u .described)
+        then-is (extractBy (ofTables texts) p name k) (λ r. engineeredFrom (ofTables texts) (nameOf name) (r .value)) (u .reading) (u .read)
+        ∙ ap (engineeredFrom (ofTables texts) (nameOf name)) (u .isNumber) ∙ value-is (u .raw) (u .row) (u .described)
         ∙ exactly (u .row) (u .described) (u .raw) (extract-raw (u .reading) (u .raw) (u .read) (u .isNumber)) .1 (u .is)
 
     -- of the call, with tables that fit

@@ -32,7 +32,7 @@ use Rattle.identifiers.specs.Identifiers.{readIdentifier, identifierAt, identif
 use Rattle.five_numbers.specs.Numbers.{picRowOf, identifiersFrom, fiveNumbers}
 use Rattle.identification.specs.Identification.{chosen, chooseBy, identifyHeaded, identifyBy}
 use Rattle.headers.specs.declared.Head.{Head}
-use Rattle.raw_values.specs.RawValues.{isString, Wide, startOf, valueAt, partAt, fieldRaw, rawIn, rawOf}
+use Rattle.raw_values.specs.RawValues.{isString, TypeWidth, startOf, valueAt, packetPart, fieldRaw, rawIn, rawOf}
 use Rattle.raw_values.proofs.RawLaws.{width-wide}
 use Rattle.at_verdicts.proofs.NumberLaws.{Numbered, one-then}
 
@@ -102,17 +102,17 @@ module _ {B : Type 0} (make : Value → Outcome B) (ofNumber : (z : ℤ) → Num
       (cond-cases (λ (s : Said). Numbered reading (andThen (valueAt at number s) make)) (inside p at n) (λ _. ofNumber (meant _)) (λ _. refl))
 
   string-made : (p : List ℕ) (at n : ℕ) → (n ≡ 0 → ⊥) → ((start bytes : ℕ) → Numbered reading (make (part start bytes)))
-      → Numbered reading (andThen (valueAt at (partAt at n) (stringAt p at n)) make)
+      → Numbered reading (andThen (valueAt at (packetPart at n) (stringAt p at n)) make)
   unfolding stringAt valueAt andThen
   string-made p at n h ofPart =
-      cond-cases (λ (s : Said). Numbered reading (andThen (valueAt at (partAt at n) s) make)) (eqb n 0)
+      cond-cases (λ (s : Said). Numbered reading (andThen (valueAt at (packetPart at n) s) make)) (eqb n 0)
       (λ t. absurd (h (eqb-true n 0 t)))
-      (λ _. cond-cases (λ (s : Said). Numbered reading (andThen (valueAt at (partAt at n) s) make)) (inside p at (n * 8))
-      (λ _. cond-cases (λ (s : Said). Numbered reading (andThen (valueAt at (partAt at n) s) make)) (eqb (at % 8) 0) (λ _. ofPart (at / 8) n) (λ _. refl))
+      (λ _. cond-cases (λ (s : Said). Numbered reading (andThen (valueAt at (packetPart at n) s) make)) (inside p at (n * 8))
+      (λ _. cond-cases (λ (s : Said). Numbered reading (andThen (valueAt at (packetPart at n) s) make)) (eqb (at % 8) 0) (λ _. ofPart (at / 8) n) (λ _. refl))
       (λ _. refl))
 
   module _ (ptc : ℕ) (ofPart : isString ptc ≡ true → (start bytes : ℕ) → Numbered reading (make (part start bytes))) where
-    field-made : (p : List ℕ) (n at : ℕ) → Wide ptc n → Numbered reading (andThen (fieldRaw p ptc n at) make)
+    field-made : (p : List ℕ) (n at : ℕ) → TypeWidth ptc n → Numbered reading (andThen (fieldRaw p ptc n at) make)
     unfolding fieldRaw signedAt unsignedAt
     field-made p n at w =
         cond-cases (λ (o : Outcome Value). Numbered reading (andThen o make)) (isString ptc)
@@ -122,7 +122,7 @@ module _ {B : Type 0} (make : Value → Outcome B) (ofNumber : (z : ℤ) → Num
         (λ _. integer-made (complementOf n) p at n y)
         (λ _. integer-made pos p at n y))
 
-    in-made : (p : List ℕ) (plf : PlfRow) (k n : ℕ) → Wide ptc n → Numbered reading (andThen (rawIn p plf ptc k (some n)) make)
+    in-made : (p : List ℕ) (plf : PlfRow) (k n : ℕ) → TypeWidth ptc n → Numbered reading (andThen (rawIn p plf ptc k (some n)) make)
     unfolding rawIn andThen
     in-made p plf k n w =
         cond-cases (λ (o : Outcome Value). Numbered reading (andThen o make)) (ltb k (plf .nbocc)) (λ _. field-made p n (startOf plf k) w) (λ _. refl)

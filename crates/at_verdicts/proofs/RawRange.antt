@@ -23,10 +23,10 @@ use Rattle.fields.proofs.FieldLaws.{field-read}
 use Rattle.fields.proofs.SignLaws.{signed-range}
 use Rattle.rows.specs.declared.records.PlfRow.{PlfRow}
 use Rattle.rows.specs.declared.records.PcfRow.{PcfRow}
-use Rattle.curves.specs.Line.{within, isRaw}
+use Rattle.curves.specs.Line.{isBetween, isRaw}
 use Rattle.outcomes.specs.Outcome.{Outcome, answer, refused}
 use Rattle.outcomes.specs.Values.{Value, number}
-use Rattle.raw_values.specs.RawValues.{isString, Wide, startOf, valueAt, partAt, fieldRaw, rawIn, rawOf}
+use Rattle.raw_values.specs.RawValues.{isString, TypeWidth, startOf, valueAt, packetPart, fieldRaw, rawIn, rawOf}
 use Rattle.raw_values.proofs.RawLaws.{width-wide}
 
 abbrev Ranged : Outcome Value → Type 0
@@ -41,19 +41,19 @@ number-ranged at (value x) h z e = h z (let q : x ≡ z = cc in ap value (sym q)
 number-ranged at (refusedWith n) h z e = absurd (let w : _≡_ {A = ℕ} 0 1 = cc in omega arith)
 number-ranged at free h z e = absurd (let w : _≡_ {A = ℕ} 0 1 = cc in omega arith)
 
-part-ranged : (at bytes : ℕ) (s : Said) → Ranged (valueAt at (partAt at bytes) s)
+part-ranged : (at bytes : ℕ) (s : Said) → Ranged (valueAt at (packetPart at bytes) s)
 unfolding valueAt
 part-ranged at bytes (value x) z e = absurd (let w : _≡_ {A = ℕ} 0 1 = cc in omega arith)
 part-ranged at bytes (refusedWith n) z e = absurd (let w : _≡_ {A = ℕ} 0 1 = cc in omega arith)
 part-ranged at bytes free z e = absurd (let w : _≡_ {A = ℕ} 0 1 = cc in omega arith)
 
 small-raw : (z : ℤ) → mag z < 2 ^ 31 → isRaw z ≡ true
-unfolding isRaw within
+unfolding isRaw isBetween
 small-raw (pos n) h = le-leb n 4294967295 (omega arith)
 small-raw (negsuc n) h = and-both (le-leb n 2147483647 (omega arith)) refl
 
 natural-raw : (n : ℕ) → n < 2 ^ 32 → isRaw (pos n) ≡ true
-unfolding isRaw within
+unfolding isRaw isBetween
 natural-raw n h = le-leb n 4294967295 (omega arith)
 
 module _ (p : List ℕ) (at n : ℕ) (narrow : n ≤ 32) where
@@ -65,7 +65,7 @@ module _ (p : List ℕ) (at n : ℕ) (narrow : n ≤ 32) where
   unsigned-raw z e =
       ap isRaw (field-read pos p at n z e .is) ∙ natural-raw (numberAt p at n) (lt-of-lt-of-le (number-lt p at n) (pow-mono {j = 32} narrow))
 
-field-ranged : (p : List ℕ) (ptc n at : ℕ) → Wide ptc n → Ranged (fieldRaw p ptc n at)
+field-ranged : (p : List ℕ) (ptc n at : ℕ) → TypeWidth ptc n → Ranged (fieldRaw p ptc n at)
 unfolding fieldRaw
 field-ranged p ptc n at w =
     cond-cases Ranged (isString ptc) (λ _. part-ranged at (n / 8) _)

@@ -11,7 +11,7 @@ use borrow.Author.Tests.{eqb-true, ne-eqb, eq-eqb, le-ltb, ltb-true, ltb-false, 
 use Rattle.laws.proofs.Cases.{bool-cases, false≢true}
 use Rattle.fields.specs.Place.{inside}
 use Rattle.fields.specs.Text.{stringAt}
-use Rattle.fields.specs.Width.{widthOf, within}
+use Rattle.fields.specs.Width.{widthOf, bitsWithin}
 use Rattle.rows.specs.declared.records.PlfRow.{PlfRow}
 use Rattle.rows.specs.declared.records.PcfRow.{PcfRow}
 use Rattle.outcomes.specs.Outcome.{answer, refused}
@@ -21,8 +21,8 @@ use Rattle.at_verdicts.specs.Fields.{isThere}
 use Rattle.at_verdicts.proofs.FieldCases.{there-is, raw-is, raw-out, raw-here}
 
 -- 01: "7, 8 | 1–255 | 8 × PFC": a string has whole bytes, and some
-bytes-within : (pfc n : ℕ) → within pfc 1 255 (8 * pfc) ≡ some n → (n / 8 * 8 ≡ n) × (n / 8 ≡ 0 → ⊥)
-unfolding within
+bytes-within : (pfc n : ℕ) → bitsWithin pfc 1 255 (8 * pfc) ≡ some n → (n / 8 * 8 ≡ n) × (n / 8 ≡ 0 → ⊥)
+unfolding bitsWithin
 bytes-within pfc n e = go (leb 1 pfc) (leb pfc 255) refl e
   where
     go : (a b : Bool) → leb 1 pfc ≡ a → cond (a && b) (some (8 * pfc)) none ≡ some n → (n / 8 * 8 ≡ n) × (n / 8 ≡ 0 → ⊥)

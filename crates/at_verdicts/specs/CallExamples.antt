@@ -13,14 +13,14 @@ use Rattle.rows.specs.Values.{naturalFrom, naturalOr, integerFrom, integerOr, l
 use Rattle.rows.specs.Values.{categoryOf, natureOf, formatOf, offEndsOf}
 use Rattle.rows.specs.Records.{column, pidRow, plfRow, pcfRow, cafRow, capRow, txpRow}
 use Rattle.rows.specs.declared.letters.OffEnds.the-variants.{Extrapolate, Refuse}
-use Rattle.fields.specs.Width.{widthOf, integerWidth, within}
+use Rattle.fields.specs.Width.{widthOf, integerWidth, bitsWithin}
 use Rattle.fields.specs.Bits.{bitAt, numberAt}
 use Rattle.fields.specs.Place.{bitInside, inside}
 use Rattle.fields.specs.Field.{isWidth, fieldAt, unsignedAt}
 use Rattle.fields.specs.Sign.{complementOf, signedAt}
 use Rattle.fields.specs.Figures.{packet}
 use Rattle.curves.specs.Floor.{floorDiv}
-use Rattle.curves.specs.Line.{within as lies, heightAt}
+use Rattle.curves.specs.Line.{isBetween as lies, heightAt}
 use Rattle.calibration.specs.Nearest.{passes, nearer, closer, better, nearestOf, notAbove, below, above}
 use Rattle.calibration.specs.Curve.{pointAt}
 use Rattle.headers.specs.Header.{version, typeBit, flagged, apid, sequenceCount, lengthField, headOf}
@@ -45,10 +45,10 @@ use Rattle.at_verdicts.specs.OffCurve.{OffItsCurve, OutOfItsRange, ReadS
 use Rattle.at_verdicts.specs.NoText.{Textless}
 use Rattle.at_verdicts.specs.Fields.{allInside, isThere}
 use Rattle.at_verdicts.specs.Placed.{Placed, NoOccurrence, Leaves, OffByte}
-use Rattle.at_verdicts.specs.ExampleRows.{line, pid, seven, off, out, textless, leaves, string, curve, placedBy}
+use Rattle.at_verdicts.specs.ExampleRows.{line, pidLine, seven, off, out, textless, leaves, string, curve, placedBy}
 
 pub record Examples : Type 0 where
-  pub unlocated : Unlocated (among (pid ∷ [])) packet (ascii "T1")
+  pub unlocated : Unlocated (among (pidLine ∷ [])) packet (ascii "T1")
   pub no-occurrence : NoOccurrence leaves packet (ascii "T1") 2
   pub second-leaves : Leaves leaves packet (ascii "T1") 1 14
   pub off-byte : OffByte string packet (ascii "T1") 0 10
@@ -76,7 +76,7 @@ unfolding
     pidRow plfRow pcfRow cafRow capRow txpRow column columnsOf columnsFrom placesOf placesFrom nameOf curveNameOf
     naturalOr naturalFrom integerOr integerFrom numberOf meaning spelt after digitOn digitOf
     optionalName isGiven optionalCurve letterOf validOf categoryOf natureOf formatOf offEndsOf
-    rawOf rawIn startOf fieldRaw isString valueAt widthOf integerWidth within
+    rawOf rawIn startOf fieldRaw isString valueAt widthOf integerWidth bitsWithin
     unsignedAt signedAt complementOf fieldAt isWidth inside bitInside numberAt bitAt packet
 examples =
     let placedLeaves : Placed leaves packet (ascii "T1") = placedBy leaves (line 2 "T1;7;12;0;2;16") (line 3 "T1;;;;3;12;;;;N;R") refl refl refl in

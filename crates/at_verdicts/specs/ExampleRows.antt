@@ -26,8 +26,8 @@ abbrev pub line : (table : ℕ) → String → Row
 line table text = record { table = table; number = 1; start = 0; bytes = map (λ b. cond (eqb b (char ";")) 9 b) (ascii text) }
 
 -- 01's packet, of APID 10 and count 0, is one of SPID 7
-abbrev pub pid : Row
-pid = line 0 "3;25;10;0;0;7"
+abbrev pub pidLine : Row
+pidLine = line 0 "3;25;10;0;0;7"
 
 abbrev pub seven : Identity
 seven = record { row = 1; spid = 7; numbers = record { ptype = 3; stype = 25; apid = 10; pi1 = 0; pi2 = 0 } }
@@ -42,27 +42,27 @@ new = record { fresh = true; apid = 0; count = 0; run = 0; announced = 0 }
 abbrev pub off : Rows
 off =
     among (
-    pid ∷ line 2 "T1;7;10;0" ∷ line 3 "T1;;;;4;4;;;;N;R;C1" ∷ line 4 "C1;;I;I;;;2;F" ∷ line 5 "C1;0;0" ∷ line 5 "C1;10;100" ∷ line 8 "T1;1;1;C;I" ∷ []
+    pidLine ∷ line 2 "T1;7;10;0" ∷ line 3 "T1;;;;4;4;;;;N;R;C1" ∷ line 4 "C1;;I;I;;;2;F" ∷ line 5 "C1;0;0" ∷ line 5 "C1;10;100" ∷ line 8 "T1;1;1;C;I" ∷ []
     )
 
 -- T1 is unsigned 16 at byte 12, so 4,660, and a million times that is out of range
 abbrev pub out : Rows
 out =
     among (
-    pid ∷ line 2 "T1;7;12;0" ∷ line 3 "T1;;;;3;12;;;;N;R;C1" ∷ line 4 "C1;;I;I;;;2;P" ∷ line 5 "C1;0;0" ∷ line 5 "C1;1;1000000" ∷ line 8 "T1;1;1;C;I" ∷ []
+    pidLine ∷ line 2 "T1;7;12;0" ∷ line 3 "T1;;;;3;12;;;;N;R;C1" ∷ line 4 "C1;;I;I;;;2;P" ∷ line 5 "C1;0;0" ∷ line 5 "C1;1;1000000" ∷ line 8 "T1;1;1;C;I" ∷ []
     )
 
 -- the same with a text from 0 to 100 only
 abbrev pub textless : Rows
-textless = among (pid ∷ line 2 "T1;7;12;0" ∷ line 3 "T1;;;;3;12;;;;S;R;X1" ∷ line 7 "X1;0;100;LOW" ∷ [])
+textless = among (pidLine ∷ line 2 "T1;7;12;0" ∷ line 3 "T1;;;;3;12;;;;S;R;X1" ∷ line 7 "X1;0;100;LOW" ∷ [])
 
 -- T1 has two occurrences of 16 bits, of which the second leaves the packet
 abbrev pub leaves : Rows
-leaves = among (pid ∷ line 2 "T1;7;12;0;2;16" ∷ line 3 "T1;;;;3;12;;;;N;R" ∷ line 8 "T1;1;1;U;I" ∷ [])
+leaves = among (pidLine ∷ line 2 "T1;7;12;0;2;16" ∷ line 3 "T1;;;;3;12;;;;N;R" ∷ line 8 "T1;1;1;U;I" ∷ [])
 
 -- T1 is a string of two bytes from bit 1 of byte 10 on
 abbrev pub string : Rows
-string = among (pid ∷ line 2 "T1;7;10;1" ∷ line 3 "T1;;;;8;2;;;;T;R" ∷ [])
+string = among (pidLine ∷ line 2 "T1;7;10;1" ∷ line 3 "T1;;;;8;2;;;;T;R" ∷ [])
 
 -- from (0,0) on
 abbrev pub curve : OffEnds → (x y : ℕ) → Curve

@@ -5,7 +5,7 @@ use mathlib.Core.List.{List}
 use mathlib.Core.Option.{Option, none, some}
 use Prim.Native.Nat.{ℕ}
 use Rattle.fields.specs.Place.{bitInside, inside}
-use Rattle.fields.specs.Width.{widthOf, integerWidth, within}
+use Rattle.fields.specs.Width.{widthOf, integerWidth, bitsWithin}
 use Rattle.fields.specs.Figures.{packet}
 use Rattle.rows.specs.declared.records.PlfRow.{PlfRow}
 use Rattle.rows.specs.declared.records.PcfRow.{PcfRow}
@@ -26,5 +26,5 @@ pub record Examples : Type 0 where
   pub from-bit-1 : allInside packet 89 (widthOf 3 13) ≡ false
 
 pub examples : Examples
-unfolding allInside inside bitInside widthOf integerWidth within packet
+unfolding allInside inside bitInside widthOf integerWidth bitsWithin packet
 examples = record { fits = refl; from-bit-1 = refl }

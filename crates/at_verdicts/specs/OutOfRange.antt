@@ -6,7 +6,7 @@ use lib.IntN.{ℤ, pos, negsuc}
 use lib.ListN.{getD}
 use Rattle.rows.specs.declared.letters.OffEnds.the-variants.{Extrapolate, Refuse}
 use Rattle.curves.specs.Floor.{floorDiv}
-use Rattle.curves.specs.Line.{within, heightAt}
+use Rattle.curves.specs.Line.{isBetween, heightAt}
 use Rattle.calibration.specs.Nearest.{passes, nearer, closer, better, nearestOf, notAbove, below, above}
 use Rattle.calibration.specs.Curve.{pointAt}
 use Rattle.calibration.specs.declared.nearest.Found.{Found}
@@ -33,7 +33,7 @@ heightOn c x = heightPlaced (c .xs) (c .ys) (notAbove (c .xs) x) (above (c .xs) 
 
 -- 01: "31 … curve result outside −2,147,483,648 to 2,147,483,647"; 30 comes before it
 unfoldable pub isOutOfRange : Curve → ℤ → Bool
-isOutOfRange c raw = not (isOffCurve c raw) && not (within (negsuc 2147483647) (pos 2147483647) (heightOn c raw))
+isOutOfRange c raw = not (isOffCurve c raw) && not (isBetween (negsuc 2147483647) (pos 2147483647) (heightOn c raw))
 
 -- through (0,0) and (1,1000): a million times 1,000 fits, three million times doesn't, and off an F curve it is 30
 pub record Examples : Type 0 where
@@ -43,6 +43,6 @@ pub record Examples : Type 0 where
 
 pub examples : Examples
 unfolding
-    isOutOfRange heightOn heightPlaced heightBy isOffCurve isOff isF within heightAt floorDiv pointAt
+    isOutOfRange heightOn heightPlaced heightBy isOffCurve isOff isF isBetween heightAt floorDiv pointAt
     notAbove below above nearestOf better closer nearer passes
 examples = record { fits = refl; beyond = refl; off = refl }

@@ -14,14 +14,14 @@ use Rattle.rows.specs.Values.{naturalFrom, naturalOr, integerFrom, integerOr, l
 use Rattle.rows.specs.Values.{categoryOf, natureOf, formatOf, offEndsOf, limitValueOf, limitCodingOf}
 use Rattle.rows.specs.Records.{column, pidRow, plfRow, pcfRow, cafRow, capRow, ocfRow}
 use Rattle.rows.specs.declared.letters.OffEnds.the-variants.{Extrapolate, Refuse}
-use Rattle.fields.specs.Width.{widthOf, integerWidth, within}
+use Rattle.fields.specs.Width.{widthOf, integerWidth, bitsWithin}
 use Rattle.fields.specs.Bits.{bitAt, numberAt}
 use Rattle.fields.specs.Place.{bitInside, inside}
 use Rattle.fields.specs.Field.{isWidth, fieldAt, unsignedAt}
 use Rattle.fields.specs.Sign.{complementOf, signedAt}
 use Rattle.fields.specs.Figures.{packet}
 use Rattle.curves.specs.Floor.{floorDiv}
-use Rattle.curves.specs.Line.{within as lies, heightAt}
+use Rattle.curves.specs.Line.{isBetween as lies, heightAt}
 use Rattle.calibration.specs.Nearest.{passes, nearer, closer, better, nearestOf, notAbove, below, above}
 use Rattle.calibration.specs.Curve.{pointAt}
 use Rattle.headers.specs.Header.{version, typeBit, flagged, apid, sequenceCount, lengthField, headOf}
@@ -45,11 +45,11 @@ use Rattle.at_verdicts.specs.Fields.{allInside, isThere}
 use Rattle.at_verdicts.specs.Placed.{Placed, plfOf, pcfOf}
 use Rattle.at_verdicts.specs.Taken.{Taken}
 use Rattle.at_verdicts.specs.StepValues.{StepLeaves, StepOffCurve, StepOutOfRange}
-use Rattle.at_verdicts.specs.ExampleRows.{line, pid, seven, figure, new, off, out, leaves, curve, placedBy}
+use Rattle.at_verdicts.specs.ExampleRows.{line, pidLine, seven, figure, new, off, out, leaves, curve, placedBy}
 
 pub record Examples : Type 0 where
-  pub unlimited : Unlimited (among (pid ∷ [])) packet (ascii "T1") new
-  pub step-unlocated : StepUnlocated (among (pid ∷ line 8 "T1;1;1;U;I" ∷ [])) packet (ascii "T1") new
+  pub unlimited : Unlimited (among (pidLine ∷ [])) packet (ascii "T1") new
+  pub step-unlocated : StepUnlocated (among (pidLine ∷ line 8 "T1;1;1;U;I" ∷ [])) packet (ascii "T1") new
   pub step-leaves : StepLeaves leaves packet (ascii "T1") new 14
   pub step-off : StepOffCurve off packet (ascii "T1") new
   pub step-out : StepOutOfRange out packet (ascii "T1") new
@@ -85,7 +85,7 @@ unfolding
     pidRow plfRow pcfRow cafRow capRow ocfRow column columnsOf columnsFrom nameOf curveNameOf
     naturalOr naturalFrom integerOr integerFrom numberOf meaning spelt after digitOn digitOf
     optionalName isGiven optionalCurve letterOf validOf categoryOf natureOf formatOf offEndsOf limitValueOf limitCodingOf
-    rawOf rawIn startOf fieldRaw isString valueAt widthOf integerWidth within
+    rawOf rawIn startOf fieldRaw isString valueAt widthOf integerWidth bitsWithin
     unsignedAt signedAt complementOf fieldAt isWidth inside bitInside numberAt bitAt packet
 examples =
     let placedLeaves : Placed leaves packet (ascii "T1") = placedBy leaves (line 2 "T1;7;12;0;2;16") (line 3 "T1;;;;3;12;;;;N;R") refl refl refl in

@@ -12,7 +12,7 @@ use borrow.Author.Tests.{le-leb, leb-true}
 use Rattle.laws.specs.Said.{value}
 use Rattle.laws.proofs.Cases.{and-left, and-right, and-both}
 use Rattle.rows.specs.declared.letters.OffEnds.{OffEnds}
-use Rattle.curves.specs.Line.{within, isCoordinate, isPoint, isSegment, isRaw, resultOf, lineAt}
+use Rattle.curves.specs.Line.{isBetween, isCoordinate, isPoint, isSegment, isRaw, resultOf, lineAt}
 use Rattle.curves.specs.declared.line.Point.{Point}
 use Rattle.curves.proofs.LineLaws.{through-first, line-is}
 use Rattle.calibration.specs.Nearest.{passes, nearer, notAbove, above}
@@ -25,8 +25,8 @@ use Rattle.calibration.proofs.NearestOf.{Nearest, not-above-nearest, ab
 use Rattle.calibration.proofs.CurveLaws.{at-last}
 
 -- what lies in a range about 0 lies in a wider one
-wider : (a b c d : ℕ) (z : ℤ) → a ≤ c → b ≤ d → within (negsuc a) (pos b) z ≡ true → within (negsuc c) (pos d) z ≡ true
-unfolding within
+wider : (a b c d : ℕ) (z : ℤ) → a ≤ c → b ≤ d → isBetween (negsuc a) (pos b) z ≡ true → isBetween (negsuc c) (pos d) z ≡ true
+unfolding isBetween
 wider a b c d (pos n) h k e = let l = leb-true n b (and-right true (leb n b) e) in le-leb n d (omega arith)
 wider a b c d (negsuc n) h k e = let l = leb-true n a (and-left (leb n a) true e) in and-both (le-leb n c (omega arith)) refl
 

@@ -10,7 +10,7 @@ use Rattle.laws.specs.Said.{Said, value, refused, free}
 use Rattle.rows.specs.declared.letters.OffEnds.{OffEnds}
 use Rattle.rows.specs.declared.letters.OffEnds.the-variants.{Extrapolate, Refuse}
 use Rattle.curves.specs.Floor.{floorDiv}
-use Rattle.curves.specs.Line.{within, isCoordinate, isPoint, isSegment, isRaw, heightAt, resultOf, lineAt}
+use Rattle.curves.specs.Line.{isBetween, isCoordinate, isPoint, isSegment, isRaw, heightAt, resultOf, lineAt}
 use Rattle.curves.specs.declared.line.Point.{Point}
 use Rattle.calibration.specs.Nearest.{passes, nearer, closer, better, nearestOf, notAbove, below, above}
 use Rattle.calibration.specs.declared.nearest.Found.{Found}
@@ -54,11 +54,11 @@ placed ends xs ys x Nothing Nothing = refused 30
 unfoldable pub curveAt : OffEnds → List ℤ → List ℤ → ℤ → Said
 curveAt ends xs ys x = placed ends xs ys x (notAbove xs x) (above xs x)
 
-unfoldable pub said : CurveValue → Said
-said (Is y) = value y
-said OffCurve = refused 30
-said Beyond = refused 31
-said NoLine = free
+unfoldable pub saidCurve : CurveValue → Said
+saidCurve (Is y) = value y
+saidCurve OffCurve = refused 30
+saidCurve Beyond = refused 31
+saidCurve NoLine = free
 
 -- of the point (7,9) alone: 7 gives 9, and 30 off it, under P too
 of-one : (
@@ -80,5 +80,5 @@ of-three : (
     )
 unfolding
     curveAt placed fromLast beforeFirst offEnd through pointAt notAbove below above nearestOf better closer nearer passes
-    lineAt isSegment isPoint isCoordinate isRaw within resultOf heightAt floorDiv
+    lineAt isSegment isPoint isCoordinate isRaw isBetween resultOf heightAt floorDiv
 of-three = (refl, refl, refl, refl, refl)

@@ -1,7 +1,7 @@
 // The value of a curve, whose points stand in any order: the X of each in one array, and its Y in another.
 ghost use mathlib.Core.Path.{_≡_};
 ghost use Rattle.curves.specs.Line.{saidOnLine};
-ghost use Rattle.calibration.specs.Curve.{pointAt, through, offEnd, fromLast, beforeFirst, curveAt, said};
+ghost use Rattle.calibration.specs.Curve.{pointAt, through, offEnd, fromLast, beforeFirst, curveAt, saidCurve};
 use crate::ints::item;
 use crate::nearest::Found;
 use crate::nearest::above;
@@ -24,7 +24,7 @@ pub enum CurveValue {
 }
 
 fn of_line(line: OnLine) -> CurveValue
-    ensures { λ r. ⌜ said r ≡ saidOnLine line ⌝ }
+    ensures { λ r. ⌜ saidCurve r ≡ saidOnLine line ⌝ }
 {
     match line {
         OnLine::Is(y) => CurveValue::Is(y),
@@ -45,7 +45,7 @@ fn point(xs: &[i64], ys: &[i64], i: usize) -> Point
 
 // The line through two points at x, where there are two.
 fn line_through(xs: &[i64], ys: &[i64], from: Found, to: Found, x: i64) -> CurveValue
-    ensures { λ r. ⌜ said r ≡ through (now (xs .entry)) (now (ys .entry)) from to x ⌝ }
+    ensures { λ r. ⌜ saidCurve r ≡ through (now (xs .entry)) (now (ys .entry)) from to x ⌝ }
 {
     let Found::At(i) = from else {
         return CurveValue::OffCurve;
@@ -58,7 +58,7 @@ fn line_through(xs: &[i64], ys: &[i64], from: Found, to: Found, x: i64) -> Curve
 
 // Off an end: P goes on along the line through two points.
 fn off_end(xs: &[i64], ys: &[i64], ends: OffEnds, from: Found, to: Found, x: i64) -> CurveValue
-    ensures { λ r. ⌜ said r ≡ offEnd ends (through (now (xs .entry)) (now (ys .entry)) from to x) ⌝ }
+    ensures { λ r. ⌜ saidCurve r ≡ offEnd ends (through (now (xs .entry)) (now (ys .entry)) from to x) ⌝ }
 {
     match ends {
         OffEnds::Extrapolate => line_through(xs, ys, from, to, x),
@@ -68,7 +68,7 @@ fn off_end(xs: &[i64], ys: &[i64], ends: OffEnds, from: Found, to: Found, x: i64
 
 // At the last point, i, or past it.
 fn from_last(xs: &[i64], ys: &[i64], ends: OffEnds, i: usize, x: i64) -> CurveValue
-    ensures { λ r. ⌜ said r ≡ fromLast ends (now (xs .entry)) (now (ys .entry)) i x ⌝ }
+    ensures { λ r. ⌜ saidCurve r ≡ fromLast ends (now (xs .entry)) (now (ys .entry)) i x ⌝ }
 {
     let last = item(xs, i);
     if less(last, x) {
@@ -79,7 +79,7 @@ fn from_last(xs: &[i64], ys: &[i64], ends: OffEnds, i: usize, x: i64) -> CurveVa
 
 // Before the first point, j.
 fn before_first(xs: &[i64], ys: &[i64], ends: OffEnds, j: usize, x: i64) -> CurveValue
-    ensures { λ r. ⌜ said r ≡ beforeFirst ends (now (xs .entry)) (now (ys .entry)) j x ⌝ }
+    ensures { λ r. ⌜ saidCurve r ≡ beforeFirst ends (now (xs .entry)) (now (ys .entry)) j x ⌝ }
 {
     let next = above(xs, item(xs, j));
     off_end(xs, ys, ends, Found::At(j), next, x)
@@ -87,7 +87,7 @@ fn before_first(xs: &[i64], ys: &[i64], ends: OffEnds, j: usize, x: i64) -> Curv
 
 // The curve's value at the raw value x.
 pub fn curve_at(xs: &[i64], ys: &[i64], ends: OffEnds, x: i64) -> CurveValue
-    ensures { λ r. ⌜ said r ≡ curveAt ends (now (xs .entry)) (now (ys .entry)) x ⌝ }
+    ensures { λ r. ⌜ saidCurve r ≡ curveAt ends (now (xs .entry)) (now (ys .entry)) x ⌝ }
 {
     let low = not_above(xs, x);
     let high = above(xs, x);

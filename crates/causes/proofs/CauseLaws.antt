@@ -15,7 +15,7 @@ use Rattle.verdicts.specs.Verdicts.{sound, tally, follows, next, circle, verdic
 use Rattle.verdicts.specs.Good.{Chain, last, then}
 use Rattle.verdicts.proofs.StepLaws.{rival-step, column-step, chain-step}
 use Rattle.verdicts.proofs.CircleLaw.{circle-law}
-use Rattle.causes.specs.Causes.{reasonOf, columnIn, shares, counted, named, follower, speaksOf, causes}
+use Rattle.causes.specs.Causes.{reasonOf, columnOfVerdict, shares, counted, named, follower, speaksOf, causes}
 
 -- to a row of a group that it counts
 counted-step : (e o : Entry) → counts e o ≡ true → step e o ≡ true
@@ -36,7 +36,7 @@ module _ (rows : List Entry) (e o : Entry) (column : ℕ) where
 pub one-step : (rows : List Entry) (v : ℕ) (e o : Entry) → speaksOf rows v e o ≡ true → step e o ≡ true
 unfolding speaksOf
 one-step rows v e o t =
-    by-reason rows e o (columnIn v) (eqb (reasonOf v) 9) (eqb (reasonOf v) 10) (eqb (reasonOf v) 11) (eqb (reasonOf v) 12) t
+    by-reason rows e o (columnOfVerdict v) (eqb (reasonOf v) 9) (eqb (reasonOf v) 10) (eqb (reasonOf v) 11) (eqb (reasonOf v) 12) t
 
 -- and so is reached: where a cause is replaced, demand 3 lets the verdict change
 pub cause-reached : (rows : List Entry) (e : Entry) {o : Entry} → List·Memᴰ o (causes rows e) → Reach rows o e

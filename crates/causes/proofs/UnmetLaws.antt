@@ -10,19 +10,19 @@ use borrow.Author.Tests.{eq-eqb}
 use Rattle.laws.specs.Lists.{any, orElse, first}
 use Rattle.laws.proofs.Cases.{bool-cases, false-of, false≢true}
 use Rattle.laws.proofs.Tests.{any-keep, any-mem}
-use Rattle.schemas.specs.Reasons.{verdict as verdictOf}
+use Rattle.schemas.specs.Reasons.{reasonAt as verdictOf}
 use Rattle.lines.specs.Lines.{Line, linesOf}
 use Rattle.schemas.specs.declared.Table.{Table}
 use Rattle.schemas.specs.declared.Table.the-variants.{Pid, Pic, Plf, Pcf, Caf, Cap, Txf, Txp, Ocf, Ocp}
 use Rattle.formed.specs.Formed.{formed}
 use Rattle.verdicts.specs.Facts.{Naming, Count, pidFacts, picFacts, plfFacts, pcfFacts, cafFacts, capFacts, txfFacts, txpFacts, ocfFacts, ocpFacts, factsOf}
-use Rattle.verdicts.specs.Entries.{Entry, bad, fine, readingOf, own, said, facts, carried, allRows}
+use Rattle.verdicts.specs.Entries.{Entry, bad, fine, readingOf, own, factsIn, facts, carried, allRows}
 use Rattle.verdicts.specs.Steps.{holds}
 use Rattle.verdicts.specs.Verdicts.{tally, shared, countCell, circle, ofKind, asked, nameCell, judge, verdict}
 use Rattle.verdicts.specs.Places.{textAt, noLine, entryAt}
 use Rattle.verdicts.proofs.EntryLaws.{row-of}
 use Rattle.verdicts.proofs.VerdictLaw.{verdict-law}
-use Rattle.causes.specs.Causes.{reasonOf, columnIn}
+use Rattle.causes.specs.Causes.{reasonOf, columnOfVerdict}
 
 -- the first that isn't 0 is one of them
 first-some : {A : Type 0} (f : A → ℕ) (l : List A) → (first (map f l) ≡ 0 → ⊥) → (a : A) × List·Memᴰ a l × (f a ≡ first (map f l))
@@ -54,7 +54,7 @@ module _ (rows : List Entry) (e : Entry) where
   -- this column names no row that is there, good and of the kind asked
   pub record Unmet (n : Naming) : Type 0 where
     pub among : List·Memᴰ n (facts e .names)
-    pub column : n .column ≡ columnIn (verdict rows e)
+    pub column : n .column ≡ columnOfVerdict (verdict rows e)
     pub none : (o : Entry) → List·Memᴰ o rows → holds o (n .key) ≡ true → verdict rows o ≡ 0 → ofKind rows (n .kind) o ≡ false
 
   unmet-cell : (n : Naming) (v : ℕ) → nameCell rows isGood n ≡ v → v / 256 ≡ 11 → (any isGood (asked rows n) ≡ false) × (v ≡ 2816 + n .column)
@@ -102,7 +102,7 @@ counts-low Ocp line m = absurd (List·Memᴰ·not-nil m)
 
 -- a row that isn't well-formed counts nothing
 said-low : (t : Table) (line : Line) (b : Bool) (v : ℕ) {c : Count}
-    → List·Memᴰ c (said (cond b (fine (factsOf t (line .bytes))) (bad v)) .counts) → c .column < 256
+    → List·Memᴰ c (factsIn (cond b (fine (factsOf t (line .bytes))) (bad v)) .counts) → c .column < 256
 said-low t line true v m = counts-low t (line .bytes) m
 said-low t line false v m = absurd (List·Memᴰ·not-nil m)
 

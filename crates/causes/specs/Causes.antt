@@ -12,8 +12,8 @@ use Rattle.verdicts.specs.Verdicts.{sound, follows, verdict}
 abbrev pub reasonOf : ℕ → ℕ
 reasonOf v = v / 256
 
-abbrev pub columnIn : ℕ → ℕ
-columnIn v = v % 256
+abbrev pub columnOfVerdict : ℕ → ℕ
+columnOfVerdict v = v % 256
 
 -- 01: "9 key held by another row too": every other row that holds one of its keys
 abbrev pub shares : Entry → Entry → Bool
@@ -36,7 +36,7 @@ unfoldable pub speaksOf : List Entry → (verdict : ℕ) → Entry → Entry →
 speaksOf rows v e o =
     cond (eqb (reasonOf v) 9) (shares e o)
     (cond (eqb (reasonOf v) 10) (counted rows e o)
-    (cond (eqb (reasonOf v) 11) (named (columnIn v) e o)
+    (cond (eqb (reasonOf v) 11) (named (columnOfVerdict v) e o)
     (cond (eqb (reasonOf v) 12) (follower rows e o)
     false)))
 

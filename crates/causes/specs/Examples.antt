@@ -24,18 +24,18 @@ use Rattle.verdicts.specs.Verdicts.{ofKind, asked, nameCell, judge, within, ver
 use Rattle.causes.specs.Causes.{speaksOf, causes}
 
 -- a row by the number of its table, from 0, and its own
-pub record Place : Type 0 where
+pub record RowPlace : Type 0 where
   pub table : ℕ
   pub row : ℕ
 
-abbrev at : ℕ → ℕ → Place
+abbrev at : ℕ → ℕ → RowPlace
 at t r = record { table = t; row = r }
 
-abbrev placeOf : Entry → Place
+abbrev placeOf : Entry → RowPlace
 placeOf e = at (e .table) (e .row)
 
 -- for each row the places of those that its verdict speaks of
-abbrev causesIn : List Entry → List (List Place)
+abbrev causesIn : List Entry → List (List RowPlace)
 causesIn rows = map (λ e. map placeOf (causes rows e)) rows
 
 -- a row by its columns
@@ -78,7 +78,7 @@ odd r name = record { table = 3; row = r; reading = fine (pcfSays name [] false)
 abbrev valid : String → Naming
 valid name = record { column = 8; key = parameter (nameOf (ascii name)); kind = itself whole; chained = true }
 
-abbrev pcf : ℕ → Place
+abbrev pcf : ℕ → RowPlace
 pcf r = at 3 r
 
 pub record FromFacts : Type 0 where

@@ -20,7 +20,7 @@ use Rattle.tables.specs.Sizes.{fit, refusedBy, sizesOf}
 use Rattle.tables.proofs.SizeLaws.{few}
 use Rattle.cells.specs.declared.Cell.the-variants.{At, NoCell}
 use Rattle.cells.specs.declared.TableCells.{TableCells}
-use Rattle.cells.specs.Cells.{isFit, fits, isTable, isRow, cellOf, noCells, cellsOf, cellIn, verdictIn}
+use Rattle.cells.specs.Cells.{isFit, haveCells, isTable, isRow, cellOf, noCells, cellsOf, cellIn, verdictIn}
 
 on : {A : Type 0} {t : Bool} (a b : A) → t ≡ true → cond t a b ≡ a
 on a b e = rw e
@@ -66,16 +66,16 @@ module _ (texts : List (List ℕ)) (n : ℕ) where
   unfolding cellsOf
   no-table h =
       let e : isTable n ≡ false = false-of (isTable n) (λ t. h (table-low n t) (table-high n t)) in
-      let none : (fits texts && isTable n) ≡ false = rw e (and-false (fits texts)) in
+      let none : (haveCells texts && isTable n) ≡ false = rw e (and-false (haveCells texts)) in
       sym (off (record { start = rowsBefore texts (n - 1); end = rowsBefore texts n }) noCells none)
 
   pub refused-cells : {number place : ℕ} → sizesOf texts ≡ refusedBy number place → noCells ≡ cellsOf texts n
-  unfolding cellsOf fits
+  unfolding cellsOf haveCells
   refused-cells e = rw e
 
   pub fitting-cells : (cells : TableCells) → sizesOf texts ≡ fit → 0 < n → n ≤ tableCount
       → cells .start ≡ rowsBefore texts (n - 1) → cells .end ≡ rowsBefore texts (suc (n - 1)) → cells ≡ cellsOf texts n
-  unfolding cellsOf fits
+  unfolding cellsOf haveCells
   fitting-cells cells e h k p q =
       let s : suc (n - 1) ≡ n = omega arith in
       same-cells p (q ∙ ap (rowsBefore texts) s)
@@ -119,7 +119,7 @@ module _ (texts : List (List ℕ)) (n r : ℕ) where
 
   pub cell-is : cellIn (cellsOf texts n) r ≡ cellOf texts n r
   unfolding cellOf cellsOf isRow cellIn place
-  cell-is = go (fits texts) (isTable n) refl
+  cell-is = go (haveCells texts) (isTable n) refl
     where
       none : cellIn noCells r ≡ NoCell
       none = sym (in-none noCells r (λ h k. omega arith))
@@ -151,8 +151,8 @@ module _ (texts : List (List ℕ)) (n r : ℕ) where
 -- After an import
 
 module _ (texts : List (List ℕ)) (cells : List ℕ) (takes : Takes texts cells) where
-  taken-fits : fits texts ≡ true
-  unfolding fits sizesOf importOf
+  taken-fits : haveCells texts ≡ true
+  unfolding haveCells sizesOf importOf
   taken-fits =
       go (eqb (tooLong texts) 0) (eqb (tooManyRows texts) 0) (ltb (length cells) (length (allRows texts))) (tooManyRows texts) (tooLong texts)
       (length (allRows texts)) (zeros (verdicts texts)) (takes .rows) (takes .good) (takes .answer)

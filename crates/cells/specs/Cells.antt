@@ -19,8 +19,8 @@ isFit fit = true
 isFit (refusedBy number place) = false
 
 -- 01: "A refusal writes nothing": tables that an import refuses with 1 or 2 have no cells
-unfoldable pub fits : List (List ℕ) → Bool
-fits texts = isFit (sizesOf texts)
+unfoldable pub haveCells : List (List ℕ) → Bool
+haveCells texts = isFit (sizesOf texts)
 
 -- n is the number of one of the tables, from 1
 unfoldable pub isTable : ℕ → Bool
@@ -32,14 +32,14 @@ isRow texts n r = isTable n && (ltb 0 r && leb r (length (linesOf (textAt texts 
 
 -- 01: "A finished import writes one cell per row, in table order": the cell of row r of table n
 unfoldable pub cellOf : List (List ℕ) → (n r : ℕ) → Cell
-cellOf texts n r = cond (fits texts && isRow texts n r) (At (place texts (n - 1) r)) NoCell
+cellOf texts n r = cond (haveCells texts && isRow texts n r) (At (place texts (n - 1) r)) NoCell
 
 abbrev pub noCells : TableCells
 noCells = record { start = 0; end = 0 }
 
 -- all cells of table n: they start after those of the tables before it, and end with its last row's
 unfoldable pub cellsOf : List (List ℕ) → ℕ → TableCells
-cellsOf texts n = cond (fits texts && isTable n) (record { start = rowsBefore texts (n - 1); end = rowsBefore texts n }) noCells
+cellsOf texts n = cond (haveCells texts && isTable n) (record { start = rowsBefore texts (n - 1); end = rowsBefore texts n }) noCells
 
 -- the cell of row r among a table's cells: that of row 1 is the first. By `cell-is` this is `cellOf` at the cells of `cellsOf`
 unfoldable pub cellIn : TableCells → ℕ → Cell
@@ -63,5 +63,5 @@ pub record Examples : Type 0 where
   pub cells : cellsOf three 3 ≡ record { start = 2; end = 3 }
 
 pub examples : Examples
-unfolding cellOf cellsOf fits sizesOf isTable isRow place rowsBefore tooLong tooManyRows firstTable linesOf lead onFirst
+unfolding cellOf cellsOf haveCells sizesOf isTable isRow place rowsBefore tooLong tooManyRows firstTable linesOf lead onFirst
 examples = record { second = refl; third = refl; noRow = refl; noTable = refl; fromOne = refl; cells = refl }

@@ -6,7 +6,7 @@ use Prim.Native.Nat.{ℕ, suc, _-_, _≤_, _<_}
 use native.Mathlib.Omega.{arith}
 use lib.ListN.{getD}
 use borrow.Author.Tests.{eq-eqb, ne-eqb}
-use Rattle.chains.specs.Chains.{noRow, after, comesTo, firmFrom}
+use Rattle.chains.specs.Chains.{noRow, rowAfter, comesTo, firmFrom}
 
 -- within n steps
 module _ (next : List ℕ) (z n i : ℕ) where
@@ -16,7 +16,7 @@ module _ (next : List ℕ) (z n i : ℕ) where
       let e : n ≡ 0 = omega arith in
       rw e
 
-  module _ (more : 0 < n) (row : ℕ) (is : row ≡ after next i) where
+  module _ (more : 0 < n) (row : ℕ) (is : row ≡ rowAfter next i) where
     pub comes-hit : (row ≡ noRow → ⊥) → row ≡ z → true ≡ comesTo next z n i
     unfolding comesTo
     comes-hit h k =
@@ -45,7 +45,7 @@ module _ (next firm : List ℕ) (n i : ℕ) where
         let e : n ≡ suc (n - 1) = omega arith in
         rw (e, ← marked, ne-eqb mark 1 h)
 
-    module _ (is-firm : mark ≡ 1) (row : ℕ) (is : row ≡ after next i) where
+    module _ (is-firm : mark ≡ 1) (row : ℕ) (is : row ≡ rowAfter next i) where
       pub firm-end : row ≡ noRow → true ≡ firmFrom next firm n i
       unfolding firmFrom
       firm-end h =

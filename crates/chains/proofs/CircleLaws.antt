@@ -6,7 +6,7 @@ use Prim.Native.Nat.{ℕ, zero, suc, _+_, _-_, _≤_, _<_}
 use native.Mathlib.Omega.{arith}
 use lib.Dec.{eqb}
 use Rattle.laws.proofs.Cases.{false-of, false≢true}
-use Rattle.chains.specs.Chains.{noRow, after, comesTo}
+use Rattle.chains.specs.Chains.{noRow, rowAfter, comesTo}
 use Rattle.chains.proofs.ChainLaws.{comes-on}
 
 module _ (next : List ℕ) (z : ℕ) where
@@ -25,7 +25,7 @@ module _ (next : List ℕ) (z : ℕ) where
   comes-more : (n i : ℕ) → comes n i ≡ true → comes (suc n) i ≡ true
   unfolding comesTo
   comes-more zero i t = absurd (false≢true t)
-  comes-more (suc n) i t = go (eqb (after next i) noRow) (eqb (after next i) z) (comes-more n (after next i)) t
+  comes-more (suc n) i t = go (eqb (rowAfter next i) noRow) (eqb (rowAfter next i) z) (comes-more n (rowAfter next i)) t
     where
       go : (a b : Bool) {x y : Bool} → (x ≡ true → y ≡ true) → cond a false (cond b true x) ≡ true → cond a false (cond b true y) ≡ true
       go true b f t = t
@@ -56,7 +56,7 @@ module _ (next : List ℕ) (z : ℕ) where
         false-of (comes n p) (λ t. false≢true (sym (m .not-there) ∙ subst (λ (k : ℕ). comes k p ≡ true) e (comes-up (m .taken - n) n p t)))
 
   -- row comes after row i
-  module _ (i row : ℕ) (is : row ≡ after next i) (there : row ≡ noRow → ⊥) (other : row ≡ z → ⊥) where
+  module _ (i row : ℕ) (is : row ≡ rowAfter next i) (there : row ≡ noRow → ⊥) (other : row ≡ z → ⊥) where
     step : (k : ℕ) → comes (k + 1) i ≡ comes k row
     step k = sym (comes-on next z (k + 1) i (omega arith) row is there other) ∙ ap (λ (m : ℕ). comes m row) (omega arith)
 

@@ -9,7 +9,7 @@ use lib.ListN.{length, getD, set, replicate, length-set, List·getD-eq-default}
 use lib.Seq.{getD-set-same, getD-set-other}
 use borrow.Author.Tests.{ne-eqb, lt-ltb, eqb-true, eqb-false, ltb-true, ltb-false}
 use Rattle.laws.proofs.Cases.{bool-cases, false≢true}
-use Rattle.chains.specs.Chains.{noRow, after, firmFrom}
+use Rattle.chains.specs.Chains.{noRow, rowAfter, firmFrom}
 use Rattle.chains.specs.Courses.{KnownDepths, DepthIs}
 use Rattle.chains.proofs.EndLaws.{none-marked}
 
@@ -31,7 +31,7 @@ module _ (next firm : List ℕ) where
   good-more : (m i : ℕ) → good m i ≡ true → good (suc m) i ≡ true
   unfolding firmFrom
   good-more zero i t = absurd (false≢true t)
-  good-more (suc m) i t = row-more (eqb (getD firm i 0) 1) (eqb (after next i) noRow) (good-more m (after next i)) t
+  good-more (suc m) i t = row-more (eqb (getD firm i 0) 1) (eqb (rowAfter next i) noRow) (good-more m (rowAfter next i)) t
 
   good-up : (d m i : ℕ) → good m i ≡ true → good (m + d) i ≡ true
   good-up zero m i t = let e : m + 0 ≡ m = omega arith in rw e t
@@ -41,12 +41,12 @@ module _ (next firm : List ℕ) where
   firm-within m n i h t = subst (λ (k : ℕ). good k i ≡ true) (omega arith) (good-up (n - m) m i t)
 
   -- what is left of a firm chain after its first row
-  pub firm-rest : (m i : ℕ) → 0 < m → (row : ℕ) → row ≡ after next i → (row ≡ noRow → ⊥) → good m i ≡ true → good (m - 1) row ≡ true
+  pub firm-rest : (m i : ℕ) → 0 < m → (row : ℕ) → row ≡ rowAfter next i → (row ≡ noRow → ⊥) → good m i ≡ true → good (m - 1) row ≡ true
   unfolding firmFrom
   firm-rest zero i h row is there t = absurd (false≢true t)
   firm-rest (suc m) i h row is there t =
       let s : suc m - 1 ≡ m = omega arith in
-      rw (s, is) (row-rest (eqb (getD firm i 0) 1) (eqb (after next i) noRow) (ne-eqb _ noRow (λ q. there (is ∙ q))) t)
+      rw (s, is) (row-rest (eqb (getD firm i 0) 1) (eqb (rowAfter next i) noRow) (ne-eqb _ noRow (λ q. there (is ∙ q))) t)
 
   -- what was passed from row i to row at, with left of n rows left
   module _ (n i : ℕ) where

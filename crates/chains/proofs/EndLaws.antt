@@ -9,7 +9,7 @@ use lib.ListN.{getD, set, replicate}
 use lib.Seq.{getD-set-other}
 use borrow.Author.Tests.{eq-eqb, ne-eqb, eqb-true, eqb-false}
 use Rattle.laws.proofs.Cases.{bool-cases, false-of, false≢true}
-use Rattle.chains.specs.Chains.{noRow, after, comesTo}
+use Rattle.chains.specs.Chains.{noRow, rowAfter, comesTo}
 use Rattle.chains.specs.Courses.{Ends, last, on, KnownEnds, isReturn, Followed}
 use Rattle.chains.specs.declared.ends.Course.{Course}
 use Rattle.chains.specs.declared.ends.Course.the-variants as course
@@ -41,16 +41,16 @@ module _ (next : List ℕ) where
   comes-fewer : (z n : ℕ) {i : ℕ} (e : Ends next i) → comesTo next z n i ≡ true → Fewer z (rest e)
   unfolding comesTo rest
   comes-fewer z zero e t = absurd (false≢true t)
-  comes-fewer z (suc n) {i} (last p) t = absurd (false≢true (rw (eq-eqb (after next i) noRow p) at t))
+  comes-fewer z (suc n) {i} (last p) t = absurd (false≢true (rw (eq-eqb (rowAfter next i) noRow p) at t))
   comes-fewer z (suc n) {i} (on h e) t =
-      bool-cases (eqb (after next i) z)
+      bool-cases (eqb (rowAfter next i) z)
       (λ q. subst (λ (y : ℕ). Fewer y (suc (rest e))) (eqb-true _ z q) (record { end = e; less = omega arith }))
-      (λ q. let f = comes-fewer z n e (rw (ne-eqb (after next i) noRow h, q) at t) in record { end = f .end; less = omega (arith, f .less) })
+      (λ q. let f = comes-fewer z n e (rw (ne-eqb (rowAfter next i) noRow h, q) at t) in record { end = f .end; less = omega (arith, f .less) })
 
   pub ends-no-circle : (n : ℕ) {i : ℕ} → Ends next i → comesTo next i n i ≡ false
   ends-no-circle n {i} e = false-of (comesTo next i n i) (λ t. let f = comes-fewer i n e t in omega (arith, f .less, rest-same (f .end) e))
 
-  pub ends-next : {i : ℕ} → Ends next i → (after next i ≡ noRow → ⊥) → Ends next (after next i)
+  pub ends-next : {i : ℕ} → Ends next i → (rowAfter next i ≡ noRow → ⊥) → Ends next (rowAfter next i)
   ends-next (last p) h = absurd (h p)
   ends-next (on k e) h = e
 
@@ -68,7 +68,7 @@ module _ (next : List ℕ) where
     known-more = record { row = more }
 
   -- row is the one after row at
-  module _ (at row : ℕ) (is : row ≡ after next at) where
+  module _ (at row : ℕ) (is : row ≡ rowAfter next at) where
     pub ends-here : row ≡ noRow → Ends next at
     ends-here e = last (sym is ∙ e)
 

@@ -11,20 +11,20 @@ abbrev pub noRow : ℕ
 noRow = 65535
 
 -- the row after row i
-abbrev pub after : List ℕ → ℕ → ℕ
-after next i = getD next i noRow
+abbrev pub rowAfter : List ℕ → ℕ → ℕ
+rowAfter next i = getD next i noRow
 
 -- within n steps the chain from row i comes to row z
 unfoldable pub comesTo : List ℕ → (z n i : ℕ) → Bool
 comesTo next z zero i = false
 comesTo next z (suc n) i =
-    cond (eqb (after next i) noRow) false (cond (eqb (after next i) z) true (comesTo next z n (after next i)))
+    cond (eqb (rowAfter next i) noRow) false (cond (eqb (rowAfter next i) z) true (comesTo next z n (rowAfter next i)))
 
 -- within n rows the chain from row i ends, and each row of it is marked firm
 unfoldable pub firmFrom : (next firm : List ℕ) → (n i : ℕ) → Bool
 firmFrom next firm zero i = false
 firmFrom next firm (suc n) i =
-    eqb (getD firm i 0) 1 && cond (eqb (after next i) noRow) true (firmFrom next firm n (after next i))
+    eqb (getD firm i 0) 1 && cond (eqb (rowAfter next i) noRow) true (firmFrom next firm n (rowAfter next i))
 
 -- rows 0 and 1 go round, 2 leads into them, 3 leads to 4
 abbrev rows : List ℕ

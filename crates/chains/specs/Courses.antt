@@ -5,14 +5,14 @@ use mathlib.Core.Bool.{Bool, true, false}
 use mathlib.Core.List.{List}
 use lib.Dec.{ltb}
 use lib.ListN.{getD}
-use Rattle.chains.specs.Chains.{noRow, after, comesTo, firmFrom}
+use Rattle.chains.specs.Chains.{noRow, rowAfter, comesTo, firmFrom}
 use Rattle.chains.specs.declared.ends.Course.{Course}
 use Rattle.chains.specs.declared.ends.Course.the-variants as course
 
 -- the chain from row i comes to its end
 pub data Ends (next : List ℕ) : ℕ → Type 0 where
-  last : {i : ℕ} → after next i ≡ noRow → Ends next i
-  on : {i : ℕ} → (after next i ≡ noRow → ⊥) → Ends next (after next i) → Ends next i
+  last : {i : ℕ} → rowAfter next i ≡ noRow → Ends next i
+  on : {i : ℕ} → (rowAfter next i ≡ noRow → ⊥) → Ends next (rowAfter next i) → Ends next i
 
 -- rows that are marked are such rows
 pub record KnownEnds (next ended : List ℕ) : Type 0 where

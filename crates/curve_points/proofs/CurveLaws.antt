@@ -13,7 +13,7 @@ use Rattle.rows.specs.declared.records.CapRow.{CapRow}
 use Rattle.symbols.specs.declared.Symbol.{Symbol}
 use Rattle.verdicts.specs.Key.{curve}
 use Rattle.key_symbols.specs.Keyed.{symbolOf}
-use Rattle.key_symbols.specs.Bounded.{fits}
+use Rattle.key_symbols.specs.Bounded.{keyFits}
 use Rattle.database.specs.Rows.{Row, Rows}
 use Rattle.database.specs.Arrays.{database, holderColumn, rowAt, keyed, answers}
 use Rattle.database.proofs.FindLaws.{holder-none, holder-some}
@@ -24,7 +24,8 @@ use Rattle.curve_points.specs.declared.Ends.the-variants.{Are, NoCurve}
 use Rattle.database.proofs.GatherLaws.{front-filled}
 
 -- the row that holds the curve's key
-module _ (texts : List (List ℕ)) (words links columns : List ℕ) (name : CurveName) {s : Symbol} (k : (s ≡ symbolOf (curve name)) × (fits (curve name) ≡ true))
+module _ (texts : List (List ℕ)) (words links columns : List ℕ) (name : CurveName) {s : Symbol}
+    (k : (s ≡ symbolOf (curve name)) × (keyFits (curve name) ≡ true))
     {at : ℕ} (e : at ≡ keyed words links columns holderColumn s) where
   pub ends-none : at ≡ 0 → NoCurve ≡ curveEnds (answers (database texts words links columns) .holder (curve name))
   unfolding curveEnds

@@ -14,7 +14,7 @@ use Rattle.laws.proofs.Cases.{false≢true, false-of, bool-cases, cond-cases, a
 use Rattle.laws.proofs.At.{Place, any-place, place-any}
 use Rattle.rows.specs.declared.letters.OffEnds.{OffEnds}
 use Rattle.rows.specs.declared.letters.OffEnds.the-variants.{Extrapolate, Refuse}
-use Rattle.curves.specs.Line.{within, isPoint, isSegment, isRaw, heightAt, resultOf, lineAt}
+use Rattle.curves.specs.Line.{isBetween, isPoint, isSegment, isRaw, heightAt, resultOf, lineAt}
 use Rattle.curves.specs.declared.line.Point.{Point}
 use Rattle.curves.proofs.LineLaws.{line-is}
 use Rattle.calibration.specs.Nearest.{passes, nearer, notAbove, below, above}
@@ -52,7 +52,7 @@ value-never z f =
 line-never : (p q : Point) (raw : ℤ) {test : Bool} → isPoint p ≡ true → isPoint q ≡ true → ltZ (p .x) (q .x) ≡ true → isRaw raw ≡ true → test ≡ false
     → Exactly (outcomeOf (lineAt p q raw)) test
 unfolding isSegment resultOf outcomeOf
-line-never p q raw {test} a b l r f = rw (← (line-is p q raw (and-both a (and-both b l)) r)) (go (within _ _ (heightAt p q raw)))
+line-never p q raw {test} a b l r f = rw (← (line-is p q raw (and-both a (and-both b l)) r)) (go (isBetween _ _ (heightAt p q raw)))
   where
     go : (in-range : Bool) → Exactly (outcomeOf (cond in-range (value (heightAt p q raw)) (refusedWith 31))) test
     go true = value-never (heightAt p q raw) f

@@ -12,13 +12,13 @@ use Rattle.numbers.specs.Number.{numberOf, meaning, spelt, after, digitOn, digi
 use Rattle.rows.specs.Values.{integerFrom, integerOr, letterOf, offEndsOf}
 use Rattle.rows.specs.Records.{column, cafRow, capRow}
 use Rattle.curves.specs.Floor.{floorDiv}
-use Rattle.curves.specs.Line.{within, isCoordinate, isPoint, isSegment, isRaw, heightAt, resultOf, lineAt}
+use Rattle.curves.specs.Line.{isBetween, isCoordinate, isPoint, isSegment, isRaw, heightAt, resultOf, lineAt}
 use Rattle.calibration.specs.Nearest.{passes, nearer, closer, better, nearestOf, notAbove, below, above}
 use Rattle.calibration.specs.Curve.{pointAt, through, offEnd, fromLast, beforeFirst, placed, curveAt}
 use Rattle.verdicts.specs.Key.{keyWords, sameKey}
 use Rattle.verdicts.specs.Facts.{cafFacts, capFacts, factsOf}
 use Rattle.outcomes.specs.Outcome.{Outcome, answer, refused}
-use Rattle.outcomes.specs.Refusals.{numberOf as numberOfRefusal, placeOf, refusedBy}
+use Rattle.outcomes.specs.Refusals.{refusalNumber as numberOfRefusal, refusalPlace, refusedBy}
 use Rattle.outcomes.specs.declared.Refusal.the-variants.{OutOfRange}
 use Rattle.database.specs.GoodRows.{holdsKey, inGroup, find, among}
 use Rattle.curve_points.specs.Curves.{Curve, curveEnds, xvalsOf, yvalsOf, curveBy, curveOf, of-two}
@@ -57,9 +57,9 @@ pub record Examples : Type 0 where
 
 pub examples : Examples
 unfolding
-    along outcomeOf saidResult refusedBy numberOfRefusal placeOf
+    along outcomeOf saidResult refusedBy numberOfRefusal refusalPlace
     curveOf curveBy curveEnds xvalsOf yvalsOf among find holdsKey inGroup factsOf cafFacts capFacts sameKey keyWords sameBytes curveNameOf
     cafRow capRow column columnsOf columnsFrom offEndsOf letterOf integerOr integerFrom numberOf meaning spelt after digitOn digitOf
     curveAt placed fromLast beforeFirst offEnd through pointAt notAbove below above nearestOf better closer nearer passes
-    lineAt isSegment isPoint isCoordinate isRaw within resultOf heightAt floorDiv
+    lineAt isSegment isPoint isCoordinate isRaw isBetween resultOf heightAt floorDiv
 examples = record { between = refl; past-p = refl; past-f = refl; past-default = refl; other = refl; range = refl }

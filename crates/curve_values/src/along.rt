@@ -17,7 +17,7 @@ pub enum CurveResult {
 }
 
 fn result_of(value: CurveValue) -> CurveResult
-    ensures { λ r. ⌜ saidResult r ≡ outcomeOf (calibration.said value) ⌝ }
+    ensures { λ r. ⌜ saidResult r ≡ outcomeOf (calibration.saidCurve value) ⌝ }
 {
     match value {
         CurveValue::Is(y) => CurveResult::Is(y),

@@ -14,14 +14,14 @@ use Rattle.laws.specs.Said.{value, refused, free}
 use Rattle.laws.proofs.Cases.{and-left, and-right}
 use Rattle.laws.proofs.Words.{fits-size}
 use Rattle.curves.specs.Floor.{floorDiv}
-use Rattle.curves.specs.Line.{within, isCoordinate, isPoint, isSegment, isRaw, heightAt, resultOf, lineAt}
+use Rattle.curves.specs.Line.{isBetween, isCoordinate, isPoint, isSegment, isRaw, heightAt, resultOf, lineAt}
 use Rattle.curves.specs.declared.line.Point.{Point}
 use Rattle.curves.proofs.IntLaws.{size-add, size-minus, apart, distance}
 use Rattle.curves.proofs.FloorLaws.{floor-exact}
 
 -- the magnitude of what lies in a range about 0
-pub within-size : (k a b : ℕ) (z : ℤ) → suc a ≤ k → b ≤ k → within (negsuc a) (pos b) z ≡ true → natAbs z ≤ k
-unfolding within
+pub within-size : (k a b : ℕ) (z : ℤ) → suc a ≤ k → b ≤ k → isBetween (negsuc a) (pos b) z ≡ true → natAbs z ≤ k
+unfolding isBetween
 within-size k a b (pos n) h l e = omega (arith, leb-true n b (and-right true (leb n b) e))
 within-size k a b (negsuc n) h l e = omega (arith, leb-true n a (and-left (leb n a) true e))
 
@@ -58,18 +58,18 @@ pub product-fits : (a b : ℕ) → a ≤ 2 ^ 31 → b ≤ 2 ^ 32 + 2 ^ 30 → a 
 product-fits a b h k = mul-le-mul h k
 
 -- a result that is out of the range
-out : (y : ℤ) → within (negsuc 2147483647) (pos 2147483647) y ≡ false → refused 31 ≡ resultOf y
+out : (y : ℤ) → isBetween (negsuc 2147483647) (pos 2147483647) y ≡ false → refused 31 ≡ resultOf y
 unfolding resultOf
 out y e = rw e
 
 pub far-above : (y : ℤ) (n : ℕ) → natAbs y ≤ 2 ^ 30 → 2 ^ 32 ≤ n → refused 31 ≡ resultOf (y +ℤ pos n)
-unfolding within
+unfolding isBetween
 far-above (pos y) n h k = out (pos (y + n)) (lt-leb (y + n) 2147483647 (omega arith))
 far-above (negsuc y) n h k =
     simp (le-ltb n (suc y) (omega arith)) (out (pos (n - suc y)) (lt-leb (n - suc y) 2147483647 (omega arith)))
 
 pub far-below : (y : ℤ) (n : ℕ) → natAbs y ≤ 2 ^ 30 → 2 ^ 32 ≤ n → refused 31 ≡ resultOf (y -ℤ pos n)
-unfolding within
+unfolding isBetween
 far-below y zero h k = absurd (omega arith)
 far-below (pos y) (suc n) h k =
     simp (lt-ltb y (suc n) (omega arith)) (out (negsuc (suc n - suc y)) (simp (lt-leb (suc n - suc y) 2147483647 (omega arith))))
@@ -114,12 +114,12 @@ through-second p q e =
     ∙ -ℤ-+ℤ-cancel (q .y) (p .y)
 
 -- a value is in the range of an answer
-pub line-range : (p q : Point) (x y : ℤ) → value y ≡ lineAt p q x → within (negsuc 2147483647) (pos 2147483647) y ≡ true
+pub line-range : (p q : Point) (x y : ℤ) → value y ≡ lineAt p q x → isBetween (negsuc 2147483647) (pos 2147483647) y ≡ true
 unfolding lineAt resultOf
-line-range p q x y = by (isSegment p q && isRaw x) (heightAt p q x) (within (negsuc 2147483647) (pos 2147483647) (heightAt p q x)) refl
+line-range p q x y = by (isSegment p q && isRaw x) (heightAt p q x) (isBetween (negsuc 2147483647) (pos 2147483647) (heightAt p q x)) refl
   where
-    by : (a : Bool) (h : ℤ) (b : Bool) → within (negsuc 2147483647) (pos 2147483647) h ≡ b
-        → value y ≡ cond a (cond b (value h) (refused 31)) free → within (negsuc 2147483647) (pos 2147483647) y ≡ true
+    by : (a : Bool) (h : ℤ) (b : Bool) → isBetween (negsuc 2147483647) (pos 2147483647) h ≡ b
+        → value y ≡ cond a (cond b (value h) (refused 31)) free → isBetween (negsuc 2147483647) (pos 2147483647) y ≡ true
     by true h true f e = let s : y ≡ h = cc in rw s f
     by true h false f e = absurd (let z : _≡_ {A = ℕ} 0 1 = cc in omega arith)
     by false h b f e = absurd (let z : _≡_ {A = ℕ} 0 1 = cc in omega arith)

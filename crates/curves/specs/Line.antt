@@ -10,12 +10,12 @@ use Rattle.curves.specs.declared.line.OnLine.{OnLine}
 use Rattle.curves.specs.declared.line.OnLine.the-variants.{Is, Beyond, NoLine}
 
 -- z is from low to high
-unfoldable pub within : ℤ → ℤ → ℤ → Bool
-within low high z = leZ low z && leZ z high
+unfoldable pub isBetween : ℤ → ℤ → ℤ → Bool
+isBetween low high z = leZ low z && leZ z high
 
 -- 01: "XVALS 14! and YVALS 14!, each −1,073,741,824 to 1,073,741,823"
 unfoldable pub isCoordinate : ℤ → Bool
-isCoordinate z = within (negsuc 1073741823) (pos 1073741823) z
+isCoordinate z = isBetween (negsuc 1073741823) (pos 1073741823) z
 
 unfoldable pub isPoint : Point → Bool
 isPoint p = isCoordinate (p .x) && isCoordinate (p .y)
@@ -26,7 +26,7 @@ isSegment p q = isPoint p && (isPoint q && ltZ (p .x) (q .x))
 
 -- 01: "Field widths by type": a raw value has at most 32 bits, signed or unsigned
 unfoldable pub isRaw : ℤ → Bool
-isRaw x = within (negsuc 2147483647) (pos 4294967295) x
+isRaw x = isBetween (negsuc 2147483647) (pos 4294967295) x
 
 -- 01: "the straight line's exact fraction is rounded down"
 -- the height of p is whole, so only what the line adds to it is rounded
@@ -35,7 +35,7 @@ heightAt p q x = p .y +ℤ floorDiv ((q .y -ℤ p .y) *ℤ (x -ℤ p .x)) (natAb
 
 -- 01: "31 … curve result outside −2,147,483,648 to 2,147,483,647"
 unfoldable pub resultOf : ℤ → Said
-resultOf y = cond (within (negsuc 2147483647) (pos 2147483647) y) (value y) (refused 31)
+resultOf y = cond (isBetween (negsuc 2147483647) (pos 2147483647) y) (value y) (refused 31)
 
 -- the line through p and q at x; 01 has no other points, and no other raw values
 unfoldable pub lineAt : Point → Point → ℤ → Said
@@ -52,5 +52,5 @@ halves : (
     let q : Point = record { x = pos 2; y = pos 0 } in
     (lineAt p q (pos 1) ≡ value (pos 0)) × (lineAt p q (pos 3) ≡ value (negsuc 0)) × (lineAt q p (pos 1) ≡ free)
     )
-unfolding lineAt isSegment isPoint isCoordinate isRaw within resultOf heightAt floorDiv
+unfolding lineAt isSegment isPoint isCoordinate isRaw isBetween resultOf heightAt floorDiv
 halves = (refl, refl, refl)

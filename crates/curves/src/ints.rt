@@ -6,7 +6,7 @@ ghost use lib.IntN.{ℤ, pos, natAbs, _+ℤ_, _-ℤ_};
 ghost use lib.Signed.{ltZ, nonNeg};
 ghost use mir.Syntax.{w64};
 ghost use mir.Val.{SFits};
-ghost use Rattle.curves.specs.Line.{within};
+ghost use Rattle.curves.specs.Line.{isBetween};
 
 pub(crate) fn plus(a: i64, b: i64) -> i64
     requires { ⌜ SFits w64 (a +ℤ b) ⌝ }
@@ -29,7 +29,7 @@ pub fn less(a: i64, b: i64) -> bool
 }
 
 pub(crate) fn lies_within(low: i64, high: i64, z: i64) -> bool
-    ensures { λ r. ⌜ r ≡ within low high z ⌝ }
+    ensures { λ r. ⌜ r ≡ isBetween low high z ⌝ }
 {
     if low <= z { z <= high } else { false }
 }

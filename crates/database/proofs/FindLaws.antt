@@ -8,10 +8,10 @@ use borrow.Author.Tests.{eq-eqb, ne-eqb}
 use Rattle.symbols.specs.declared.Symbol.{Symbol}
 use Rattle.verdicts.specs.Key.{Key}
 use Rattle.key_symbols.specs.Keyed.{symbolOf}
-use Rattle.key_symbols.specs.Bounded.{fits}
-use Rattle.database.specs.Arrays.{database, holderColumn, firstColumn, rowAt, rowFor, keyed, keyedBy, placesFrom, answers}
+use Rattle.key_symbols.specs.Bounded.{keyFits}
+use Rattle.database.specs.Arrays.{database, holderColumn, firstColumn, rowAt, rowFor, keyed, keyedBy, groupPlaces, answers}
 
-module _ (texts : List (List ℕ)) (words links columns : List ℕ) (k : Key) (s : Symbol) (is : s ≡ symbolOf k) (fit : fits k ≡ true) where
+module _ (texts : List (List ℕ)) (words links columns : List ℕ) (k : Key) (s : Symbol) (is : s ≡ symbolOf k) (fit : keyFits k ≡ true) where
   keyed-by : (column : ℕ) → keyed words links columns column s ≡ keyedBy words links columns column k
   unfolding keyedBy
   keyed-by column = rw (fit, is)
@@ -32,6 +32,6 @@ module _ (texts : List (List ℕ)) (words links columns : List ℕ) (k : Key) (s
 
   -- the rows of a group, by what `list_members` lists
   pub members-are : answers (database texts words links columns) .members k
-      ≡ map (rowAt texts columns) (placesFrom columns (keyed words links columns firstColumn s))
+      ≡ map (rowAt texts columns) (groupPlaces columns (keyed words links columns firstColumn s))
   unfolding answers
-  members-are = ap (λ (at : ℕ). map (rowAt texts columns) (placesFrom columns at)) (sym (keyed-by firstColumn))
+  members-are = ap (λ (at : ℕ). map (rowAt texts columns) (groupPlaces columns at)) (sym (keyed-by firstColumn))

@@ -14,9 +14,9 @@ use Rattle.passes.specs.Groups.{chain}
 use Rattle.symbols.specs.declared.Symbol.{Symbol}
 use Rattle.verdicts.specs.Key.{Key}
 use Rattle.key_symbols.specs.Keyed.{symbolOf}
-use Rattle.key_symbols.specs.Bounded.{fits}
+use Rattle.key_symbols.specs.Bounded.{keyFits}
 use Rattle.database.specs.Rows.{Row}
-use Rattle.database.specs.Arrays.{database, firstColumn, nextColumn, rowAt, keyed, keyedBy, placesFrom, answers}
+use Rattle.database.specs.Arrays.{database, firstColumn, nextColumn, rowAt, keyed, keyedBy, groupPlaces, answers}
 use Rattle.database.proofs.FindLaws.{members-are}
 use Rattle.laws.proofs.Fill.{front-is, front-long}
 
@@ -26,11 +26,11 @@ pub record Listed (texts : List (List ℕ)) (words links columns : List ℕ) (k 
   pub long : 1024 ≡ length places
   pub few : n ≤ 1024
 
-pub listed : (texts : List (List ℕ)) (words links columns : List ℕ) (k : Key) {s : Symbol} {places : List ℕ} {n : ℕ} → (s ≡ symbolOf k) × (fits k ≡ true)
-    → (let all = placesFrom columns (keyed words links columns firstColumn s) in (n ≡ length all) × ((places ≡ sets (replicate 1024 0) 0 all) × (n ≤ 1024)))
+pub listed : (texts : List (List ℕ)) (words links columns : List ℕ) (k : Key) {s : Symbol} {places : List ℕ} {n : ℕ} → (s ≡ symbolOf k) × (keyFits k ≡ true)
+    → (let all = groupPlaces columns (keyed words links columns firstColumn s) in (n ≡ length all) × ((places ≡ sets (replicate 1024 0) 0 all) × (n ≤ 1024)))
     → Listed texts words links columns k places n
 listed texts words links columns k {s} {places} {n} e l =
-    let all : List ℕ = placesFrom columns (keyed words links columns firstColumn s) in
+    let all : List ℕ = groupPlaces columns (keyed words links columns firstColumn s) in
     let z : length {A = ℕ} (replicate 1024 0) ≡ 1024 = length-replicate {A = ℕ} 1024 0 in
     let room : length all ≤ length {A = ℕ} (replicate 1024 0) = omega (arith, l .0, l .1 .1) in
     record {
@@ -86,7 +86,7 @@ module _ {texts : List (List ℕ)} {words links columns : List ℕ} {k : Key} {p
 
 -- a group has at most 1,024 rows
 pub members-few : (texts : List (List ℕ)) (words links columns : List ℕ) (k : Key) → length (answers (database texts words links columns) .members k) ≤ 1024
-unfolding answers placesFrom
+unfolding answers groupPlaces
 members-few texts words links columns k =
     let nexts : List ℕ = drop nextColumn columns in
     let first : ℕ = keyedBy words links columns firstColumn k in

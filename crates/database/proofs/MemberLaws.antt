@@ -9,7 +9,7 @@ use lib.ListN.{length, getD, set, drop}
 use lib.Seq.{sets, getD-drop}
 use borrow.Author.Tests.{eq-eqb, ne-eqb}
 use Rattle.passes.specs.Groups.{chain}
-use Rattle.database.specs.Arrays.{nextColumn, mostMembers, placesFrom}
+use Rattle.database.specs.Arrays.{nextColumn, mostMembers, groupPlaces}
 
 -- nothing comes after the last row
 ended : (nexts : List ℕ) (steps at : ℕ) → at ≡ 0 → chain nexts steps at ≡ []
@@ -24,15 +24,15 @@ left columns n at = chain (drop nextColumn columns) (1024 - n) at
 -- with the rows left, the array is as it is with all of them listed
 pub record Listing (columns : List ℕ) (first : ℕ) (places₀ places : List ℕ) (n at : ℕ) : Type 0 where
   pub few : n ≤ 1024
-  pub rows : n + length (left columns n at) ≡ length (placesFrom columns first)
-  pub listed : sets places n (left columns n at) ≡ sets places₀ 0 (placesFrom columns first)
+  pub rows : n + length (left columns n at) ≡ length (groupPlaces columns first)
+  pub listed : sets places n (left columns n at) ≡ sets places₀ 0 (groupPlaces columns first)
 
 -- what `list_members` promises
 abbrev Listed : List ℕ → ℕ → List ℕ → List ℕ → ℕ → Type 0
-Listed columns first places₀ places n = (n ≡ length (placesFrom columns first)) × ((places ≡ sets places₀ 0 (placesFrom columns first)) × (n ≤ 1024))
+Listed columns first places₀ places n = (n ≡ length (groupPlaces columns first)) × ((places ≡ sets places₀ 0 (groupPlaces columns first)) × (n ≤ 1024))
 
 pub listing-none : (columns : List ℕ) (first : ℕ) (places : List ℕ) → Listing columns first places places 0 first
-unfolding placesFrom
+unfolding groupPlaces
 listing-none columns first places = record { few = omega arith; rows = omega arith; listed = refl }
 
 module _ (columns : List ℕ) (first : ℕ) (places₀ places : List ℕ) (n at : ℕ) (l : Listing columns first places₀ places n at) where

@@ -17,7 +17,7 @@ use Rattle.verdicts.specs.Key.{Key}
 use Rattle.verdicts.specs.Places.{textAt}
 use Rattle.verdicts.specs.Answer.{mostRows}
 use Rattle.key_symbols.specs.Keyed.{symbolOf}
-use Rattle.key_symbols.specs.Bounded.{fits}
+use Rattle.key_symbols.specs.Bounded.{keyFits}
 use Rattle.database.specs.Rows.{Row, Rows}
 
 -- the bytes of the tables, the symbols of keys with the links that lead to them, and columns of numbers
@@ -71,22 +71,22 @@ keyed words links columns column k = let id : ℕ = found words links k in cond 
 
 -- the same of a key; 0 of one that no row can hold
 unfoldable pub keyedBy : (words links columns : List ℕ) → (column : ℕ) → Key → ℕ
-keyedBy words links columns column k = cond (fits k) (keyed words links columns column (symbolOf k)) 0
+keyedBy words links columns column k = cond (keyFits k) (keyed words links columns column (symbolOf k)) 0
 
 -- a group has at most as many rows as a table
 abbrev pub mostMembers : ℕ
 mostMembers = mostRows
 
 -- the places of the rows of a group from its first on, as each leads to the next
-unfoldable pub placesFrom : (columns : List ℕ) → ℕ → List ℕ
-placesFrom columns first = chain (drop nextColumn columns) mostMembers first
+unfoldable pub groupPlaces : (columns : List ℕ) → ℕ → List ℕ
+groupPlaces columns first = chain (drop nextColumn columns) mostMembers first
 
 -- what the database answers
 unfoldable pub answers : Database → Rows
 answers d =
     record {
       holder = λ key. rowFor (d .texts) (d .columns) (keyedBy (d .words) (d .links) (d .columns) holderColumn key);
-      members = λ group. map (rowAt (d .texts) (d .columns)) (placesFrom (d .columns) (keyedBy (d .words) (d .links) (d .columns) firstColumn group));
+      members = λ group. map (rowAt (d .texts) (d .columns)) (groupPlaces (d .columns) (keyedBy (d .words) (d .links) (d .columns) firstColumn group));
     }
 
 -- one row in table 0 and none else: the text has the row of its columns

@@ -15,7 +15,7 @@ ghost use Prim.Native.Nat.{_+_, _≤_, _<_};
 ghost use lib.ListN.{length, getD, drop};
 ghost use lib.Seq.{sets};
 ghost use Rattle.lines.specs.Lines.{lineFrom};
-ghost use Rattle.database.specs.Arrays.{rowAt, keyed, placesFrom, holderColumn, firstColumn, nextColumn, allColumns};
+ghost use Rattle.database.specs.Arrays.{rowAt, keyed, groupPlaces, holderColumn, firstColumn, nextColumn, allColumns};
 
 // A group has at most so many rows, as a table has.
 pub const MOST_MEMBERS: usize = MOST_ROWS;
@@ -116,10 +116,10 @@ pub fn list_members(
     group: Symbol,
     places: &mut [usize; MOST_MEMBERS],
 ) -> usize
-    ensures { λ r. ⌜ r ≡ length (placesFrom (now (columns .entry))
+    ensures { λ r. ⌜ r ≡ length (groupPlaces (now (columns .entry))
         (keyed (now (words .entry)) (now (links .entry)) (now (columns .entry)) firstColumn group)) ⌝ }
     ensures { λ _. ⌜ now (places .exit) ≡ sets (now (places .entry)) 0
-        (placesFrom (now (columns .entry)) (keyed (now (words .entry)) (now (links .entry)) (now (columns .entry)) firstColumn group)) ⌝ }
+        (groupPlaces (now (columns .entry)) (keyed (now (words .entry)) (now (links .entry)) (now (columns .entry)) firstColumn group)) ⌝ }
     ensures { λ r. ⌜ r ≤ 1024 ⌝ }
 {
     let mut at = keyed_at(words, links, columns, FIRST, group);

@@ -16,7 +16,7 @@ use Rattle.files.specs.declared.source.Got.{Got}
 use Rattle.files.specs.declared.source.Got.the-variants.{Bytes, Missing, Failed}
 use Rattle.directories.specs.declared.Loaded.{Loaded}
 use Rattle.files.specs.Reads.{Within}
-use Rattle.directories.specs.Space.{endOf, Apart, hasPart, TableLoaded, endBy, endsAfter, isRead}
+use Rattle.directories.specs.Space.{endOf, EndsInParts, hasPart, TableLoaded, endBy, endsAfter, isRead}
 use Rattle.directories.specs.Space.{endsBy, allRead, loadedBy, answerFor, SamePart, LoadedInto}
 use Rattle.directories.proofs.SpaceLaws.{beside}
 
@@ -171,7 +171,7 @@ module _ {loaded : Loaded} {before after : List ℕ} (l : LoadedInto loaded befo
   end-is t = ap (λ (x : Loaded). getD (x .ends) t 0) (l .answered) ∙ ends-at 0 t t (l .answers) (omega arith)
 
   -- each table ends in its own part
-  pub apart : Apart (loaded .ends)
+  pub apart : EndsInParts (loaded .ends)
   apart = record { own = λ t. subst (In t) (sym (end-is t)) (by-in t (answerFor (l .answers) t)) }
 
   -- a table is the bytes that were read, at the start of its part

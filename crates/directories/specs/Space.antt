@@ -19,7 +19,7 @@ unfoldable pub endOf : ℕ → ℕ → ℕ
 endOf t count = cond (ltb t tableCount) (cond (leb count partSize) (t * partSize + count) 0) 0
 
 -- each table ends in its own part of the space, or isn't there
-pub record Apart (ends : List ℕ) : Type 0 where
+pub record EndsInParts (ends : List ℕ) : Type 0 where
   pub own : (t : ℕ) → (getD ends t 0 ≡ 0) ⊎ ((t * partSize ≤ getD ends t 0) × (getD ends t 0 ≤ t * partSize + partSize))
 
 -- One table

@@ -11,7 +11,7 @@ use Rattle.rows.specs.declared.letters.Category.the-variants as category
 use Rattle.calibration.specs.Nearest.{nearestOf, notAbove}
 use Rattle.outcomes.specs.Outcome.{Outcome, answer, refused, andThen}
 use Rattle.outcomes.specs.Values.{Value, number, valueOf}
-use Rattle.outcomes.specs.Refusals.{numberOf, placeOf, refusedBy}
+use Rattle.outcomes.specs.Refusals.{refusalNumber, refusalPlace, refusedBy}
 use Rattle.outcomes.specs.declared.Refusal.the-variants.{NoText}
 use Rattle.database.specs.Rows.{Rows}
 use Rattle.database.specs.GoodRows.{among}
@@ -59,5 +59,5 @@ pub record Examples : Type 0 where
   pub said : saidEngineered (Refused NoText) ≡ refused 32 0
 
 pub examples : Examples
-unfolding byCategory asValue andThen onScale scaleOf textFor textIn foundIn notAbove nearestOf among saidEngineered refusedBy numberOf placeOf
+unfolding byCategory asValue andThen onScale scaleOf textFor textIn foundIn notAbove nearestOf among saidEngineered refusedBy refusalNumber refusalPlace
 examples = record { numeric = refl; string = refl; status = refl; said = refl }

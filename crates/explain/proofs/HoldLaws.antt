@@ -16,7 +16,7 @@ use Rattle.symbols.specs.Arrays.{symbols}
 use Rattle.verdicts.specs.Key.{Key, sameKey}
 use Rattle.verdicts.specs.Entries.{Entry, own, facts}
 use Rattle.verdicts.specs.Steps.{twin, holds, belongs, rivals}
-use Rattle.meaning.specs.Kept.{keyId, Known, firstId, AllKnown, none, more, Apart, zero-keys, one-key, two-keys, noEntry, rowAt, KeptRow}
+use Rattle.meaning.specs.Kept.{keyId, Known, firstId, AllKnown, none, more, AtMostTwo, zero-keys, one-key, two-keys, noEntry, keptEntry, KeptRow}
 use Rattle.meaning.proofs.KeyLaws.{firstIs, id-first, belongs-id}
 use Rattle.kept.specs.Stored.{key1Column, key2Column, groupColumn}
 use Rattle.judged.specs.Passes.{columnOf}
@@ -25,7 +25,7 @@ use Rattle.judged.proofs.KeptLaws.{kept}
 use Rattle.key_rows.specs.KeyRows.{inColumn, hasKey, sharesBy}
 
 -- one of at most two keys
-one-of-two : (k : Key) (ks : List Key) → Apart ks → any (sameKey k) ks ≡ (firstIs k ks || firstIs k (drop 1 ks))
+one-of-two : (k : Key) (ks : List Key) → AtMostTwo ks → any (sameKey k) ks ≡ (firstIs k ks || firstIs k (drop 1 ks))
 one-of-two k [] zero-keys = refl
 one-of-two k (l ∷ []) one-key = refl
 one-of-two k (l ∷ m ∷ []) (two-keys z) = ap (λ (t : Bool). sameKey k l || t) (or-false (sameKey k m))
@@ -35,7 +35,7 @@ abbrev pub firstHeld : Entry → List Key → Bool
 firstHeld o [] = false
 firstHeld o (k ∷ ks) = holds o k
 
-first-or-second : (o : Entry) (ks : List Key) → Apart ks → any (holds o) ks ≡ (firstHeld o ks || firstHeld o (drop 1 ks))
+first-or-second : (o : Entry) (ks : List Key) → AtMostTwo ks → any (holds o) ks ≡ (firstHeld o ks || firstHeld o (drop 1 ks))
 first-or-second o [] zero-keys = refl
 first-or-second o (k ∷ []) one-key = refl
 first-or-second o (k ∷ l ∷ []) (two-keys z) = ap (λ (t : Bool). holds o k || t) (or-false (holds o l))
@@ -45,7 +45,7 @@ module _ (rows : List Entry) (words links : List ℕ) (count : ℕ) (halves byte
   ls = symbols words count
 
   abbrev keysOf : ℕ → List Key
-  keysOf i = facts (rowAt rows i) .keys
+  keysOf i = facts (keptEntry rows i) .keys
 
   abbrev mark : Entry → ℕ
   mark e = flag (eqb (own (e .reading)) 0)
@@ -54,7 +54,7 @@ module _ (rows : List Entry) (words links : List ℕ) (count : ℕ) (halves byte
   marks = map mark rows
 
   pub row-kept : (i : ℕ) → i < length rows
-      → KeptRow coding ls (rowAt rows i) (getD marks i 0) (inColumn halves key1Column i) (inColumn halves key2Column i) (inColumn halves groupColumn i)
+      → KeptRow coding ls (keptEntry rows i) (getD marks i 0) (inColumn halves key1Column i) (inColumn halves key2Column i) (inColumn halves groupColumn i)
   row-kept i p = kept rows words links count halves bytes h marks (λ j q. map-at mark rows j noEntry 0 q) .row i p
 
   rest-known : (ks : List Key) → AllKnown coding ls ks → AllKnown coding ls (drop 1 ks)
@@ -63,7 +63,7 @@ module _ (rows : List Entry) (words links : List ℕ) (count : ℕ) (halves byte
 
   module _ (j : ℕ) (q : j < length rows) where
     -- by the id of a key that has one
-    pub holds-by : (k : Key) → Known coding ls k → hasKey halves (keyId coding ls k) j ≡ holds (rowAt rows j) k
+    pub holds-by : (k : Key) → Known coding ls k → hasKey halves (keyId coding ls k) j ≡ holds (keptEntry rows j) k
     unfolding hasKey holds
     holds-by k w =
         let r = row-kept j q in
@@ -79,21 +79,21 @@ module _ (rows : List Entry) (words links : List ℕ) (count : ℕ) (halves byte
     unfolding hasKey
     nothing-held = refl
 
-    pub first-by : (ks : List Key) → AllKnown coding ls ks → (x : ℕ) → x ≡ firstId coding ls ks → hasKey halves x j ≡ firstHeld (rowAt rows j) ks
+    pub first-by : (ks : List Key) → AllKnown coding ls ks → (x : ℕ) → x ≡ firstId coding ls ks → hasKey halves x j ≡ firstHeld (keptEntry rows j) ks
     first-by [] none x e = rw e nothing-held
     first-by (k ∷ ks) (more w a) x e = rw e (holds-by k w)
 
     -- reason 9
-    pub shares-are : (i : ℕ) → i < length rows → sharesBy halves i j ≡ rivals (rowAt rows i) (rowAt rows j)
+    pub shares-are : (i : ℕ) → i < length rows → sharesBy halves i j ≡ rivals (keptEntry rows i) (keptEntry rows j)
     unfolding sharesBy rivals
     shares-are i p =
         let r = row-kept i p in
         ap₂ _&&_ (ap not (sym (h .tables .places i j p q)))
         (ap₂ _||_ (first-by (keysOf i) (r .known) _ (r .key1)) (first-by (drop 1 (keysOf i)) (rest-known (keysOf i) (r .known)) _ (r .key2))
-        ∙ sym (first-or-second (rowAt rows j) (keysOf i) (h .tables .apart i p)))
+        ∙ sym (first-or-second (keptEntry rows j) (keysOf i) (h .tables .apart i p)))
 
     -- and belongs to a group
-    pub belongs-by : (k : Key) → Known coding ls k → eqb (inColumn halves groupColumn j) (keyId coding ls k) ≡ belongs (rowAt rows j) k
+    pub belongs-by : (k : Key) → Known coding ls k → eqb (inColumn halves groupColumn j) (keyId coding ls k) ≡ belongs (keptEntry rows j) k
     belongs-by k w =
         sym (belongs-id coding ls k w marks (columnOf halves key1Column) (columnOf halves key2Column) (columnOf halves groupColumn)
-        j (rowAt rows j) (row-kept j q) (h .tables .single j q))
+        j (keptEntry rows j) (row-kept j q) (h .tables .single j q))

@@ -21,7 +21,7 @@ use Rattle.key_symbols.specs.Keyed.{symbolOf}
 use Rattle.manners.specs.Manners.{Manner, mannerOf, mannerAt, codeOf}
 use Rattle.keys.specs.Held.{namedOf, keysOf}
 use Rattle.keys.proofs.Fitting.{Listed, NamesFit}
-use Rattle.meaning.specs.Kept.{Known, rowAt}
+use Rattle.meaning.specs.Kept.{Known, keptEntry}
 use Rattle.arrays.specs.Room.{mostPlaces}
 use Rattle.kept.specs.Stored.{name1Column, name2Column, code1Column, code2Column, namedId}
 use Rattle.judged.proofs.Held.{coding, Held, column-at}
@@ -60,7 +60,7 @@ module _ (rows : List Entry) (words links : List ℕ) (count : ℕ) (halves byte
     -- by the code and the id that are kept of the first of some namings
     slot-by : (ks : List Key) (ns : List Naming) → FirstListed ks ns → ((namedOf ns .code ≡ 0 → ⊥) → idOf (namedOf ns .key) ls < noId)
         → (code name : ℕ) → code ≡ namedOf ns .code → name ≡ namedId ls (namedOf ns)
-        → (f (mannerAt code) && hasKey halves name j) ≡ firstNamed f (rowAt rows j) ns
+        → (f (mannerAt code) && hasKey halves name j) ≡ firstNamed f (keptEntry rows j) ns
     unfolding namedOf namedId
     slot-by ks [] l w code name c e = rw (e, nothing-held rows words links count halves bytes h j q) (and-false (f (mannerAt code)))
     slot-by ks (n ∷ ns) l w code name c e =
@@ -71,10 +71,10 @@ module _ (rows : List Entry) (words links : List ℕ) (count : ℕ) (halves byte
 
   module _ (i j : ℕ) (p : i < length rows) (q : j < length rows) where
     abbrev e : Entry
-    e = rowAt rows i
+    e = keptEntry rows i
 
     abbrev o : Entry
-    o = rowAt rows j
+    o = keptEntry rows j
 
     inside : i < mostPlaces
     inside = omega (arith, h .stored .few)

@@ -18,7 +18,7 @@ use Rattle.verdicts.specs.Steps.{belongs, counts}
 use Rattle.verdicts.specs.Verdicts.{sound, verdict}
 use Rattle.keys.specs.Held.{countOf, keysOf}
 use Rattle.keys.proofs.Fitting.{CountsFit}
-use Rattle.meaning.specs.Kept.{keyId, Known, AllKnown, none, more, noEntry, rowAt}
+use Rattle.meaning.specs.Kept.{keyId, Known, AllKnown, none, more, noEntry, keptEntry}
 use Rattle.kept.specs.Stored.{ownColumn, key1Column, groupColumn, countColumn}
 use Rattle.judged.proofs.Held.{coding, Held, column-at}
 use Rattle.judged.proofs.KeptLaws.{own-kept}
@@ -31,20 +31,20 @@ use Rattle.explain.proofs.HoldLaws.{row-kept, shares-are, belongs-by}
 use Rattle.explain.proofs.NameLaws.{named-at, follows-are}
 
 module _ (rows : List Entry) (words links : List ℕ) (count : ℕ) (halves bytes : List ℕ) (h : Held rows words links count halves bytes)
-    (cells : List ℕ) (judged : (i : ℕ) → i < length rows → getD cells i 0 ≡ verdict rows (rowAt rows i)) where
+    (cells : List ℕ) (judged : (i : ℕ) → i < length rows → getD cells i 0 ≡ verdict rows (keptEntry rows i)) where
   abbrev ls : List Symbol
   ls = symbols words count
 
-  sound-are : (j : ℕ) → j < length rows → soundBy halves cells j ≡ sound rows (rowAt rows j)
+  sound-are : (j : ℕ) → j < length rows → soundBy halves cells j ≡ sound rows (keptEntry rows j)
   unfolding soundBy
-  sound-are j q = rw (own-kept rows words links count halves bytes h j q, judged j q) (sound-cell rows (rowAt rows j))
+  sound-are j q = rw (own-kept rows words links count halves bytes h j q, judged j q) (sound-cell rows (keptEntry rows j))
 
   module _ (i j : ℕ) (p : i < length rows) (q : j < length rows) where
     abbrev e : Entry
-    e = rowAt rows i
+    e = keptEntry rows i
 
     abbrev o : Entry
-    o = rowAt rows j
+    o = keptEntry rows j
 
     column-is : inColumn bytes countColumn i ≡ countOf (facts e .counts) .column
     unfolding keysOf
@@ -98,11 +98,11 @@ module _ (rows : List Entry) (words links : List ℕ) (count : ℕ) (halves byte
         )
 
   -- told one after the other, they are the causes
-  pub causes-are : (i : ℕ) → i < length rows → map (rowAt rows) (allFrom (pointsTo halves bytes cells i) 0 (length rows)) ≡ causes rows (rowAt rows i)
+  pub causes-are : (i : ℕ) → i < length rows → map (keptEntry rows) (allFrom (pointsTo halves bytes cells i) 0 (length rows)) ≡ causes rows (keptEntry rows i)
   unfolding causes
   causes-are i p =
-      let e = rowAt rows i in
-      ap (map (rowAt rows))
-      (all-same (pointsTo halves bytes cells i) (λ j. speaksOf rows (verdict rows e) e (rowAt rows j)) 0 (length rows)
+      let e = keptEntry rows i in
+      ap (map (keptEntry rows))
+      (all-same (pointsTo halves bytes cells i) (λ j. speaksOf rows (verdict rows e) e (keptEntry rows j)) 0 (length rows)
       (λ j a b. points-are i j p (omega arith)))
       ∙ sym (keep-all noEntry (speaksOf rows (verdict rows e) e) rows)

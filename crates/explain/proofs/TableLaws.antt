@@ -9,7 +9,7 @@ use Rattle.laws.proofs.Lists.{map-at}
 use Rattle.verdicts.specs.Entries.{allRows}
 use Rattle.verdicts.specs.Verdicts.{verdict, verdicts}
 use Rattle.verdicts.proofs.CellLaws.{length-cells}
-use Rattle.meaning.specs.Kept.{noEntry, rowAt}
+use Rattle.meaning.specs.Kept.{noEntry, keptEntry}
 use Rattle.kept.specs.FirstPass.{Arrays}
 use Rattle.kept.specs.Keeping.{KeepsRows}
 use Rattle.judged.specs.Passes.{JudgedInto}
@@ -25,7 +25,7 @@ cell-read cells vs i h p =
 -- THE LAW OF EXPLAINING: `keep` promises the first of these, `judge_kept` the second, and enough cells are lent
 module _ (texts : List (List ℕ)) (s₀ s : Arrays) (rows symbols : ℕ) (k : KeepsRows texts s₀ s rows symbols)
     (before after : List ℕ) (v : JudgedInto (s .halves) (s .bytes) before after rows) (room : rows ≤ length before) where
-  judged : (i : ℕ) → i < length (allRows texts) → getD after i 0 ≡ verdict (allRows texts) (rowAt (allRows texts) i)
+  judged : (i : ℕ) → i < length (allRows texts) → getD after i 0 ≡ verdict (allRows texts) (keptEntry (allRows texts) i)
   unfolding verdicts
   judged i p =
       ap (λ (l : List ℕ). getD l i 0) (cells-judged texts s₀ s rows symbols k before after v)

@@ -17,11 +17,11 @@ use Rattle.verdicts.specs.Verdicts.{verdict}
 use Rattle.verdicts.specs.Places.{entryAt, verdictAt, place}
 use Rattle.verdicts.proofs.EntryLaws.{place-there, row-at}
 use Rattle.causes.specs.Causes.{speaksOf, causes}
-use Rattle.meaning.specs.Kept.{noEntry, rowAt}
+use Rattle.meaning.specs.Kept.{noEntry, keptEntry}
 use Rattle.tables.specs.Sizes.{fit, refusedBy, sizesOf}
 use Rattle.cells.specs.declared.Cell.{Cell}
 use Rattle.cells.specs.declared.Cell.the-variants.{At, NoCell}
-use Rattle.cells.specs.Cells.{fits, isRow, cellOf}
+use Rattle.cells.specs.Cells.{haveCells, isRow, cellOf}
 use Rattle.cells.proofs.CellLaws.{is-row}
 use Rattle.kept.specs.FirstPass.{Arrays, arrays}
 use Rattle.kept.specs.Puts.{allHalves, allBytes}
@@ -32,12 +32,12 @@ use Rattle.explain.specs.Explained.{Explains}
 use Rattle.explain.proofs.TableLaws as tables
 use Rattle.explaining.specs.declared.Explanation.{Explanation}
 use Rattle.explaining.specs.declared.Explanation.the-variants.{Verdict, NoRow}
-use Rattle.explaining.specs.Explaining.{Answer, refused, noRow, explained, said, causePlaces, bySize, answerOf, placesAfter}
+use Rattle.explaining.specs.Explaining.{Answer, refused, noRow, explained, saidExplanation, causePlaces, bySize, answerOf, placesAfter}
 use Rattle.explaining.specs.ByColumns.{pointed, answerAt, placesAt, ExplainsBy}
 
 -- THE LAW OF PLACES: the rows there are the causes
 pub places-causes : (texts : List (List ℕ)) (n m : ℕ)
-    → map (rowAt (allRows texts)) (causePlaces texts n m) ≡ causes (allRows texts) (entryAt texts (n - 1) m)
+    → map (keptEntry (allRows texts)) (causePlaces texts n m) ≡ causes (allRows texts) (entryAt texts (n - 1) m)
 unfolding causePlaces causes verdictAt
 places-causes texts n m =
     let e = entryAt texts (n - 1) m in
@@ -49,12 +49,12 @@ module _ (texts : List (List ℕ)) (n m : ℕ) where
   answer-refused e = rw e
 
   pub places-refused : {number place : ℕ} → sizesOf texts ≡ refusedBy number place → (places : List ℕ) → places ≡ placesAfter texts n m places
-  unfolding placesAfter fits
+  unfolding placesAfter haveCells
   places-refused e places = rw e
 
   module _ (fitting : sizesOf texts ≡ fit) where
-    fit-true : fits texts ≡ true
-    unfolding fits
+    fit-true : haveCells texts ≡ true
+    unfolding haveCells
     fit-true = rw fitting
 
     has-cell : isRow texts n m ≡ true → cellOf texts n m ≡ At (place texts (n - 1) m)
@@ -86,7 +86,7 @@ module _ (texts : List (List ℕ)) (n m : ℕ) where
         below : place texts (n - 1) m < rows
         below = omega (arith, place-there texts (n - 1) m (is-row texts n m t), x .count)
 
-        row-is : rowAt (allRows texts) (place texts (n - 1) m) ≡ entryAt texts (n - 1) m
+        row-is : keptEntry (allRows texts) (place texts (n - 1) m) ≡ entryAt texts (n - 1) m
         row-is = row-at texts (n - 1) m (is-row texts n m t) noEntry
 
         verdict-is : getD cells (place texts (n - 1) m) 0 ≡ verdictAt texts (n - 1) m
@@ -99,10 +99,10 @@ module _ (texts : List (List ℕ)) (n m : ℕ) where
             let at = place texts (n - 1) m in
             ap (λ (k : ℕ). allFrom (pointsTo halves bytes cells at) 0 k) (x .count)
             ∙ all-same (pointsTo halves bytes cells at)
-            (λ j. speaksOf (allRows texts) (verdict (allRows texts) (entryAt texts (n - 1) m)) (entryAt texts (n - 1) m) (rowAt (allRows texts) j))
+            (λ j. speaksOf (allRows texts) (verdict (allRows texts) (entryAt texts (n - 1) m)) (entryAt texts (n - 1) m) (keptEntry (allRows texts) j))
             0 (length (allRows texts))
             (λ j a b. x .points at j below (omega (arith, x .count))
-            ∙ ap (λ (e : Entry). speaksOf (allRows texts) (verdict (allRows texts) e) e (rowAt (allRows texts) j)) row-is)
+            ∙ ap (λ (e : Entry). speaksOf (allRows texts) (verdict (allRows texts) e) e (keptEntry (allRows texts) j)) row-is)
 
       pub answer-at : answerAt halves bytes cells rows (cellOf texts n m) ≡ answerOf texts n m
       answer-at =
@@ -119,7 +119,7 @@ module _ (texts : List (List ℕ)) (n m : ℕ) where
 -- what a call answers, and what it leaves in the places
 abbrev pub Explained : List (List ℕ) → Cell → (places places′ : List ℕ) → Explanation → Type 0
 Explained texts cell places places′ r =
-    (n m : ℕ) → cell ≡ cellOf texts n m → (said r ≡ answerOf texts n m) × (places′ ≡ placesAfter texts n m places)
+    (n m : ℕ) → cell ≡ cellOf texts n m → (saidExplanation r ≡ answerOf texts n m) × (places′ ≡ placesAfter texts n m places)
 
 -- rows are kept, and judged
 pub by-columns : (texts : List (List ℕ)) (s₀ s : Arrays) (rows symbols : ℕ) → KeepsRows texts s₀ s rows symbols

@@ -9,7 +9,7 @@ use Rattle.judged.specs.Passes.{JudgedInto}
 use Rattle.cells.specs.declared.Cell.{Cell}
 use Rattle.cells.specs.declared.Cell.the-variants.{At, NoCell}
 use Rattle.pointing.specs.Pointing.{pointsTo}
-use Rattle.explaining.specs.Explaining.{Answer, noRow, explained, said}
+use Rattle.explaining.specs.Explaining.{Answer, noRow, explained, saidExplanation}
 use Rattle.explaining.specs.declared.Explanation.{Explanation}
 
 -- the rows that the row at a place points to
@@ -26,5 +26,5 @@ placesAt halves bytes cells n NoCell places = places
 
 pub record ExplainsBy (halves bytes cells cells′ : List ℕ) (n : ℕ) (cell : Cell) (places places′ : List ℕ) (r : Explanation) : Type 0 where
   pub judged : JudgedInto halves bytes cells cells′ n
-  pub answers : said r ≡ answerAt halves bytes cells′ n cell
+  pub answers : saidExplanation r ≡ answerAt halves bytes cells′ n cell
   pub leaves : places′ ≡ placesAt halves bytes cells′ n cell places

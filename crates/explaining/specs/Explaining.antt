@@ -11,9 +11,9 @@ use Rattle.verdicts.specs.Answer.{firstTable, tooLong, tooManyRows}
 use Rattle.verdicts.specs.Entries.{allRows}
 use Rattle.verdicts.specs.Places.{entryAt, verdictAt}
 use Rattle.causes.specs.Causes.{speaksOf}
-use Rattle.meaning.specs.Kept.{rowAt}
+use Rattle.meaning.specs.Kept.{keptEntry}
 use Rattle.tables.specs.Sizes.{Sized, fit, refusedBy, sizesOf}
-use Rattle.cells.specs.Cells.{fits, isTable, isRow}
+use Rattle.cells.specs.Cells.{haveCells, isTable, isRow}
 use Rattle.explaining.specs.declared.Explanation.{Explanation}
 use Rattle.explaining.specs.declared.Explanation.the-variants.{Verdict, NoRow, TooLong, TooManyRows}
 
@@ -23,16 +23,16 @@ pub data Answer : Type 0 where
   noRow : Answer
   explained : (verdict count : ℕ) → Answer
 
-abbrev pub said : Explanation → Answer
-said (Verdict verdict count) = explained verdict count
-said NoRow = noRow
-said (TooLong table) = refused 1 (table .0)
-said (TooManyRows table) = refused 2 (table .0)
+abbrev pub saidExplanation : Explanation → Answer
+saidExplanation (Verdict verdict count) = explained verdict count
+saidExplanation NoRow = noRow
+saidExplanation (TooLong table) = refused 1 (table .0)
+saidExplanation (TooManyRows table) = refused 2 (table .0)
 
 -- the places of the causes of row m of table n, from 1: by `places-causes` these rows are its `causes`
 unfoldable pub causePlaces : List (List ℕ) → (n m : ℕ) → List ℕ
 causePlaces texts n m =
-    allFrom (λ j. speaksOf (allRows texts) (verdictAt texts (n - 1) m) (entryAt texts (n - 1) m) (rowAt (allRows texts) j)) 0 (length (allRows texts))
+    allFrom (λ j. speaksOf (allRows texts) (verdictAt texts (n - 1) m) (entryAt texts (n - 1) m) (keptEntry (allRows texts) j)) 0 (length (allRows texts))
 
 -- 01: "1, 2 … any call with tables, before all else"
 abbrev pub bySize : Sized → Answer → Answer
@@ -45,7 +45,7 @@ answerOf texts n m =
 
 -- what the lent places hold then: the causes' places, as far as there is room; 01: "A refusal writes nothing"
 unfoldable pub placesAfter : List (List ℕ) → (n m : ℕ) → List ℕ → List ℕ
-placesAfter texts n m places = cond (fits texts && isRow texts n m) (sets places 0 (causePlaces texts n m)) places
+placesAfter texts n m places = cond (haveCells texts && isRow texts n m) (sets places 0 (causePlaces texts n m)) places
 
 pub record Examples : Type 0 where
   -- pid has one row, and no second
@@ -53,5 +53,5 @@ pub record Examples : Type 0 where
   pub left : placesAfter ((65 ∷ 10 ∷ []) ∷ []) 1 2 (7 ∷ []) ≡ 7 ∷ []
 
 pub examples : Examples
-unfolding answerOf placesAfter fits sizesOf isTable isRow tooLong tooManyRows firstTable linesOf lead onFirst
+unfolding answerOf placesAfter haveCells sizesOf isTable isRow tooLong tooManyRows firstTable linesOf lead onFirst
 examples = record { noSecond = refl; left = refl }

@@ -23,7 +23,7 @@ ghost use lib.Seq.{sets};
 ghost use Rattle.laws.specs.Prefix.{allFrom};
 ghost use Rattle.cells.specs.Cells.{cellOf};
 ghost use Rattle.pointing.specs.Pointing.{pointsTo};
-ghost use Rattle.explaining.specs.Explaining.{said, answerOf, placesAfter};
+ghost use Rattle.explaining.specs.Explaining.{saidExplanation, answerOf, placesAfter};
 ghost use Rattle.explaining.specs.ByColumns.{ExplainsBy};
 
 // The verdict, and of how many rows it speaks; or there is no such row; or the first table that is too large.
@@ -95,7 +95,7 @@ fn explain_in(
     places: &mut [usize],
 ) -> Explanation
     ensures { λ r. ⌜ ((n m : ℕ) → cell ≡ cellOf (map now (tables .entry)) n m
-        → (said r ≡ answerOf (map now (tables .entry)) n m)
+        → (saidExplanation r ≡ answerOf (map now (tables .entry)) n m)
         × (now (places .exit) ≡ placesAfter (map now (tables .entry)) n m (now (places .entry)))) ⌝ }
 {
     match keep(tables, words, links, halves, bytes) {
@@ -113,7 +113,7 @@ pub fn explain(
     row: RowNumber,
     places: &mut [usize],
 ) -> Explanation
-    ensures { λ r. ⌜ said r ≡ answerOf (map now (tables .entry)) (table .0) (row .0) ⌝ }
+    ensures { λ r. ⌜ saidExplanation r ≡ answerOf (map now (tables .entry)) (table .0) (row .0) ⌝ }
     ensures { λ _. ⌜ now (places .exit) ≡ placesAfter (map now (tables .entry)) (table .0) (row .0) (now (places .entry)) ⌝ }
 {
     let mut words = [0u64; WORDS];

@@ -11,7 +11,7 @@ use Rattle.verdicts.specs.Entries.{tableCount}
 use Rattle.refusal_places.specs.Small.{placeIn, Small}
 use Rattle.telling.specs.declared.Telling.{Telling}
 use Rattle.telling.specs.Values.{countsOf, ofCounts}
-use Rattle.telling.specs.Answers.{Plain, plainOf, said, code, written, Told}
+use Rattle.telling.specs.Answers.{Plain, plainOf, toldPlainly, code, written, Told}
 use Rattle.exports.specs.Exports.{ImportTold}
 use Rattle.exports.proofs.ImportPlaces.{import-small}
 
@@ -21,11 +21,11 @@ place-plain valuesOf (refused number place) = refl
 place-plain valuesOf (answer a) = refl
 
 module _ {A : Type 0} (valuesOf : A → List ℤ) {o q : Outcome A} (t : Telling) {before after : List ℤ} {r : ℕ} where
-  pub delivered : o ≡ q → Small q → said t ≡ plainOf valuesOf o → r ≡ code (t .number) (t .place % 2 ^ 32)
+  pub delivered : o ≡ q → Small q → toldPlainly t ≡ plainOf valuesOf o → r ≡ code (t .number) (t .place % 2 ^ 32)
       → after ≡ written before (take (t .count) (t .values)) → Told (plainOf valuesOf q) before after r
-  unfolding said
+  unfolding toldPlainly
   delivered e s l c w =
-      let m : said t ≡ plainOf valuesOf q = l ∙ ap (plainOf valuesOf) e in
+      let m : toldPlainly t ≡ plainOf valuesOf q = l ∙ ap (plainOf valuesOf) e in
       let k : t .place ≡ placeIn q = ap (λ (p : Plain). p .place) m ∙ place-plain valuesOf q in
       let b : placeIn q < 2 ^ 32 = s .below in
       let u : t .place % 2 ^ 32 ≡ t .place = omega arith in
@@ -35,7 +35,7 @@ module _ {A : Type 0} (valuesOf : A → List ℤ) {o q : Outcome A} (t : Telling
       }
 
 pub import-delivered : (texts : List (List ℕ)) → length texts ≡ tableCount → (cells : List ℕ) {x : Imported} {cells′ : List ℕ} (t : Telling)
-    {before after : List ℤ} {r : ℕ} → x ≡ importOf texts (length cells) → cells′ ≡ cellsAfter texts cells x → said t ≡ plainOf ofCounts (countsOf x)
+    {before after : List ℤ} {r : ℕ} → x ≡ importOf texts (length cells) → cells′ ≡ cellsAfter texts cells x → toldPlainly t ≡ plainOf ofCounts (countsOf x)
     → r ≡ code (t .number) (t .place % 2 ^ 32) → after ≡ written before (take (t .count) (t .values)) → ImportTold texts cells cells′ before after r
 import-delivered texts all cells t e l k c w =
     record {

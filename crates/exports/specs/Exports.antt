@@ -9,8 +9,8 @@ use Rattle.telling.specs.Values.{countsOf, ofCounts}
 use Rattle.telling.specs.Answers.{plainOf, Told}
 
 -- raised with each change of a signature or of an answer
-abbrev pub version : ℕ
-version = 1
+abbrev pub interfaceVersion : ℕ
+interfaceVersion = 1
 
 -- the ten tables in 01's order
 abbrev pub ten : (pid pic plf pcf caf cap txf txp ocf ocp : List ℕ) → List (List ℕ)

@@ -16,14 +16,14 @@ ghost use Rattle.calls.specs.Calls.{identifyOf, extractOf, engineerOf};
 ghost use Rattle.offered_step.specs.OfferedStep.{limitStepFrom};
 ghost use Rattle.telling.specs.Values.{ofIdentity, ofReading, ofEngineered, ofState};
 ghost use Rattle.telling.specs.Answers.{plainOf, Told};
-ghost use Rattle.exports.specs.Exports.{ImportTold, ten, version};
+ghost use Rattle.exports.specs.Exports.{ImportTold, ten, interfaceVersion};
 
 // The version of these functions, which PETROLYAZ_VERSION of the header is too.
 const VERSION: u32 = 1;
 
 #[no_mangle]
 pub extern "C" fn petrolyaz_version() -> u32
-    ensures { λ r. ⌜ r ≡ version ⌝ }
+    ensures { λ r. ⌜ r ≡ interfaceVersion ⌝ }
 {
     VERSION
 }

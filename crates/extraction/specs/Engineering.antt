@@ -17,18 +17,18 @@ use Rattle.engineering.specs.Engineering.{Engineered, value, engineered}
 use Rattle.extraction.specs.Extraction.{extractBy}
 
 -- of a raw value, by the parameter's good pcf row. 01: "A string is answered as the part of the packet it is"
-unfoldable pub ofValue : Rows → Name → Value → Outcome Engineered
-ofValue rows name (number z) = andThen (needed (rows .holder (parameter name))) (λ row. engineered rows (pcfRow (row .bytes)) z)
-ofValue rows name (part start bytes) = answer (value (part start bytes))
+unfoldable pub engineeredFrom : Rows → Name → Value → Outcome Engineered
+engineeredFrom rows name (number z) = andThen (needed (rows .holder (parameter name))) (λ row. engineered rows (pcfRow (row .bytes)) z)
+engineeredFrom rows name (part start bytes) = answer (value (part start bytes))
 
 -- valid or not
 unfoldable pub engineerBy : Rows → (p name : List ℕ) → (k : ℕ) → Outcome Engineered
-engineerBy rows p name k = andThen (extractBy rows p name k) (λ r. ofValue rows (nameOf name) (r .value))
+engineerBy rows p name k = andThen (extractBy rows p name k) (λ r. engineeredFrom rows (nameOf name) (r .value))
 
 pub record Examples : Type 0 where
-  pub string : ofValue (among []) (nameOf (ascii "T1")) (part 12 2) ≡ answer (value (part 12 2))
-  pub unknown : ofValue (among []) (nameOf (ascii "T1")) (number (pos 7)) ≡ refused 26 0
+  pub string : engineeredFrom (among []) (nameOf (ascii "T1")) (part 12 2) ≡ answer (value (part 12 2))
+  pub unknown : engineeredFrom (among []) (nameOf (ascii "T1")) (number (pos 7)) ≡ refused 26 0
 
 pub examples : Examples
-unfolding ofValue andThen needed among find
+unfolding engineeredFrom andThen needed among find
 examples = record { string = refl; unknown = refl }

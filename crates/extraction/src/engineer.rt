@@ -16,7 +16,7 @@ ghost use Rattle.lines.specs.Names.{nameOf};
 ghost use Rattle.outcomes.specs.Values.{number, valueOf};
 ghost use Rattle.database.specs.Arrays.{database, answers};
 ghost use Rattle.engineering.specs.Engineering.{saidEngineered};
-ghost use Rattle.extraction.specs.Engineering.{ofValue, engineerBy};
+ghost use Rattle.extraction.specs.Engineering.{engineeredFrom, engineerBy};
 
 // Of a raw value that is a number, by the parameter's good pcf row.
 fn engineer_number(
@@ -27,7 +27,8 @@ fn engineer_number(
     name: &[u8],
     raw: i64,
 ) -> Engineered
-    ensures { λ r. ⌜ saidEngineered r ≡ ofValue (answers (database (map now (tables .entry)) (now (words .entry)) (now (links .entry)) (now (columns .entry))))
+    ensures { λ r. ⌜ saidEngineered r
+        ≡ engineeredFrom (answers (database (map now (tables .entry)) (now (words .entry)) (now (links .entry)) (now (columns .entry))))
         (nameOf (now (name .entry))) (number raw) ⌝ }
 {
     let at = holder_of(words, links, columns, parameter_key(name_of(name)));
@@ -46,7 +47,8 @@ fn engineer_raw(
     name: &[u8],
     raw: Value,
 ) -> Engineered
-    ensures { λ r. ⌜ saidEngineered r ≡ ofValue (answers (database (map now (tables .entry)) (now (words .entry)) (now (links .entry)) (now (columns .entry))))
+    ensures { λ r. ⌜ saidEngineered r
+        ≡ engineeredFrom (answers (database (map now (tables .entry)) (now (words .entry)) (now (links .entry)) (now (columns .entry))))
         (nameOf (now (name .entry))) (valueOf raw) ⌝ }
 {
     match raw {

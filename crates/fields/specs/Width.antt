@@ -13,20 +13,20 @@ bitsOf (Bits n) = some n
 bitsOf Refused = none
 
 -- so many bits where n is from lowest to highest
-unfoldable pub within : ℕ → ℕ → ℕ → ℕ → Option ℕ
-within n lowest highest bits = cond (leb lowest n && leb n highest) (some bits) none
+unfoldable pub bitsWithin : ℕ → ℕ → ℕ → ℕ → Option ℕ
+bitsWithin n lowest highest bits = cond (leb lowest n && leb n highest) (some bits) none
 
 -- 01: "3, 4 | 0–12 | PFC + 4" and "3, 4 | 13; 14 | 24; 32"
 unfoldable pub integerWidth : ℕ → Option ℕ
-integerWidth pfc = cond (eqb pfc 13) (some 24) (cond (eqb pfc 14) (some 32) (within pfc 0 12 (pfc + 4)))
+integerWidth pfc = cond (eqb pfc 13) (some 24) (cond (eqb pfc 14) (some 32) (bitsWithin pfc 0 12 (pfc + 4)))
 
 -- 01: "1 | 0 | 1", "2, 6 | 1–32 | PFC", "7, 8 | 1–255 | 8 × PFC"; "Any other pair is reason 8 at column 6"
 unfoldable pub widthOf : ℕ → ℕ → Option ℕ
 widthOf ptc pfc =
-    cond (eqb ptc 1) (within pfc 0 0 1)
-    (cond (eqb ptc 2 || eqb ptc 6) (within pfc 1 32 pfc)
+    cond (eqb ptc 1) (bitsWithin pfc 0 0 1)
+    (cond (eqb ptc 2 || eqb ptc 6) (bitsWithin pfc 1 32 pfc)
     (cond (eqb ptc 3 || eqb ptc 4) (integerWidth pfc)
-    (cond (eqb ptc 7 || eqb ptc 8) (within pfc 1 255 (8 * pfc))
+    (cond (eqb ptc 7 || eqb ptc 8) (bitsWithin pfc 1 255 (8 * pfc))
     none)))
 
 pub record Examples : Type 0 where
@@ -36,5 +36,5 @@ pub record Examples : Type 0 where
   pub missing : widthOf 5 1 ≡ none
 
 pub examples : Examples
-unfolding widthOf integerWidth within
+unfolding widthOf integerWidth bitsWithin
 examples = record { sixteen = refl; twenty-four = refl; string = refl; missing = refl }

@@ -1,7 +1,7 @@
 // The width of a field by its type code and format code.
 ghost use mathlib.Core.Path.{_≡_};
 ghost use Prim.Native.Nat.{_*_};
-ghost use Rattle.fields.specs.Width.{bitsOf, widthOf, within, integerWidth};
+ghost use Rattle.fields.specs.Width.{bitsOf, widthOf, bitsWithin, integerWidth};
 
 // The width in bits, or no such pair of codes.
 pub enum Width {
@@ -10,7 +10,7 @@ pub enum Width {
 }
 
 fn bits_within(n: u32, lowest: u32, highest: u32, bits: u32) -> Width
-    ensures { λ r. ⌜ bitsOf r ≡ within n lowest highest bits ⌝ }
+    ensures { λ r. ⌜ bitsOf r ≡ bitsWithin n lowest highest bits ⌝ }
 {
     if lowest <= n {
         if n <= highest {
@@ -36,7 +36,7 @@ fn integer_width(pfc: u32) -> Width
 }
 
 fn string_width(pfc: u32) -> Width
-    ensures { λ r. ⌜ bitsOf r ≡ within pfc 1 255 (8 * pfc) ⌝ }
+    ensures { λ r. ⌜ bitsOf r ≡ bitsWithin pfc 1 255 (8 * pfc) ⌝ }
 {
     if pfc <= 255 {
         return bits_within(pfc, 1, 255, 8 * pfc);

@@ -22,7 +22,7 @@ use Rattle.headers.specs.declared.Head.{Head}
 use Rattle.rows.specs.declared.letters.OffEnds.{OffEnds}
 use Rattle.rows.specs.declared.letters.OffEnds.the-variants.{Extrapolate, Refuse}
 use Rattle.curves.specs.Floor.{floorDiv}
-use Rattle.curves.specs.Line.{within, isCoordinate, isPoint, isSegment, isRaw, heightAt, resultOf, lineAt}
+use Rattle.curves.specs.Line.{isBetween, isCoordinate, isPoint, isSegment, isRaw, heightAt, resultOf, lineAt}
 use Rattle.calibration.specs.Nearest.{passes, nearer, closer, better, nearestOf, notAbove, below, above}
 use Rattle.calibration.specs.Curve.{pointAt, through, offEnd, fromLast, beforeFirst, placed, curveAt}
 
@@ -52,14 +52,14 @@ valueIn none = free
 valueIn (some z) = value z
 
 -- what the definitions answer
-unfoldable pub told : Asked → Said
-told apid = byHead (λ (head : Head). head .apid) (headOf packet)
-told ptype = byHead (λ (head : Head). typeOf head packet) (headOf packet)
-told subtype = byHead (λ (head : Head). subtypeOf head packet) (headOf packet)
-told (unsigned width byte bit) = unsignedAt packet (8 * byte + bit) width
-told (signed width byte bit) = signedAt packet (8 * byte + bit) width
-told (curve ends raw) = curveAt ends curveXs curveYs raw
-told (number text) = valueIn (numberOf (ascii text))
+unfoldable pub figureTold : Asked → Said
+figureTold apid = byHead (λ (head : Head). head .apid) (headOf packet)
+figureTold ptype = byHead (λ (head : Head). typeOf head packet) (headOf packet)
+figureTold subtype = byHead (λ (head : Head). subtypeOf head packet) (headOf packet)
+figureTold (unsigned width byte bit) = unsignedAt packet (8 * byte + bit) width
+figureTold (signed width byte bit) = signedAt packet (8 * byte + bit) width
+figureTold (curve ends raw) = curveAt ends curveXs curveYs raw
+figureTold (number text) = valueIn (numberOf (ascii text))
 
 -- 01: "Figures to hold it to († proved together)"
 unfoldable pub figures : List (Asked × Said)
@@ -94,11 +94,11 @@ figures =
     ∷ []
 
 -- every figure is what the definitions answer
-pub figures-hold : map (λ (f : Asked × Said). told (f .0)) figures ≡ map (λ (f : Asked × Said). f .1) figures
+pub figures-hold : map (λ (f : Asked × Said). figureTold (f .0)) figures ≡ map (λ (f : Asked × Said). f .1) figures
 unfolding
-    figures told packet byHead headOf header.version header.typeBit header.flagged header.apid header.sequenceCount header.lengthField
+    figures figureTold packet byHead headOf header.version header.typeBit header.flagged header.apid header.sequenceCount header.lengthField
     unsignedAt signedAt complementOf fieldAt isWidth inside bitInside numberAt bitAt
     curveXs curveYs curveAt placed fromLast beforeFirst offEnd through pointAt notAbove below above nearestOf better closer nearer passes
-    lineAt isSegment isPoint isCoordinate isRaw within resultOf heightAt floorDiv
+    lineAt isSegment isPoint isCoordinate isRaw isBetween resultOf heightAt floorDiv
     valueIn numberOf meaning spelt after digitOn digitOf
 figures-hold = refl

@@ -11,7 +11,7 @@ ghost use lib.Seq.{sets};
 ghost use Rattle.laws.specs.Prefix.{flag};
 ghost use Rattle.laws.specs.Values.{tabulate};
 ghost use Rattle.passes.specs.Marked.{under};
-ghost use Rattle.findings.specs.Found.{rowOf, countOf};
+ghost use Rattle.findings.specs.Found.{rowLinked, countFinding};
 
 // Reason 10, to which the column that counts is added.
 const DIFFERS: u16 = 10 * 256;
@@ -25,14 +25,14 @@ pub fn mark_formed(own: &[u16], formed: &mut [u8], n: usize)
 
 // A row instead of one more than it.
 fn row_of(more: u16) -> u16
-    ensures { λ r. ⌜ r ≡ rowOf more ⌝ }
+    ensures { λ r. ⌜ r ≡ rowLinked more ⌝ }
 {
     if more == 0 { NO_ROW } else { more - 1 }
 }
 
 // The rows that hold the keys which rows name. `holders` has one more than a row that holds a key, by the key's id.
 pub fn find_rows(names: &[u16], holders: &[u16], found: &mut [u16], n: usize)
-    ensures { λ _. ⌜ now (found .exit) ≡ sets (now (found .entry)) 0 (tabulate (λ i. rowOf (under (now (holders .entry)) (now (names .entry)) i)) 0 n) ⌝ }
+    ensures { λ _. ⌜ now (found .exit) ≡ sets (now (found .entry)) 0 (tabulate (λ i. rowLinked (under (now (holders .entry)) (now (names .entry)) i)) 0 n) ⌝ }
 {
     let mut i: usize = 0;
     while i < n {
@@ -44,7 +44,7 @@ pub fn find_rows(names: &[u16], holders: &[u16], found: &mut [u16], n: usize)
 }
 
 fn count_of(column: u8, number: u16, tally: u16) -> u16
-    ensures { λ r. ⌜ r ≡ countOf column number tally ⌝ }
+    ensures { λ r. ⌜ r ≡ countFinding column number tally ⌝ }
 {
     if column == 0 {
         return 0;
@@ -65,7 +65,8 @@ pub fn count_rows(
     n: usize,
 )
     ensures { λ _. ⌜ now (counts .exit) ≡ sets (now (counts .entry)) 0
-        (tabulate (λ i. countOf (getD (now (columns .entry)) i 0) (getD (now (numbers .entry)) i 0) (under (now (tallies .entry)) (now (keys .entry)) i)) 0 n) ⌝ }
+        (tabulate (λ i. countFinding (getD (now (columns .entry)) i 0) (getD (now (numbers .entry)) i 0)
+        (under (now (tallies .entry)) (now (keys .entry)) i)) 0 n) ⌝ }
 {
     let mut i: usize = 0;
     while i < n {

@@ -62,16 +62,16 @@ fiveNumbers rows head p = andThen (identifiersFrom p (picRowOf rows head p)) (λ
 
 -- Examples in 01's packet, whose APID is 10, by pic rows, in which ";" stands for TAB
 
-abbrev pub rowOf : (table number : ℕ) → String → Row
-rowOf table number text = record { table = table; number = number; start = 0; bytes = map (λ b. cond (eqb b (char ";")) 9 b) (ascii text) }
+abbrev pub exampleRow : (table number : ℕ) → String → Row
+exampleRow table number text = record { table = table; number = number; start = 0; bytes = map (λ b. cond (eqb b (char ";")) 9 b) (ascii text) }
 
 -- PI1 has 16 bits at byte 12, for this APID and no other
-abbrev pub own : Row
-own = rowOf 1 1 "3;25;12;16;-1;0;10"
+abbrev pub ownApid : Row
+ownApid = exampleRow 1 1 "3;25;12;16;-1;0;10"
 
 -- PI1 has 16 bits at byte 13
 abbrev pub general : Row
-general = rowOf 1 2 "3;25;13;16;-1;0"
+general = exampleRow 1 2 "3;25;13;16;-1;0"
 
 abbrev flaggedHead : Head
 flaggedHead = record { flagged = true; apid = 10; count = 0 }
@@ -80,7 +80,7 @@ abbrev plainHead : Head
 plainHead = record { flagged = false; apid = 10; count = 0 }
 
 pub record Examples : Type 0 where
-  pub ownFirst : fiveNumbers (among (general ∷ own ∷ [])) flaggedHead packet
+  pub ownFirst : fiveNumbers (among (general ∷ ownApid ∷ [])) flaggedHead packet
       ≡ answer (record { ptype = 3; stype = 25; apid = 10; pi1 = 4660; pi2 = 0 })
   pub leaves : fiveNumbers (among (general ∷ [])) flaggedHead packet ≡ refused 24 13
   pub noRow : fiveNumbers (among []) flaggedHead packet ≡ answer (record { ptype = 3; stype = 25; apid = 10; pi1 = 0; pi2 = 0 })

@@ -13,7 +13,7 @@ use Rattle.lines.proofs.ColumnLaws.{divided-stored}
 use Rattle.lines.proofs.ScanLaws.{walk-bytes, walk-ended, walk-next, walk-count, walk-found}
 use Rattle.schemas.specs.declared.Table.{Table}
 use Rattle.schemas.specs.Tables.{schema}
-use Rattle.schemas.specs.Reasons.{verdict, lineOf, shape, shapeBy}
+use Rattle.schemas.specs.Reasons.{reasonAt, lineOf, shape, shapeBy}
 use Rattle.schemas.proofs.ShapeLaws.{schema-few, shape-walked}
 use Rattle.formed.specs.Contradictions.{contradiction}
 use Rattle.formed.specs.Formed.{orContradiction, formed}
@@ -59,6 +59,6 @@ module _ (shaped column : ℕ) where
   unfolding orContradiction
   none h k = rw (h, k)
 
-  pub eight : shaped ≡ 0 → (column ≡ 0 → ⊥) → verdict 8 column ≡ orContradiction shaped column
+  pub eight : shaped ≡ 0 → (column ≡ 0 → ⊥) → reasonAt 8 column ≡ orContradiction shaped column
   unfolding orContradiction
   eight h k = rw (h, ne-eqb column 0 k)

@@ -7,11 +7,11 @@ use lib.ListN.{length}
 use borrow.Author.Tests.{le-leb}
 use Rattle.laws.proofs.Cases.{false≢true}
 use Rattle.units.specs.declared.TableNumber.{TableNumber}
-use Rattle.outcomes.specs.Refusals.{numberOf, placeOf}
+use Rattle.outcomes.specs.Refusals.{refusalNumber, refusalPlace}
 use Rattle.outcomes.specs.declared.Refusal.the-variants.{TableTooLong, TooManyRows}
 use Rattle.symbols.specs.Arrays.{allWords, allLinks}
 use Rattle.database.specs.Arrays.{allColumns}
-use Rattle.loading.specs.Loaded.{Lent, hasRoom, Loads}
+use Rattle.loading.specs.Loaded.{Lent, allLent, Loads}
 use Rattle.loading.specs.declared.Loading.{Loading}
 use Rattle.loading.specs.declared.Loading.the-variants as loading
 use Rattle.full_loading.specs.FullLoads.{FullLoads}
@@ -23,17 +23,17 @@ module _ (texts : List (List ℕ)) (before after : Lent) {r : Loading} (l : Load
   full-done e = subst (Loads texts before after) e l
 
   pub full-long : (table : TableNumber) → r ≡ loading.TooLong table → FullLoads texts before after (Refused (TableTooLong table))
-  unfolding Loads FullLoads numberOf placeOf
+  unfolding Loads FullLoads refusalNumber refusalPlace
   full-long table e = subst (Loads texts before after) e l
 
   pub full-many : (table : TableNumber) → r ≡ loading.TooManyRows table → FullLoads texts before after (Refused (TooManyRows table))
-  unfolding Loads FullLoads numberOf placeOf
+  unfolding Loads FullLoads refusalNumber refusalPlace
   full-many table e = subst (Loads texts before after) e l
 
   pub never-short : allWords ≤ length (before .words) → allLinks ≤ length (before .links) → allColumns ≤ length (before .columns) → r ≡ loading.NoRoom → ⊥
   unfolding Loads
   never-short w k c e =
-      let short : hasRoom before ≡ false = subst (Loads texts before after) e l .1 in
-      let room : hasRoom before ≡ true =
+      let short : allLent before ≡ false = subst (Loads texts before after) e l .1 in
+      let room : allLent before ≡ true =
       rw (le-leb allWords (length (before .words)) w, le-leb allLinks (length (before .links)) k, le-leb allColumns (length (before .columns)) c) in
       false≢true (sym short ∙ room)

@@ -7,7 +7,7 @@ use Prim.Native.Nat.{ℕ}
 use Rattle.rows.specs.Records.{pidRow}
 use Rattle.rows.specs.declared.records.PidRow.{PidRow}
 use Rattle.verdicts.specs.Key.{Key}
-use Rattle.key_symbols.specs.Bounded.{fits, packetOf}
+use Rattle.key_symbols.specs.Bounded.{keyFits, packetOf}
 use Rattle.key_symbols.specs.declared.FiveNumbers.{FiveNumbers}
 use Rattle.outcomes.specs.Outcome.{answer, refused}
 use Rattle.database.specs.Rows.{Row, Rows}
@@ -15,7 +15,7 @@ use Rattle.database.specs.Arrays.{Database, rowAt, rowFor, keyedBy, answers}
 use Rattle.identification.specs.Identification.{chosen, chooseBy}
 
 -- a key that doesn't fit is held by no row
-pub holder-unfit : (d : Database) (k : Key) → fits k ≡ false → answers d .holder k ≡ none
+pub holder-unfit : (d : Database) (k : Key) → keyFits k ≡ false → answers d .holder k ≡ none
 unfolding answers keyedBy rowFor
 holder-unfit d k e = rw e
 

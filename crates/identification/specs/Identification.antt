@@ -22,7 +22,7 @@ use Rattle.outcomes.specs.Refusals.{refusedBy}
 use Rattle.database.specs.Rows.{Row, Rows}
 use Rattle.database.specs.GoodRows.{among, find, holdsKey}
 use Rattle.identifiers.specs.Identifiers.{readIdentifier, identifierAt, identifiersBy}
-use Rattle.five_numbers.specs.Numbers.{orOther, picRowOf, identifiersFrom, numbersOf, fiveNumbers, rowOf, own, general}
+use Rattle.five_numbers.specs.Numbers.{orOther, picRowOf, identifiersFrom, numbersOf, fiveNumbers, exampleRow, ownApid, general}
 use Rattle.headers.specs.declared.Head.{Head}
 use Rattle.identification.specs.declared.Identified.{Identified}
 use Rattle.identification.specs.declared.Identified.the-variants.{Is, Refused}
@@ -56,13 +56,13 @@ saidIdentified (Refused refusal) = refusedBy refusal
 
 -- Examples of 01's packet: SPID 1,000 has PI1 4,660, and SPID 2,000 isn't VALID Y
 abbrev spid1000 : Row
-spid1000 = rowOf 0 7 "3;25;10;4660;0;1000"
+spid1000 = exampleRow 0 7 "3;25;10;4660;0;1000"
 
 abbrev spid2000 : Row
-spid2000 = rowOf 0 8 "3;25;10;0;0;2000;;;;;;;N"
+spid2000 = exampleRow 0 8 "3;25;10;0;0;2000;;;;;;;N"
 
 pub record Examples : Type 0 where
-  pub identified : identifyBy (among (spid1000 ∷ own ∷ general ∷ [])) packet
+  pub identified : identifyBy (among (spid1000 ∷ ownApid ∷ general ∷ [])) packet
       ≡ answer (record { row = 7; spid = 1000; numbers = record { ptype = 3; stype = 25; apid = 10; pi1 = 4660; pi2 = 0 } })
   pub noPidRow : identifyBy (among (spid1000 ∷ spid2000 ∷ [])) packet ≡ refused 25 0
   pub leaves : identifyBy (among (spid1000 ∷ general ∷ [])) packet ≡ refused 24 13

@@ -17,7 +17,7 @@ use Rattle.kept.proofs.KeepingLaws.{sizes-taken}
 use Rattle.kept.specs.Puts.{allHalves, allBytes}
 use Rattle.judged.specs.Passes.{JudgedInto}
 use Rattle.judged.proofs.TableLaws as tables
-use Rattle.import.specs.Judged.{judgedCells, said, DoneBy, AnswersBy}
+use Rattle.import.specs.Judged.{judgedCells, saidImported, DoneBy, AnswersBy}
 use Rattle.import.specs.declared.Imported.{Imported}
 use Rattle.import.specs.declared.Imported.the-variants.{Done, TooLong, TooManyRows, TooFewCells}
 use Rattle.import.proofs.AnswerLaws.{cells-enough, cells-are, cells-first, answer-few, answer-taken}
@@ -30,8 +30,8 @@ module _ (texts : List (List ℕ)) (s₀ s : Arrays) (rows symbols : ℕ) (k : K
         tables.cells-judged texts s₀ s rows symbols k before after v ∙ sym (cells-enough texts before (omega (arith, k .count, enough)))
 
     pub answer-done : (good : ℕ) → good ≡ zeros (take rows after)
-        → (said (Done rows good) ≡ importOf texts (length before)) × (after ≡ cellsAfter texts before (said (Done rows good)))
-    unfolding said cellsAfter
+        → (saidImported (Done rows good) ≡ importOf texts (length before)) × (after ≡ cellsAfter texts before (saidImported (Done rows good)))
+    unfolding saidImported cellsAfter
     answer-done good g =
         let f = sizes-taken texts (k .fits) in
         let h : length (allRows texts) ≤ length before = omega (arith, k .count, enough) in
@@ -42,8 +42,8 @@ module _ (texts : List (List ℕ)) (s₀ s : Arrays) (rows symbols : ℕ) (k : K
 
   -- by the answer
   pub answer-by : (before after : List ℕ) (r : Imported) → AnswersBy (s .halves) (s .bytes) before after rows r
-      → (said r ≡ importOf texts (length before)) × (after ≡ cellsAfter texts before (said r))
-  unfolding AnswersBy said cellsAfter
+      → (saidImported r ≡ importOf texts (length before)) × (after ≡ cellsAfter texts before (saidImported r))
+  unfolding AnswersBy saidImported cellsAfter
   answer-by before after (Done all good) a = rw (a .all) (answer-done before after (a .judged) (a .enough) good (a .zeros))
   answer-by before after (TooLong table) a = absurd a
   answer-by before after (TooManyRows table) a = absurd a

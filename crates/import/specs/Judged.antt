@@ -18,11 +18,11 @@ unfoldable pub judgedCells : List (List ℕ) → List ℕ → List ℕ
 judgedCells texts cells = cond (ltb (length cells) (length (allRows texts))) cells (sets cells 0 (verdicts texts))
 
 -- 01: the number of a refusal and its place; the counts of rows and of good rows
-unfoldable pub said : Imported → answer.Imported
-said (Done rows good) = answer.taken rows good
-said (TooLong table) = answer.refused 1 (table .0)
-said (TooManyRows table) = answer.refused 2 (table .0)
-said TooFewCells = answer.refused 3 0
+unfoldable pub saidImported : Imported → answer.Imported
+saidImported (Done rows good) = answer.taken rows good
+saidImported (TooLong table) = answer.refused 1 (table .0)
+saidImported (TooManyRows table) = answer.refused 2 (table .0)
+saidImported TooFewCells = answer.refused 3 0
 
 -- of rows that are kept
 pub record DoneBy (halves bytes before after : List ℕ) (n rows good : ℕ) : Type 0 where

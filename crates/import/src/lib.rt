@@ -13,7 +13,7 @@ ghost use mathlib.Core.Path.{_≡_};
 ghost use mathlib.Core.List.{map};
 ghost use lib.ListN.{length};
 ghost use Rattle.verdicts.specs.Answer.{importOf, cellsAfter};
-ghost use Rattle.import.specs.Judged.{said, AnswersBy};
+ghost use Rattle.import.specs.Judged.{saidImported, AnswersBy};
 
 mod good;
 
@@ -39,8 +39,8 @@ fn import_kept(halves: &[u16], bytes: &[u8], cells: &mut [u16], n: usize) -> Imp
 
 // Judges all rows of the tables: one cell for each, in table order. A refusal touches no cell.
 pub fn import(tables: [&[u8]; TABLES], cells: &mut [u16]) -> Imported
-    ensures { λ r. ⌜ said r ≡ importOf (map now (tables .entry)) (length (now (cells .entry))) ⌝ }
-    ensures { λ r. ⌜ now (cells .exit) ≡ cellsAfter (map now (tables .entry)) (now (cells .entry)) (said r) ⌝ }
+    ensures { λ r. ⌜ saidImported r ≡ importOf (map now (tables .entry)) (length (now (cells .entry))) ⌝ }
+    ensures { λ r. ⌜ now (cells .exit) ≡ cellsAfter (map now (tables .entry)) (now (cells .entry)) (saidImported r) ⌝ }
 {
     let mut words = [0u64; WORDS];
     let mut links = [0u16; LINKS];

@@ -7,7 +7,7 @@ use lib.ListN.{length, getD}
 use Rattle.arrays.specs.Room.{mostPlaces}
 use Rattle.symbols.specs.Arrays.{mostSymbols}
 use Rattle.database.specs.Arrays.{holderColumn, firstColumn, nextColumn, numberColumn, tableColumn, startColumn, allColumns}
-use Rattle.index_columns.specs.Columns.{numberOf, putFrom, indexColumns}
+use Rattle.index_columns.specs.Columns.{rowNumberAt, putFrom, indexColumns}
 use Rattle.index_columns.proofs.PutLaws.{put-size, put-at, put-before, put-after}
 
 -- the columns are put one after the other
@@ -15,7 +15,7 @@ pub all-put : (columns tables holders firsts nexts : List ℕ) (n : ℕ) (a b c 
     → a ≡ putFrom columns holderColumn (λ id. getD holders id 0) mostSymbols
     → b ≡ putFrom a firstColumn (λ id. getD firsts id 0) mostSymbols
     → c ≡ putFrom b nextColumn (λ i. getD nexts i 0) n
-    → d ≡ putFrom c numberColumn (numberOf tables) n
+    → d ≡ putFrom c numberColumn (rowNumberAt tables) n
     → e ≡ putFrom d tableColumn (λ i. getD tables i 0) n
     → e ≡ indexColumns columns tables holders firsts nexts n
 unfolding indexColumns
@@ -33,7 +33,7 @@ module _ (halves tables holders firsts nexts : List ℕ) (n : ℕ) (few : n ≤ 
   withNexts = putFrom withFirsts nextColumn (λ i. getD nexts i 0) n
 
   abbrev withNumbers : List ℕ
-  withNumbers = putFrom withNexts numberColumn (numberOf tables) n
+  withNumbers = putFrom withNexts numberColumn (rowNumberAt tables) n
 
   abbrev columns : List ℕ
   columns = indexColumns halves tables holders firsts nexts n
@@ -48,7 +48,7 @@ module _ (halves tables holders firsts nexts : List ℕ) (n : ℕ) (few : n ≤ 
   nexts-room = omega (arith, firsts-room, put-size withFirsts nextColumn (λ i. getD nexts i 0) n)
 
   numbers-room : allColumns ≤ length withNumbers
-  numbers-room = omega (arith, nexts-room, put-size withNexts numberColumn (numberOf tables) n)
+  numbers-room = omega (arith, nexts-room, put-size withNexts numberColumn (rowNumberAt tables) n)
 
   -- what stands before the column of tables, of numbers, of next rows was there when these were put
   before-tables : (j : ℕ) → j < tableColumn → getD columns j 0 ≡ getD withNumbers j 0
@@ -56,7 +56,7 @@ module _ (halves tables holders firsts nexts : List ℕ) (n : ℕ) (few : n ≤ 
   before-tables j h = put-before withNumbers tableColumn (λ i. getD tables i 0) n j h
 
   before-numbers : (j : ℕ) → j < numberColumn → getD columns j 0 ≡ getD withNexts j 0
-  before-numbers j h = before-tables j (omega arith) ∙ put-before withNexts numberColumn (numberOf tables) n j h
+  before-numbers j h = before-tables j (omega arith) ∙ put-before withNexts numberColumn (rowNumberAt tables) n j h
 
   before-nexts : (j : ℕ) → j < nextColumn → getD columns j 0 ≡ getD withFirsts j 0
   before-nexts j h = before-numbers j (omega arith) ∙ put-before withFirsts nextColumn (λ i. getD nexts i 0) n j h
@@ -76,9 +76,9 @@ module _ (halves tables holders firsts nexts : List ℕ) (n : ℕ) (few : n ≤ 
   next-at i h =
       before-numbers (nextColumn + i) (omega arith) ∙ put-at withFirsts nextColumn (λ i. getD nexts i 0) n i h (omega (arith, firsts-room))
 
-  pub number-at : (i : ℕ) → i < n → getD columns (numberColumn + i) 0 ≡ numberOf tables i
+  pub number-at : (i : ℕ) → i < n → getD columns (numberColumn + i) 0 ≡ rowNumberAt tables i
   number-at i h =
-      before-tables (numberColumn + i) (omega arith) ∙ put-at withNexts numberColumn (numberOf tables) n i h (omega (arith, nexts-room))
+      before-tables (numberColumn + i) (omega arith) ∙ put-at withNexts numberColumn (rowNumberAt tables) n i h (omega (arith, nexts-room))
 
   pub table-at : (i : ℕ) → i < n → getD columns (tableColumn + i) 0 ≡ getD tables i 0
   unfolding indexColumns
@@ -89,7 +89,7 @@ module _ (halves tables holders firsts nexts : List ℕ) (n : ℕ) (few : n ≤ 
   unfolding indexColumns
   start-at j h =
       put-after withNumbers tableColumn (λ i. getD tables i 0) n j (omega arith)
-      ∙ put-after withNexts numberColumn (numberOf tables) n j (omega arith)
+      ∙ put-after withNexts numberColumn (rowNumberAt tables) n j (omega arith)
       ∙ put-after withFirsts nextColumn (λ i. getD nexts i 0) n j (omega arith)
       ∙ put-after withHolders firstColumn (λ id. getD firsts id 0) mostSymbols j (omega arith)
       ∙ put-after halves holderColumn (λ id. getD holders id 0) mostSymbols j (omega arith)

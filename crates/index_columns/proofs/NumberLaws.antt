@@ -8,7 +8,7 @@ use native.Mathlib.Omega.{arith}
 use lib.Dec.{eqb}
 use lib.ListN.{getD}
 use borrow.Author.Tests.{eq-eqb, ne-eqb}
-use Rattle.index_columns.specs.Columns.{following, numberOf}
+use Rattle.index_columns.specs.Columns.{following, rowNumberAt}
 
 module _ (number table next : ℕ) where
   pub same-table : table ≡ next → number + 1 ≡ following number table next
@@ -28,10 +28,10 @@ module _ (number table next : ℕ) where
       go false = omega arith
 
 -- one row more
-module _ (tables : List ℕ) (i number x y r : ℕ) (is : number ≡ numberOf tables i)
+module _ (tables : List ℕ) (i number x y r : ℕ) (is : number ≡ rowNumberAt tables i)
     (a : x ≡ getD tables i 0) (b : y ≡ getD tables (i + 1) 0) (next : r ≡ following number x y) where
-  pub number-next : r ≡ numberOf tables (i + 1)
-  unfolding numberOf
+  pub number-next : r ≡ rowNumberAt tables (i + 1)
+  unfolding rowNumberAt
   number-next = next ∙ rw (is, a, b, add-one)
 
   pub number-most : number ≤ i + 1 → r ≤ i + 1 + 1

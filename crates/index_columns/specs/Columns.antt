@@ -15,9 +15,9 @@ unfoldable pub following : (number table next : ℕ) → ℕ
 following number table next = cond (eqb table next) (suc number) 1
 
 -- the number of row i, by the tables of the rows
-unfoldable pub numberOf : (tables : List ℕ) → ℕ → ℕ
-numberOf tables zero = 1
-numberOf tables (suc i) = following (numberOf tables i) (getD tables i 0) (getD tables (suc i) 0)
+unfoldable pub rowNumberAt : (tables : List ℕ) → ℕ → ℕ
+rowNumberAt tables zero = 1
+rowNumberAt tables (suc i) = following (rowNumberAt tables i) (getD tables i 0) (getD tables (suc i) 0)
 
 -- the values of a function at the first n numbers, put to columns from a place on
 abbrev pub putFrom : List ℕ → (place : ℕ) → (ℕ → ℕ) → (n : ℕ) → List ℕ
@@ -29,16 +29,16 @@ indexColumns columns tables holders firsts nexts n =
     let withHolders : List ℕ = putFrom columns holderColumn (λ id. getD holders id 0) mostSymbols in
     let withFirsts : List ℕ = putFrom withHolders firstColumn (λ id. getD firsts id 0) mostSymbols in
     let withNexts : List ℕ = putFrom withFirsts nextColumn (λ i. getD nexts i 0) n in
-    let withNumbers : List ℕ = putFrom withNexts numberColumn (numberOf tables) n in
+    let withNumbers : List ℕ = putFrom withNexts numberColumn (rowNumberAt tables) n in
     putFrom withNumbers tableColumn (λ i. getD tables i 0) n
 
 pub record Examples : Type 0 where
   -- two rows of table 3, and one of table 5
-  pub first : numberOf (3 ∷ 3 ∷ 5 ∷ []) 0 ≡ 1
-  pub second : numberOf (3 ∷ 3 ∷ 5 ∷ []) 1 ≡ 2
-  pub third : numberOf (3 ∷ 3 ∷ 5 ∷ []) 2 ≡ 1
+  pub first : rowNumberAt (3 ∷ 3 ∷ 5 ∷ []) 0 ≡ 1
+  pub second : rowNumberAt (3 ∷ 3 ∷ 5 ∷ []) 1 ≡ 2
+  pub third : rowNumberAt (3 ∷ 3 ∷ 5 ∷ []) 2 ≡ 1
   pub put : putFrom (7 ∷ 7 ∷ 7 ∷ 7 ∷ []) 1 (λ i. suc i) 2 ≡ 7 ∷ 1 ∷ 2 ∷ 7 ∷ []
 
 pub examples : Examples
-unfolding following numberOf tabulate
+unfolding following rowNumberAt tabulate
 examples = record { first = refl; second = refl; third = refl; put = refl }

@@ -14,7 +14,7 @@ ghost use Prim.Native.Nat.{_+_, _≤_, _<_, min};
 ghost use lib.ListN.{getD};
 ghost use Rattle.arrays.specs.Room.{mostPlaces};
 ghost use Rattle.database.specs.Arrays.{numberColumn, tableColumn, allColumns};
-ghost use Rattle.index_columns.specs.Columns.{putFrom, following, numberOf, indexColumns};
+ghost use Rattle.index_columns.specs.Columns.{putFrom, following, rowNumberAt, indexColumns};
 
 // Rows past the last place have no index.
 pub fn placed(n: usize) -> usize
@@ -64,7 +64,7 @@ fn next_number(number: u16, table: u8, next: u8) -> u16
 // The numbers of the first n rows, each in its table.
 fn put_numbers(tables: &[u8], columns: &mut [u16], n: usize)
     requires { ⌜ n ≤ mostPlaces ⌝ }
-    ensures { λ _. ⌜ now (columns .exit) ≡ putFrom (now (columns .entry)) numberColumn (numberOf (now (tables .entry))) n ⌝ }
+    ensures { λ _. ⌜ now (columns .exit) ≡ putFrom (now (columns .entry)) numberColumn (rowNumberAt (now (tables .entry))) n ⌝ }
 {
     let mut number: u16 = 1;
     let mut i: usize = 0;

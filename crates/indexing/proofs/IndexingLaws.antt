@@ -19,8 +19,9 @@ use Rattle.indexing.specs.Indexing.{goodMarks, IndexedBy}
 module _ (halves bytes cells : List ℕ) (n rows : ℕ) (few : rows ≡ min n mostPlaces)
     (marks : List ℕ) (marked : marks ≡ sets (replicate mostPlaces 0) 0 (tabulate (λ i. flag (eqb (getD cells i 0) 0)) 0 rows))
     (holders : List ℕ) (held : HoldersBy marks halves (replicate mostSymbols 0) holders rows)
-    (firsts nexts : List ℕ) (chained : Chained marks (columnOf halves kept.groupColumn) (replicate mostSymbols 0) (replicate mostPlaces 0) firsts nexts 0 (min rows 65535))
-    (tables : List ℕ) (is-tables : tables ≡ columnOf bytes kept.tableColumn)
+    (firsts nexts : List ℕ)
+    (chained : Chained marks (columnOf halves kept.groupColumn) (replicate mostSymbols 0) (replicate mostPlaces 0) firsts nexts 0 (min rows 65535))
+    (tables : List ℕ) (is-tables : tables ≡ columnOf bytes kept.keptTableColumn)
     (columns : List ℕ) (put : columns ≡ indexColumns halves tables holders firsts nexts (min rows mostPlaces)) where
   pub indexed-by : IndexedBy halves bytes cells columns (min n mostPlaces)
   indexed-by =

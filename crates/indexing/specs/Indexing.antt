@@ -25,4 +25,4 @@ pub record IndexedBy (halves bytes cells columns : List ℕ) (n : ℕ) : Type 0 
   pub nexts : List ℕ
   pub held : HoldersBy (goodMarks cells n) halves (replicate mostSymbols 0) holders n
   pub groups : Chained (goodMarks cells n) (columnOf halves kept.groupColumn) (replicate mostSymbols 0) (replicate mostPlaces 0) firsts nexts 0 n
-  pub put : columns ≡ indexColumns halves (columnOf bytes kept.tableColumn) holders firsts nexts n
+  pub put : columns ≡ indexColumns halves (columnOf bytes kept.keptTableColumn) holders firsts nexts n

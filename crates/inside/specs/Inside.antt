@@ -13,7 +13,7 @@ use Rattle.numbers.specs.Number.{numberOf, answerOf, meaning, spelt, after, dig
 use Rattle.numbers.specs.declared.Number.{Number}
 use Rattle.numbers.specs.declared.Number.the-variants.{Value, NotNumber, Beyond}
 use Rattle.lines.specs.Columns.{columnsOf, columnsFrom, columnAt}
-use Rattle.fields.specs.Width.{widthOf, integerWidth, within}
+use Rattle.fields.specs.Width.{widthOf, integerWidth, bitsWithin}
 use Rattle.fields.specs.Field.{unsignedAt}
 use Rattle.fields.specs.Sign.{signedAt}
 use Rattle.fields.specs.Text.{stringAt}
@@ -22,7 +22,7 @@ use Rattle.scripts.specs.declared.operands.Natural.{Natural}
 use Rattle.scripts.specs.declared.operands.Natural.the-variants as natural
 use Rattle.scripts.specs.declared.operands.Integer.{Integer}
 use Rattle.scripts.specs.declared.operands.Integer.the-variants as integer
-use Rattle.scripts.specs.Numerals.{naturalIn, naturalOf, atMost, integerIn}
+use Rattle.scripts.specs.Numerals.{naturalIn, naturalOf, atMost, integerText}
 use Rattle.answers.specs.declared.answer.Answer.{Answer}
 use Rattle.answers.specs.Answers.{saying, one, two, wordsAnswer, integerAnswer, unreadable}
 use Rattle.inside.specs.declared.inner.Pair.{Pair}
@@ -81,20 +81,20 @@ unfoldable pub stringReply : (packet text : List ℕ) → Answer
 stringReply packet text = byPair (λ bit bytes. stringAnswer bytes (stringAt packet bit bytes)) (pairIn 18446744073709551615 18446744073709551615 text)
 
 -- two points and the X at which the line through them is asked for
-unfoldable pub lineOf : Integer → Integer → Integer → Integer → Integer → Answer
-lineOf (integer.Is x0) (integer.Is y0) (integer.Is x1) (integer.Is y1) (integer.Is x) =
+unfoldable pub lineAsked : Integer → Integer → Integer → Integer → Integer → Answer
+lineAsked (integer.Is x0) (integer.Is y0) (integer.Is x1) (integer.Is y1) (integer.Is x) =
     lineAnswer (lineAt (record { x = x0; y = y0 }) (record { x = x1; y = y1 }) x)
-lineOf integer.Unread y0 x1 y1 x = unreadable
-lineOf (integer.Is x0) integer.Unread x1 y1 x = unreadable
-lineOf (integer.Is x0) (integer.Is y0) integer.Unread y1 x = unreadable
-lineOf (integer.Is x0) (integer.Is y0) (integer.Is x1) integer.Unread x = unreadable
-lineOf (integer.Is x0) (integer.Is y0) (integer.Is x1) (integer.Is y1) integer.Unread = unreadable
+lineAsked integer.Unread y0 x1 y1 x = unreadable
+lineAsked (integer.Is x0) integer.Unread x1 y1 x = unreadable
+lineAsked (integer.Is x0) (integer.Is y0) integer.Unread y1 x = unreadable
+lineAsked (integer.Is x0) (integer.Is y0) (integer.Is x1) integer.Unread x = unreadable
+lineAsked (integer.Is x0) (integer.Is y0) (integer.Is x1) (integer.Is y1) integer.Unread = unreadable
 
 unfoldable pub lineReply : List ℕ → Answer
 lineReply text =
     cond (eqb (length (columnsOf text)) 5)
-    (lineOf (integerIn (columnAt (columnsOf text) 0)) (integerIn (columnAt (columnsOf text) 1)) (integerIn (columnAt (columnsOf text) 2))
-    (integerIn (columnAt (columnsOf text) 3)) (integerIn (columnAt (columnsOf text) 4)))
+    (lineAsked (integerText (columnAt (columnsOf text) 0)) (integerText (columnAt (columnsOf text) 1)) (integerText (columnAt (columnsOf text) 2))
+    (integerText (columnAt (columnsOf text) 3)) (integerText (columnAt (columnsOf text) 4)))
     unreadable
 
 pub record Examples : Type 0 where
@@ -105,6 +105,6 @@ pub record Examples : Type 0 where
 
 pub examples : Examples
 unfolding
-    pairIn pairOf noPair byPair widthReply widthAnswer widthOf integerWidth within numberAnswer naturalIn naturalOf atMost
+    pairIn pairOf noPair byPair widthReply widthAnswer widthOf integerWidth bitsWithin numberAnswer naturalIn naturalOf atMost
     columnsOf columnsFrom numberOf answerOf meaning spelt after digitOn digitOf
 examples = record { pair = refl; no-pair = refl; width = refl; number = refl }

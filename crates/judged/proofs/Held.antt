@@ -14,7 +14,7 @@ use Rattle.key_symbols.specs.Keyed.{symbolOf}
 use Rattle.key_symbols.specs.Bounded.{Bounded}
 use Rattle.key_symbols.proofs.ExactLaws.{symbol-exact}
 use Rattle.keys.proofs.Fitting.{Fits}
-use Rattle.meaning.specs.Kept.{Coding, rowAt, Rows}
+use Rattle.meaning.specs.Kept.{Coding, keptEntry, ToldApart}
 use Rattle.kept.specs.Stored.{at, Stored}
 use Rattle.judged.specs.Passes.{columnOf}
 
@@ -24,8 +24,8 @@ coding = record { symbolOf = symbolOf; Fit = Bounded; exact = symbol-exact }
 
 pub record Held (rows : List Entry) (words links : List ℕ) (count : ℕ) (halves bytes : List ℕ) : Type 0 where
   pub stored : Stored rows words links count halves bytes
-  pub fits : (i : ℕ) → i < length rows → Fits (facts (rowAt rows i))
-  pub tables : Rows rows
+  pub fits : (i : ℕ) → i < length rows → Fits (facts (keptEntry rows i))
+  pub tables : ToldApart rows
 
 -- a place of a column
 pub column-at : (columns : List ℕ) (c i : ℕ) → i < mostPlaces → getD (columnOf columns c) i 0 ≡ at columns c i

@@ -17,13 +17,13 @@ use Rattle.passes.specs.Marked.{under}
 use Rattle.verdicts.specs.Entries.{Entry, own}
 use Rattle.verdicts.specs.Verdicts.{verdict}
 use Rattle.chains.specs.Chains.{noRow}
-use Rattle.meaning.specs.Kept.{rowAt, Kept}
+use Rattle.meaning.specs.Kept.{keptEntry, Kept}
 use Rattle.meaning.specs.Judging.{Judged}
 use Rattle.meaning.proofs.PassLaws.{Fresh, judged}
 use Rattle.judging.specs.Judged.{cellRows}
 use Rattle.judging.proofs.Meaning.{judged-are}
-use Rattle.kept.specs.Stored.{at, ownColumn, key1Column, key2Column, name1Column, name2Column, groupColumn, numberColumn, countColumn, Stored}
-use Rattle.findings.specs.Found.{rowOf, countOf}
+use Rattle.kept.specs.Stored.{at, ownColumn, key1Column, key2Column, name1Column, name2Column, groupColumn, keptNumberColumn, countColumn, Stored}
+use Rattle.findings.specs.Found.{rowLinked, countFinding}
 use Rattle.judged.specs.Passes.{columnOf, formedBy, FoundBy, JudgedInto}
 use Rattle.judged.proofs.Held.{coding, Held, column-at}
 use Rattle.judged.proofs.KeptLaws.{own-kept, kept}
@@ -52,7 +52,7 @@ module _ (rows : List Entry) (words links : List ℕ) (count : ℕ) (halves byte
   few : n ≤ mostPlaces
   few = h .stored .few
 
-  formed-are : (i : ℕ) → i < n → getD (formedBy halves n) i 0 ≡ flag (eqb (own (rowAt rows i .reading)) 0)
+  formed-are : (i : ℕ) → i < n → getD (formedBy halves n) i 0 ≡ flag (eqb (own (keptEntry rows i .reading)) 0)
   formed-are i p = filled-at 0 _ n i 0 few p ∙ ap (λ (k : ℕ). flag (eqb k 0)) (own-kept rows words links count halves bytes h i p)
 
   zeros : Fresh ls (replicate mostSymbols 0)
@@ -73,22 +73,22 @@ module _ (rows : List Entry) (words links : List ℕ) (count : ℕ) (halves byte
   here xs c i p = column-at xs c i (omega (arith, few))
 
   abbrev Finding : (found : List ℕ) → (column : ℕ) → Type 0
-  Finding found column = (i : ℕ) → i < n → getD found i noRow ≡ rowOf (getD (v .holders) (at halves column i) 0)
+  Finding found column = (i : ℕ) → i < n → getD found i noRow ≡ rowLinked (getD (v .holders) (at halves column i) 0)
 
   found-at : (found : List ℕ) (column : ℕ) → FoundBy halves (v .holders) column (replicate mostPlaces noRow) found n → Finding found column
   found-at found column e i p =
       ap (λ (l : List ℕ). getD l i noRow) e
       ∙ filled-at noRow _ n i noRow few p
-      ∙ ap (λ (k : ℕ). rowOf (getD (v .holders) k 0)) (here halves column i p)
+      ∙ ap (λ (k : ℕ). rowLinked (getD (v .holders) k 0)) (here halves column i p)
 
   abbrev tallied : (column number key : ℕ) → ℕ
-  tallied column number key = countOf column number (getD (v .counted .tallies) key 0)
+  tallied column number key = countFinding column number (getD (v .counted .tallies) key 0)
 
-  counts-at : (i : ℕ) → i < n → getD (v .counts) i 0 ≡ tallied (at bytes countColumn i) (at halves numberColumn i) (at halves key1Column i)
+  counts-at : (i : ℕ) → i < n → getD (v .counts) i 0 ≡ tallied (at bytes countColumn i) (at halves keptNumberColumn i) (at halves key1Column i)
   counts-at i p =
       ap (λ (l : List ℕ). getD l i 0) (v .counted .compared)
       ∙ filled-at 0 _ n i 0 few p
-      ∙ rw (here bytes countColumn i p, here halves numberColumn i p, here halves key1Column i p)
+      ∙ rw (here bytes countColumn i p, here halves keptNumberColumn i p, here halves key1Column i p)
 
   passed : Passed rows ls halves bytes (v .sounds) (v .holders) (v .counted .tallies) (v .found1) (v .found2) (v .counts)
   passed =

@@ -18,7 +18,7 @@ use Rattle.key_symbols.specs.Keyed.{symbolOf}
 use Rattle.key_symbols.specs.Bounded.{Bounded}
 use Rattle.keys.specs.Held.{slotOf, namedOf, keysOf}
 use Rattle.keys.proofs.Fitting.{Fits, KeysFit, GroupsFit}
-use Rattle.meaning.specs.Kept.{Coding, firstId, Known, AllKnown, none, more, rowAt, KeptRow, Kept}
+use Rattle.meaning.specs.Kept.{Coding, firstId, Known, AllKnown, none, more, keptEntry, KeptRow, Kept}
 use Rattle.kept.specs.Stored.{at, ownColumn, key1Column, key2Column, groupColumn, slotId, StoredRow, KnownRow, Stored}
 use Rattle.judged.specs.Passes.{columnOf}
 use Rattle.judged.proofs.Held.{coding, Held, column-at}
@@ -49,15 +49,15 @@ module _ (rows : List Entry) (words links : List ℕ) (count : ℕ) (halves byte
   ls = symbols words count
 
   -- the verdict of reasons 1 to 8
-  pub own-kept : (i : ℕ) → i < length rows → getD (columnOf halves ownColumn) i 0 ≡ own (rowAt rows i .reading)
+  pub own-kept : (i : ℕ) → i < length rows → getD (columnOf halves ownColumn) i 0 ≡ own (keptEntry rows i .reading)
   unfolding keysOf
   own-kept i p = column-at halves ownColumn i (omega (arith, h .stored .few)) ∙ h .stored .row i p .own
 
   abbrev Formed : List ℕ → Type 0
-  Formed formed = (i : ℕ) → i < length rows → getD formed i 0 ≡ flag (eqb (own (rowAt rows i .reading)) 0)
+  Formed formed = (i : ℕ) → i < length rows → getD formed i 0 ≡ flag (eqb (own (keptEntry rows i .reading)) 0)
 
   kept-row : (formed : List ℕ) → Formed formed → (i : ℕ) → i < length rows
-      → KeptRow coding ls (rowAt rows i) (getD formed i 0)
+      → KeptRow coding ls (keptEntry rows i) (getD formed i 0)
       (getD (columnOf halves key1Column) i 0) (getD (columnOf halves key2Column) i 0) (getD (columnOf halves groupColumn) i 0)
   unfolding keysOf
   kept-row formed are i p =
@@ -67,11 +67,11 @@ module _ (rows : List Entry) (words links : List ℕ) (count : ℕ) (halves byte
       let q : i < mostPlaces = omega (arith, h .stored .few) in
       record {
         formed = are i p;
-        key1 = column-at halves key1Column i q ∙ s .key1 ∙ slot-first ls (facts (rowAt rows i) .keys);
-        key2 = column-at halves key2Column i q ∙ s .key2 ∙ slot-first ls (drop 1 (facts (rowAt rows i) .keys));
-        group = column-at halves groupColumn i q ∙ s .group ∙ slot-first ls (facts (rowAt rows i) .groups);
-        known = keys-known ls (facts (rowAt rows i) .keys) (f .keys) (k .first) (k .second);
-        grouped = groups-known ls (facts (rowAt rows i) .groups) (f .groups) (k .group);
+        key1 = column-at halves key1Column i q ∙ s .key1 ∙ slot-first ls (facts (keptEntry rows i) .keys);
+        key2 = column-at halves key2Column i q ∙ s .key2 ∙ slot-first ls (drop 1 (facts (keptEntry rows i) .keys));
+        group = column-at halves groupColumn i q ∙ s .group ∙ slot-first ls (facts (keptEntry rows i) .groups);
+        known = keys-known ls (facts (keptEntry rows i) .keys) (f .keys) (k .first) (k .second);
+        grouped = groups-known ls (facts (keptEntry rows i) .groups) (f .groups) (k .group);
       }
 
   pub kept : (formed : List ℕ) → Formed formed

@@ -17,26 +17,26 @@ use Rattle.chains.specs.Chains.{noRow}
 use Rattle.manners.specs.Manners.{mannerOf, mannerAt, codeOf}
 use Rattle.keys.specs.Held.{namedOf, keysOf}
 use Rattle.keys.proofs.Fitting.{Listed, NamesFit}
-use Rattle.meaning.specs.Kept.{rowAt}
+use Rattle.meaning.specs.Kept.{keptEntry}
 use Rattle.meaning.specs.Found.{Finds}
 use Rattle.judging.proofs.CircleMeaning.{no-code}
 use Rattle.judging.proofs.Resolved.{Answers, Named, absent, present, namesIn, Names}
-use Rattle.findings.specs.Found.{rowOf}
+use Rattle.findings.specs.Found.{rowLinked}
 
 module _ (rows : List Entry) (few : length rows ≤ mostPlaces) where
   -- the row that was found
   module _ (n : Naming) (x : ℕ) (finds : Finds rows (n .key) x) where
-    row-there : (y : ℕ) → x ≡ y → (rowOf y ≡ noRow → ⊥) → (rowOf y < length rows) × (holds (rowAt rows (rowOf y)) (n .key) ≡ true)
-    unfolding rowOf
+    row-there : (y : ℕ) → x ≡ y → (rowLinked y ≡ noRow → ⊥) → (rowLinked y < length rows) × (holds (keptEntry rows (rowLinked y)) (n .key) ≡ true)
+    unfolding rowLinked
     row-there zero e some = absurd (some refl)
     row-there (suc j) e some = finds .some j (omega arith)
 
-    row-found : (y : ℕ) → x ≡ y → (j : ℕ) → j < length rows → holds (rowAt rows j) (n .key) ≡ true → rowOf y ≡ noRow → ⊥
-    unfolding rowOf
+    row-found : (y : ℕ) → x ≡ y → (j : ℕ) → j < length rows → holds (keptEntry rows j) (n .key) ≡ true → rowLinked y ≡ noRow → ⊥
+    unfolding rowLinked
     row-found zero e j p h z = false≢true (sym (finds .none e j p) ∙ h)
     row-found (suc k) e j p h z = omega (arith, finds .some k (omega arith) .0)
 
-    pub answers : (keys : List Key) → Listed keys n → (code found : ℕ) → code ≡ codeOf (mannerOf n) → found ≡ rowOf x
+    pub answers : (keys : List Key) → Listed keys n → (code found : ℕ) → code ≡ codeOf (mannerOf n) → found ≡ rowLinked x
         → Answers rows n code found
     answers keys l code found c f =
         let d : mannerAt code ≡ mannerOf n = ap mannerAt c ∙ l .decoded in
@@ -53,7 +53,7 @@ module _ (rows : List Entry) (few : length rows ≤ mostPlaces) where
     pub names-are : (ns : List Naming) → NamesFit keys ns
         → ((n : Naming) (ms : List Naming) → ns ≡ n ∷ ms → Finds rows (n .key) x1)
         → ((n m : Naming) (ms : List Naming) → ns ≡ n ∷ m ∷ ms → Finds rows (m .key) x2)
-        → Names rows (namedOf ns .code) (rowOf x1) (namedOf (drop 1 ns) .code) (rowOf x2) ns
+        → Names rows (namedOf ns .code) (rowLinked x1) (namedOf (drop 1 ns) .code) (rowLinked x2) ns
     unfolding namedOf
     names-are [] l f g = record { one = absent refl; two = absent refl; are = refl; unchained = no-code 0 refl }
     names-are (n ∷ []) l f g =

@@ -14,8 +14,8 @@ use Rattle.passes.specs.Marked.{under}
 use Rattle.passes.specs.Counts.{Counted}
 use Rattle.passes.specs.Holders.{Noted, Filled}
 use Rattle.passes.specs.Sound.{soundAt}
-use Rattle.kept.specs.Stored.{ownColumn, key1Column, key2Column, groupColumn, numberColumn, code1Column, code2Column, marksColumn, countColumn}
-use Rattle.findings.specs.Found.{rowOf, countOf}
+use Rattle.kept.specs.Stored.{ownColumn, key1Column, key2Column, groupColumn, keptNumberColumn, code1Column, code2Column, marksColumn, countColumn}
+use Rattle.findings.specs.Found.{rowLinked, countFinding}
 use Rattle.judged.specs.Passes.{columnOf, formedBy, SoundBy, HoldersBy, CountsBy, FoundBy, judgedBy}
 
 pub formed-is : (halves : List ℕ) (n : ℕ) (own formed : List ℕ) → own ≡ columnOf halves ownColumn
@@ -41,21 +41,21 @@ holders-same marks marks′ halves before after n e h = rw (← e) h
 
 same-counts : (column₀ column key₀ key number₀ number tallies before : List ℕ) (n : ℕ)
     → column₀ ≡ column → key₀ ≡ key → number₀ ≡ number
-    → sets before 0 (tabulate (λ i. countOf (getD column₀ i 0) (getD number₀ i 0) (under tallies key₀ i)) 0 n)
-    ≡ sets before 0 (tabulate (λ i. countOf (getD column i 0) (getD number i 0) (under tallies key i)) 0 n)
+    → sets before 0 (tabulate (λ i. countFinding (getD column₀ i 0) (getD number₀ i 0) (under tallies key₀ i)) 0 n)
+    ≡ sets before 0 (tabulate (λ i. countFinding (getD column i 0) (getD number i 0) (under tallies key i)) 0 n)
 same-counts column₀ column key₀ key number₀ number tallies before n p q r = rw (p, q, r)
 
 module _ (halves bytes : List ℕ) (n : ℕ) (group column key1 number : List ℕ)
     (a : group ≡ columnOf halves groupColumn) (b : column ≡ columnOf bytes countColumn)
-    (c : key1 ≡ columnOf halves key1Column) (d : number ≡ columnOf halves numberColumn) where
+    (c : key1 ≡ columnOf halves key1Column) (d : number ≡ columnOf halves keptNumberColumn) where
   pub counts-by : (sound before after tallies : List ℕ) → Counted sound group (replicate mostSymbols 0) tallies n
-      → after ≡ sets before 0 (tabulate (λ i. countOf (getD column i 0) (getD number i 0) (under tallies key1 i)) 0 n)
+      → after ≡ sets before 0 (tabulate (λ i. countFinding (getD column i 0) (getD number i 0) (under tallies key1 i)) 0 n)
       → CountsBy halves bytes sound before after n
   counts-by sound before after tallies t e =
       record { tallies = tallies; counted = rw (← a) t; compared = e ∙ same-counts column _ key1 _ number _ tallies before n b c d }
 
 pub found-by : (halves holders : List ℕ) (column n : ℕ) (names before after : List ℕ) → names ≡ columnOf halves column
-    → after ≡ sets before 0 (tabulate (λ i. rowOf (under holders names i)) 0 n) → FoundBy halves holders column before after n
+    → after ≡ sets before 0 (tabulate (λ i. rowLinked (under holders names i)) 0 n) → FoundBy halves holders column before after n
 found-by halves holders column n names before after e f = rw (← e) f
 
 pub judged-by : (halves bytes sound counts found1 found2 before after : List ℕ) (n : ℕ) (own code1 code2 marks : List ℕ)

@@ -13,7 +13,7 @@ use Rattle.laws.proofs.Cases.{bool-cases, false≢true, and-left, and-right}
 use Rattle.laws.proofs.Tests.{keep-length}
 use Rattle.laws.proofs.Values.{any-default}
 use Rattle.arrays.specs.Room.{mostPlaces}
-use Rattle.schemas.specs.Reasons.{verdict}
+use Rattle.schemas.specs.Reasons.{reasonAt}
 use Rattle.symbols.specs.declared.Symbol.{Symbol}
 use Rattle.symbols.specs.Symbols.{noId, idOf}
 use Rattle.symbols.specs.Arrays.{symbols}
@@ -34,7 +34,7 @@ use Rattle.keys.proofs.Fitting.{Fits, Listed, NamesFit, CountsFit}
 use Rattle.manners.proofs.MarkLaws.{marked}
 use Rattle.keys.proofs.SaysLaws.{fits-say}
 use Rattle.keys.proofs.RankLaws.{names-lower, chain-level}
-use Rattle.meaning.specs.Kept.{keyId, Known, rowAt}
+use Rattle.meaning.specs.Kept.{keyId, Known, keptEntry}
 use Rattle.meaning.specs.Found.{Finds}
 use Rattle.judging.proofs.Resolved.{Answers, Named, absent, present, namesIn, Names, Arrays, Layers, Resolved}
 use Rattle.judging.proofs.CircleMeaning.{no-code}
@@ -44,7 +44,7 @@ use Rattle.kept.specs.Stored.{
   key1Column,
   name1Column,
   name2Column,
-  numberColumn,
+  keptNumberColumn,
   code1Column,
   code2Column,
   marksColumn,
@@ -56,7 +56,7 @@ use Rattle.kept.specs.Stored.{
   KnownRow,
   Stored,
 }
-use Rattle.findings.specs.Found.{rowOf, countOf}
+use Rattle.findings.specs.Found.{rowLinked, countFinding}
 use Rattle.judged.specs.Passes.{columnOf}
 use Rattle.judged.proofs.Held.{coding, Held, column-at}
 use Rattle.judged.proofs.KeptLaws.{own-kept}
@@ -83,14 +83,14 @@ parameters-rank = refl
 
 -- what the passes leave
 pub record Passed (rows : List Entry) (ls : List Symbol) (halves bytes sounds holders tallies found1 found2 counts : List ℕ) : Type 0 where
-  pub soundAt : (i : ℕ) → i < length rows → getD sounds i 0 ≡ flag (sound rows (rowAt rows i))
+  pub soundAt : (i : ℕ) → i < length rows → getD sounds i 0 ≡ flag (sound rows (keptEntry rows i))
   pub short : length sounds ≤ mostPlaces
   pub finds : (k : Key) → Bounded k → Finds rows k (getD holders (idOf (symbolOf k) ls) 0)
   pub tallyAt : (g : Key) → Known coding ls g → getD tallies (idOf (symbolOf g) ls) 0 ≡ tally rows g
-  pub one : (i : ℕ) → i < length rows → getD found1 i noRow ≡ rowOf (getD holders (at halves name1Column i) 0)
-  pub two : (i : ℕ) → i < length rows → getD found2 i noRow ≡ rowOf (getD holders (at halves name2Column i) 0)
+  pub one : (i : ℕ) → i < length rows → getD found1 i noRow ≡ rowLinked (getD holders (at halves name1Column i) 0)
+  pub two : (i : ℕ) → i < length rows → getD found2 i noRow ≡ rowLinked (getD holders (at halves name2Column i) 0)
   pub counted : (i : ℕ) → i < length rows
-      → getD counts i 0 ≡ countOf (at bytes countColumn i) (at halves numberColumn i) (getD tallies (at halves key1Column i) 0)
+      → getD counts i 0 ≡ countFinding (at bytes countColumn i) (at halves keptNumberColumn i) (getD tallies (at halves key1Column i) 0)
 
 module _ (rows : List Entry) (words links : List ℕ) (count : ℕ) (halves bytes : List ℕ) (h : Held rows words links count halves bytes)
     (sounds holders tallies found1 found2 counts : List ℕ)
@@ -99,7 +99,7 @@ module _ (rows : List Entry) (words links : List ℕ) (count : ℕ) (halves byte
   ls = symbols words count
 
   abbrev factsAt : ℕ → Facts
-  factsAt i = facts (rowAt rows i)
+  factsAt i = facts (keptEntry rows i)
 
   unfoldable pub arrays : Arrays
   arrays =
@@ -188,7 +188,7 @@ module _ (rows : List Entry) (words links : List ℕ) (count : ℕ) (halves byte
     unfolding keysOf
     column-is = h .stored .row i p .column
 
-    number-is : at halves numberColumn i ≡ min (countingOf (factsAt i .counts) .number) 65535
+    number-is : at halves keptNumberColumn i ≡ min (countingOf (factsAt i .counts) .number) 65535
     unfolding keysOf
     number-is = h .stored .row i p .number
 
@@ -204,7 +204,7 @@ module _ (rows : List Entry) (words links : List ℕ) (count : ℕ) (halves byte
 
     count-is : (cs : List Count) (ks : List Key) → factsAt i .counts ≡ cs → factsAt i .keys ≡ ks → CountsFit cs ks
         → getD counts i 0 ≡ first (map (countCell rows) cs)
-    unfolding countOf countCell countingOf
+    unfolding countFinding countCell countingOf
     count-is [] ks c k f = v .counted i p ∙ rw (column-is, c)
     count-is (d ∷ []) [] c k f = absurd f
     count-is (d ∷ []) (key ∷ ks) c k f =
@@ -221,14 +221,14 @@ module _ (rows : List Entry) (words links : List ℕ) (count : ℕ) (halves byte
         or-none zero = refl
         or-none (suc a) = refl
 
-        last-one : (b : Bool) → cond b 0 (verdict 10 (d .column)) ≡ first (cond b 0 (verdict 10 (d .column)) ∷ [])
-        last-one b = sym (or-none (cond b 0 (verdict 10 (d .column))))
+        last-one : (b : Bool) → cond b 0 (reasonAt 10 (d .column)) ≡ first (cond b 0 (reasonAt 10 (d .column)) ∷ [])
+        last-one b = sym (or-none (cond b 0 (reasonAt 10 (d .column))))
     count-is (d ∷ e ∷ cs) ks c k f = absurd f
 
     -- ---- layers
 
     says : Says (factsAt i) (keysAt rows i)
-    says = fits-say (own (rowAt rows i .reading)) (factsAt i) (h .fits i p)
+    says = fits-say (own (keptEntry rows i .reading)) (factsAt i) (h .fits i p)
 
   abbrev layer : ℕ → ℕ
   layer i = rankIn (keysAt rows i)
@@ -238,7 +238,7 @@ module _ (rows : List Entry) (words links : List ℕ) (count : ℕ) (halves byte
     lower : mannerAt code .chained ≡ false → (found ≡ noRow → ⊥) → layer found < layer i
     lower c some =
         let g = r .there some in
-        names-lower (rowAt rows i) (rowAt rows found) (keysAt rows i) (keysAt rows found) (says i p) (says found (g .0)) n m (g .1) (r .chained ∙ c)
+        names-lower (keptEntry rows i) (keptEntry rows found) (keysAt rows i) (keysAt rows found) (says i p) (says found (g .0)) n m (g .1) (r .chained ∙ c)
 
     level : mannerAt code .chained ≡ true → (layer i ≡ 1) × ((found ≡ noRow → ⊥) → layer found ≡ 1)
     level c =
@@ -246,7 +246,8 @@ module _ (rows : List Entry) (words links : List ℕ) (count : ℕ) (halves byte
           one,
           λ some.
               let g = r .there some in
-              chain-level (rowAt rows i) (rowAt rows found) (keysAt rows i) (keysAt rows found) (says i p) (says found (g .0)) n m (g .1) (r .chained ∙ c)
+              chain-level (keptEntry rows i) (keptEntry rows found) (keysAt rows i) (keysAt rows found) (says i p) (says found (g .0)) n m (g .1)
+              (r .chained ∙ c)
               ∙ one,
         )
 

@@ -21,13 +21,13 @@ use Rattle.kept.specs.Stored.{
   name1Column,
   name2Column,
   groupColumn,
-  numberColumn,
+  keptNumberColumn,
   code1Column,
   code2Column,
   marksColumn,
   countColumn,
 }
-use Rattle.findings.specs.Found.{rowOf, countOf}
+use Rattle.findings.specs.Found.{rowLinked, countFinding}
 
 -- column c by itself
 abbrev pub columnOf : List ℕ → ℕ → List ℕ
@@ -56,12 +56,12 @@ pub record CountsBy (halves bytes sound before after : List ℕ) (n : ℕ) : Typ
   pub tallies : List ℕ
   pub counted : Counted sound (columnOf halves groupColumn) (replicate mostSymbols 0) tallies n
   pub compared : after
-      ≡ sets before 0 (tabulate (λ i. countOf
-      (getD (columnOf bytes countColumn) i 0) (getD (columnOf halves numberColumn) i 0) (under tallies (columnOf halves key1Column) i)) 0 n)
+      ≡ sets before 0 (tabulate (λ i. countFinding
+      (getD (columnOf bytes countColumn) i 0) (getD (columnOf halves keptNumberColumn) i 0) (under tallies (columnOf halves key1Column) i)) 0 n)
 
 -- the rows that a column's names lead to
 abbrev pub FoundBy : (halves holders : List ℕ) → (column : ℕ) → (before after : List ℕ) → ℕ → Type 0
-FoundBy halves holders column before after n = after ≡ sets before 0 (tabulate (λ i. rowOf (under holders (columnOf halves column) i)) 0 n)
+FoundBy halves holders column before after n = after ≡ sets before 0 (tabulate (λ i. rowLinked (under holders (columnOf halves column) i)) 0 n)
 
 -- the verdicts
 abbrev pub judgedBy : (halves bytes sound counts found1 found2 : List ℕ) → ℕ → List ℕ

@@ -13,7 +13,7 @@ use Rattle.laws.proofs.At.{same-test}
 use Rattle.laws.proofs.Cases.{bool-cases, and-left, and-right, and-both, false≢true}
 use Rattle.laws.proofs.First.{or-else-zero, unless-zero}
 use Rattle.laws.proofs.Tests.{any-up}
-use Rattle.schemas.specs.Reasons.{verdict as verdictOf}
+use Rattle.schemas.specs.Reasons.{reasonAt as verdictOf}
 use Rattle.verdicts.specs.Facts.{Naming}
 use Rattle.verdicts.specs.Entries.{Entry, own, facts}
 use Rattle.verdicts.specs.Verdicts.{sound, asked, nameCell, judge, within, verdict}

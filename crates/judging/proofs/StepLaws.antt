@@ -5,7 +5,7 @@ use mathlib.Core.List.{List}
 use Prim.Native.Nat.{ℕ}
 use lib.ListN.{getD}
 use borrow.Author.Tests.{eq-eqb, ne-eqb}
-use Rattle.schemas.specs.Reasons.{verdict}
+use Rattle.schemas.specs.Reasons.{reasonAt}
 use Rattle.manners.specs.Manners.{mannerAt}
 use Rattle.chains.specs.Chains.{noRow}
 use Rattle.names.proofs.StepLaws.{or-here}
@@ -33,7 +33,7 @@ module _ (own sound count circle : ℕ) where
   base-own h = or-here own _ h
 
   module _ (formed : own ≡ 0) where
-    pub base-shared : (sound ≡ 1 → ⊥) → verdict 9 0 ≡ baseOf own sound count circle
+    pub base-shared : (sound ≡ 1 → ⊥) → reasonAt 9 0 ≡ baseOf own sound count circle
     unfolding baseOf
     base-shared h = rw (formed, ne-eqb sound 1 h)
 
@@ -43,7 +43,7 @@ module _ (own sound count circle : ℕ) where
       base-count h = rw (formed, eq-eqb sound 1 alone) (or-here count _ h)
 
       module _ (counted : count ≡ 0) where
-        pub base-circle : circle ≡ 1 → verdict 12 8 ≡ baseOf own sound count circle
+        pub base-circle : circle ≡ 1 → reasonAt 12 8 ≡ baseOf own sound count circle
         unfolding baseOf
         base-circle h = rw (formed, eq-eqb sound 1 alone, counted, eq-eqb circle 1 h)
 

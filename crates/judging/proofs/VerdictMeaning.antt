@@ -11,7 +11,7 @@ use Rattle.laws.specs.Lists.{any, orElse, first}
 use Rattle.laws.specs.Prefix.{flag}
 use Rattle.laws.proofs.Cases.{bool-cases}
 use Rattle.laws.proofs.First.{or-else-zero, when-zero}
-use Rattle.schemas.specs.Reasons.{verdict as verdictOf}
+use Rattle.schemas.specs.Reasons.{reasonAt as verdictOf}
 use Rattle.verdicts.specs.Facts.{Naming}
 use Rattle.verdicts.specs.Entries.{Entry, own, facts}
 use Rattle.verdicts.specs.Verdicts.{shared, sound, countCell, circle, asked, nameCell, judge, verdict}

@@ -11,7 +11,7 @@ use Rattle.laws.specs.Lists.{orElse}
 use Rattle.laws.specs.Prefix.{flag}
 use Rattle.laws.specs.Values.{tabulate}
 use Rattle.arrays.specs.Room.{mostPlaces}
-use Rattle.schemas.specs.Reasons.{verdict}
+use Rattle.schemas.specs.Reasons.{reasonAt}
 use Rattle.manners.specs.Manners.{manners, mannerAt}
 use Rattle.chains.specs.Chains.{noRow, comesTo, firmFrom}
 use Rattle.kinds.specs.Kinds.{kindsAt}
@@ -26,7 +26,7 @@ nextOf sound code found = cond (mannerAt code .chained && eqb (getD sound found 
 -- the verdict of reasons 1 to 8, 9 where the row isn't sound, 10 as counted, 12 where it is on a circle
 unfoldable pub baseOf : (own sound count circle : ℕ) → ℕ
 baseOf own sound count circle =
-    orElse own (orElse (cond (eqb sound 1) 0 (verdict 9 0)) (orElse count (cond (eqb circle 1) (verdict 12 8) 0)))
+    orElse own (orElse (cond (eqb sound 1) 0 (reasonAt 9 0)) (orElse count (cond (eqb circle 1) (reasonAt 12 8) 0)))
 
 -- ---- the arrays that the passes fill, from the front
 

@@ -23,9 +23,9 @@ use Rattle.row_keys.specs.declared.records.RowKeys.{RowKeys}
 use Rattle.keys.specs.Held.{keysOf, rowKeysOf}
 use Rattle.tables.proofs.SizeLaws.{short, few}
 use Rattle.kept.proofs.RoomLaws.{roomy}
-use Rattle.kept.specs.Stored.{at, startColumn, tableColumn, keysAt, Stored}
+use Rattle.kept.specs.Stored.{at, keptStartColumn, keptTableColumn, keysAt, Stored}
 use Rattle.kept.specs.Asked.{asks, asksOf}
-use Rattle.kept.specs.FirstPass.{Arrays, Ready, Onward, RowAt, lineAt, StartsAt, TableKept, Situated, Situations, SameSizes}
+use Rattle.kept.specs.FirstPass.{Arrays, Ready, Onward, RowAt, tableLine, StartsAt, TableKept, Situated, Situations, SameSizes}
 use Rattle.kept.proofs.FirstPassLaws.{row-stays, ready-on}
 
 abbrev noEntry : Entry
@@ -35,7 +35,7 @@ noEntry = record { table = 0; row = 0; reading = bad 1 }
 
 -- the keys of row j of table t
 pub keys-at : (texts : List (List ℕ)) (t j : ℕ) → t < tableCount → j < length (linesOf (textAt texts t))
-    → keysAt (allRows texts) (rowsBefore texts t + j) ≡ rowKeysOf (carriedAt t) (lineAt (textAt texts t) j)
+    → keysAt (allRows texts) (rowsBefore texts t + j) ≡ rowKeysOf (carriedAt t) (tableLine (textAt texts t) j)
 unfolding rowKeysOf entryAt place
 keys-at texts t j h l =
     let s : suc j - 1 ≡ j = omega arith in
@@ -56,9 +56,9 @@ situated-new texts t j start i h l e w =
     }
 
 situated-stays : {s₀ s₁ : Arrays} {from more : ℕ} (texts : List (List ℕ)) (i : ℕ) → Onward s₀ s₁ from more → i < from
-    → Situated texts (at (s₀ .bytes) tableColumn i) (at (s₀ .halves) startColumn i) i
-    → Situated texts (at (s₁ .bytes) tableColumn i) (at (s₁ .halves) startColumn i) i
-situated-stays texts i o h w = rw (o .bytes tableColumn i h, o .halves startColumn i h) w
+    → Situated texts (at (s₀ .bytes) keptTableColumn i) (at (s₀ .halves) keptStartColumn i) i
+    → Situated texts (at (s₁ .bytes) keptTableColumn i) (at (s₁ .halves) keptStartColumn i) i
+situated-stays texts i o h w = rw (o .bytes keptTableColumn i h, o .halves keptStartColumn i h) w
 
 -- ---- the pass over the tables
 
@@ -136,9 +136,9 @@ module _ (texts : List (List ℕ)) (all : length texts ≡ tableCount) (s₀ : A
           let j : ℕ = i - rows in
           let e : rows + j ≡ i = omega arith in
           let c = k .line j (omega arith) in
-          let n : at (s′ .bytes) tableColumn i ≡ t = ap (at (s′ .bytes) tableColumn) (sym e) ∙ c .number in
-          let w : StartsAt text j (at (s′ .halves) startColumn i) = subst (λ (y : ℕ). StartsAt text j (at (s′ .halves) startColumn y)) e (c .start) in
-          subst (λ (u : ℕ). Situated texts u (at (s′ .halves) startColumn i) i) (sym n)
+          let n : at (s′ .bytes) keptTableColumn i ≡ t = ap (at (s′ .bytes) keptTableColumn) (sym e) ∙ c .number in
+          let w : StartsAt text j (at (s′ .halves) keptStartColumn i) = subst (λ (y : ℕ). StartsAt text j (at (s′ .halves) keptStartColumn y)) e (c .start) in
+          subst (λ (u : ℕ). Situated texts u (at (s′ .halves) keptStartColumn i) i) (sym n)
           (situated-new texts t j _ i h (omega arith) (omega (arith, p .count)) w))
 
       pass-more : (rows′ : ℕ) → rows′ ≡ rows + length (linesOf text) → ((i : ℕ) → getD text i 0 < 256) → Passed texts s₀ s′ rows′ (t + 1)

@@ -18,18 +18,18 @@ use Rattle.symbols.specs.declared.Symbol.{Symbol}
 use Rattle.row_keys.specs.declared.records.RowKeys.{RowKeys}
 use Rattle.kept.specs.declared.interning.RowIds.{RowIds}
 use Rattle.keys.specs.Held.{rowKeysOf}
-use Rattle.kept.specs.Stored.{at, startColumn, tableColumn, KnownRow}
-use Rattle.kept.specs.Ids.{Keeps, wanted, RowEntered}
-use Rattle.kept.specs.Puts.{putColumns, halvesOf, bytesOf, Wide}
+use Rattle.kept.specs.Stored.{at, keptStartColumn, keptTableColumn, KnownRow}
+use Rattle.kept.specs.Ids.{KeepsIds, wanted, RowEntered}
+use Rattle.kept.specs.Puts.{putColumns, halvesOf, bytesOf, AllPlaces}
 use Rattle.kept.specs.Asked.{asks}
-use Rattle.kept.specs.FirstPass.{Arrays, arrays, Ready, Onward, RowAt, RowKept, lineAt, StartsAt, LineKept, TableKept}
+use Rattle.kept.specs.FirstPass.{Arrays, arrays, Ready, Onward, RowAt, RowKept, tableLine, StartsAt, LineKept, TableKept}
 use Rattle.kept.proofs.IdLaws.{known-on, grown-on, grown-most, spacious-on, slot-on, named-on, named-code}
 use Rattle.kept.proofs.PutLaws.{put-length, put-there, put-here}
 use Rattle.kept.proofs.RoomLaws.{row-asks}
 
 -- ---- what is stored stays
 
-module _ {ls ms : List Symbol} (w : Keeps ls ms) (r : RowKeys) where
+module _ {ls ms : List Symbol} (w : KeepsIds ls ms) (r : RowKeys) where
   pub known-stays : KnownRow ls r → KnownRow ms r
   known-stays k =
       record {
@@ -85,7 +85,7 @@ onward-on v w h =
 -- ---- one row more
 
 module _ (w₀ l₀ w₁ l₁ : List ℕ) (n : ℕ) (h₀ b₀ h₁ b₁ : List ℕ) (r : RowKeys) (ids : RowIds) (i start table : ℕ) where
-  pub row-kept : i < mostPlaces → Wide h₀ b₀ → RowEntered w₀ l₀ w₁ l₁ n r ids → h₁ ≡ putColumns 0 h₀ i (halvesOf r ids start)
+  pub row-kept : i < mostPlaces → AllPlaces h₀ b₀ → RowEntered w₀ l₀ w₁ l₁ n r ids → h₁ ≡ putColumns 0 h₀ i (halvesOf r ids start)
       → b₁ ≡ putColumns 0 b₀ i (bytesOf r table)
       → RowKept (arrays w₀ l₀ n h₀ b₀) (arrays w₁ l₁ (ids .count) h₁ b₁) r i start table
   row-kept h z e p q =
@@ -156,8 +156,8 @@ pub line-stays : {s₀ s₁ : Arrays} {from more : ℕ} {table : Table} {t : ℕ
 line-stays {text = text} {j = j} {i = i} o h w =
     record {
       row = row-stays o _ i h (w .row);
-      start = subst (StartsAt text j) (sym (o .halves startColumn i h)) (w .start);
-      number = o .bytes tableColumn i h ∙ w .number;
+      start = subst (StartsAt text j) (sym (o .halves keptStartColumn i h)) (w .start);
+      number = o .bytes keptTableColumn i h ∙ w .number;
     }
 
 -- the walk: the lines before place a are stored, and line j starts there
@@ -188,11 +188,11 @@ module _ (s₀ : Arrays) (table : Table) (t : ℕ) (text : List ℕ) (from : ℕ
     walk-below = at-below (linesOf text) j next
 
     module _ (kind : Table) (keys : RowKeys) (same : kind ≡ table) (is : keys ≡ rowKeysOf kind (lineFrom text a)) where
-      walk-keys : keys ≡ rowKeysOf table (lineAt text j)
+      walk-keys : keys ≡ rowKeysOf table (tableLine text j)
       walk-keys = is ∙ rw (same, at-is (linesOf text) j noLine next)
 
       walk-asks : wanted keys ≤ asks table
-      walk-asks = rw walk-keys (row-asks table (lineAt text j))
+      walk-asks = rw walk-keys (row-asks table (tableLine text j))
 
       -- there is room for the line's keys
       pub walk-room : s₀ .count + length (linesOf text) * asks table ≤ mostSymbols → s .count + wanted keys ≤ mostSymbols

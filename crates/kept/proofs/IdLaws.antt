@@ -26,7 +26,7 @@ use Rattle.manners.specs.Manners.{bit}
 use Rattle.row_keys.specs.Parts.{isNamed}
 use Rattle.kept.specs.declared.interning.FirstIds.{FirstIds}
 use Rattle.kept.specs.Stored.{slotId, namedId}
-use Rattle.kept.specs.Ids.{Spacious, Keeps, Fits, Grown, Entered, names, besides, firstWanted, wanted, FirstEntered, RowEntered}
+use Rattle.kept.specs.Ids.{Spacious, KeepsIds, Fits, Grown, Entered, namesSymbol, besides, firstWanted, wanted, FirstEntered, RowEntered}
 
 -- ---- one key
 
@@ -79,10 +79,10 @@ module _ (words links : List ℕ) (n : ℕ) (t : Table words links n) (given : B
 -- ---- symbols that have grown
 
 -- what has an id keeps one
-pub known-on : {ls ms : List Symbol} → Keeps ls ms → (k : Symbol) → idOf k ls < noId → idOf k ms < noId
+pub known-on : {ls ms : List Symbol} → KeepsIds ls ms → (k : Symbol) → idOf k ls < noId → idOf k ms < noId
 known-on w k h = omega (arith, w .same k h)
 
-pub keeps-on : {ls ms ns : List Symbol} → Keeps ls ms → Keeps ms ns → Keeps ls ns
+pub keeps-on : {ls ms ns : List Symbol} → KeepsIds ls ms → KeepsIds ms ns → KeepsIds ls ns
 keeps-on p q = record { same = λ k h. q .same k (known-on p k h) ∙ p .same k h }
 
 pub grown-on : {words₀ links₀ words₁ links₁ words₂ links₂ : List ℕ} {n m count more less : ℕ} → Grown words₀ links₀ n words₁ links₁ m more
@@ -110,7 +110,7 @@ choice true x y = refl
 choice false x y = refl
 
 -- ids that are kept stay right
-module _ {ls ms : List Symbol} (w : Keeps ls ms) where
+module _ {ls ms : List Symbol} (w : KeepsIds ls ms) where
   given-on : (given : Bool) (k : Symbol) → (given ≡ true → idOf k ls < noId) → cond given (idOf k ms) noId ≡ cond given (idOf k ls) noId
   given-on true k h = w .same k (h refl)
   given-on false k h = refl
@@ -148,20 +148,20 @@ fits-given ls n false k h e m = absurd (false≢true e)
 
 -- a key that is named already has an id
 module _ (ls : List Symbol) (one : Named) (known : isNamed one ≡ true → idOf (one .key) ls < noId) (given : Bool) (k : Symbol) where
-  named-known : names one k ≡ true → idOf k ls < noId
+  named-known : namesSymbol one k ≡ true → idOf k ls < noId
   named-known e = rw (same-is k (one .key) (and-right (isNamed one) _ e)) (known (and-left (isNamed one) _ e))
 
   pub fits-besides : (n : ℕ) → n + besides one given k ≤ mostSymbols → given ≡ true → Fits ls n k
-  fits-besides n h e m = go (names one k) refl h
+  fits-besides n h e m = go (namesSymbol one k) refl h
     where
-      go : (b : Bool) → names one k ≡ b → n + bit (given && not b) ≤ mostSymbols → idOf k ls < noId
+      go : (b : Bool) → namesSymbol one k ≡ b → n + bit (given && not b) ≤ mostSymbols → idOf k ls < noId
       go true q l = named-known q
       go false q l = absurd (let z : n + 1 ≤ mostSymbols = rw e at l in omega arith)
 
   pub few-besides : (n count : ℕ) → count ≤ n + bit given → (idOf k ls < noId → count ≤ n) → count ≤ n + besides one given k
-  few-besides n count f o = go (names one k) refl given f
+  few-besides n count f o = go (namesSymbol one k) refl given f
     where
-      go : (b : Bool) → names one k ≡ b → (g : Bool) → count ≤ n + bit g → count ≤ n + bit (g && not b)
+      go : (b : Bool) → namesSymbol one k ≡ b → (g : Bool) → count ≤ n + bit g → count ≤ n + bit (g && not b)
       go true q g l = omega (arith, o (named-known q))
       go false q true l = l
       go false q false l = l

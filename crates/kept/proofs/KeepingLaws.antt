@@ -13,7 +13,7 @@ use Rattle.verdicts.specs.Entries.{allRows}
 use Rattle.tables.specs.Sizes.{fit, refusedBy, sizesOf}
 use Rattle.kept.specs.Puts.{allHalves, allBytes}
 use Rattle.kept.specs.Stored.{Stored}
-use Rattle.kept.specs.FirstPass.{Arrays, arrays, Situations, SameSizes, Bytes}
+use Rattle.kept.specs.FirstPass.{Arrays, arrays, Situations, SameSizes, HoldBytes}
 use Rattle.kept.specs.Keeping.{hasPlaces, KeepsRows}
 
 pub sizes-taken : (texts : List (List ℕ)) → sizesOf texts ≡ fit → (tooLong texts ≡ 0) × (tooManyRows texts ≡ 0)
@@ -49,7 +49,7 @@ module _ (s : Arrays) where
 pub keeps-rows : (texts : List (List ℕ)) (words links halves bytes cleared words₁ links₁ halves₁ bytes₁ : List ℕ) (rows symbols : ℕ) → sizesOf texts ≡ fit
     → hasPlaces (arrays words links 0 halves bytes) ≡ true → cleared ≡ replicate (length links) 0 → rows ≡ length (allRows texts) → Stored
     (allRows texts) words₁ links₁ symbols halves₁ bytes₁
-    → Situations texts halves₁ bytes₁ rows → SameSizes (arrays words cleared 0 halves bytes) (arrays words₁ links₁ symbols halves₁ bytes₁) → Bytes texts
+    → Situations texts halves₁ bytes₁ rows → SameSizes (arrays words cleared 0 halves bytes) (arrays words₁ links₁ symbols halves₁ bytes₁) → HoldBytes texts
     → KeepsRows texts (arrays words links 0 halves bytes) (arrays words₁ links₁ 0 halves₁ bytes₁) rows symbols
 keeps-rows texts words links halves bytes cleared words₁ links₁ halves₁ bytes₁ rows symbols f p e c s t z b =
     record {

@@ -18,14 +18,14 @@ use Rattle.rows.specs.declared.letters.LimitValue.the-variants as LV
 use Rattle.symbols.proofs.SameLaws.{same-self}
 use Rattle.verdicts.specs.Facts.{Naming, ofEngineering, pidKeys, factsOf}
 use Rattle.verdicts.specs.Facts.{pidFacts, picFacts, plfFacts, pcfFacts, cafFacts, capFacts, txfFacts, txpFacts, ocfFacts, ocpFacts}
-use Rattle.verdicts.specs.Entries.{Reading, fine, bad, readingOf, own, said}
+use Rattle.verdicts.specs.Entries.{RowReading, fine, bad, readingOf, own, factsIn}
 use Rattle.row_keys.specs.declared.records.Named.{Named}
 use Rattle.row_keys.specs.declared.records.RowKeys.{RowKeys}
 use Rattle.key_symbols.specs.Keyed.{symbolOf}
 use Rattle.manners.specs.Manners.{bit, manners, mannerAt, weight, sameManner, codeFrom, codeOf}
 use Rattle.keys.specs.Held.{slotOf, namedOf, keysOf, rowKeysOf}
 use Rattle.row_keys.specs.Parts.{isNamed}
-use Rattle.kept.specs.Ids.{names, besides, firstWanted, wanted}
+use Rattle.kept.specs.Ids.{namesSymbol, besides, firstWanted, wanted}
 use Rattle.kept.specs.Asked.{asks, asksOf, Roomy}
 
 pub roomy : Roomy
@@ -46,7 +46,15 @@ module _ (r : RowKeys) (second : bit (r .second .given) ≡ 0) (group : besides 
   three : wanted r ≤ 3
   unfolding wanted firstWanted
   three =
-      omega (arith, second, group, bit-most (r .first .given), bit-most (isNamed (r .one)), bit-most (isNamed (r .two) && not (names (r .one) (r .two .key))))
+      omega (
+        arith,
+        second,
+        group,
+        bit-most (r .first .given),
+        bit-most (isNamed (r .one)),
+        bit-most
+            (isNamed (r .two) && not (namesSymbol (r .one) (r .two .key))),
+      )
 
   two : besides (r .one) (isNamed (r .two)) (r .two .key) ≡ 0 → wanted r ≤ 2
   unfolding wanted firstWanted
@@ -79,7 +87,7 @@ facts-ask Ocf line = let r = keysOf 0 (factsOf Ocf line) in two r refl refl (eng
 facts-ask Ocp line = let r = keysOf 0 (factsOf Ocp line) in three r refl (beside-same (r .one) true refl)
 
 -- a row with one of reasons 1 to 8 asks for none
-none-asked : (v : ℕ) → wanted (keysOf v (said (bad v))) ≡ 0
+none-asked : (v : ℕ) → wanted (keysOf v (factsIn (bad v))) ≡ 0
 unfolding wanted firstWanted keysOf slotOf namedOf
 none-asked v = refl
 
@@ -87,9 +95,9 @@ pub row-asks : (t : Table) (line : Line) → wanted (rowKeysOf t line) ≤ asks 
 unfolding rowKeysOf readingOf
 row-asks t line = go (eqb (formed t line) 0)
   where
-    read : Bool → Reading
+    read : Bool → RowReading
     read z = cond z (fine (factsOf t (line .bytes))) (bad (formed t line))
 
-    go : (z : Bool) → wanted (keysOf (own (read z)) (said (read z))) ≤ asks t
+    go : (z : Bool) → wanted (keysOf (own (read z)) (factsIn (read z))) ≤ asks t
     go true = facts-ask t (line .bytes)
     go false = omega (arith, none-asked (formed t line))

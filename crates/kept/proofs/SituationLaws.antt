@@ -18,7 +18,7 @@ use Rattle.symbols.proofs.FindLaws.{table-zeros}
 use Rattle.verdicts.specs.Entries.{Entry, carriedAt, entry, allRows}
 use Rattle.verdicts.specs.Places.{textAt, noLine, entryAt, rowsBefore, place}
 use Rattle.verdicts.proofs.EntryLaws.{rows-before-next, row-at}
-use Rattle.kept.specs.FirstPass.{arrays, Ready, lineAt, Situated}
+use Rattle.kept.specs.FirstPass.{arrays, Ready, tableLine, Situated}
 
 -- arrays whose links are cleared
 pub ready-cleared : (words links₀ links halves bytes : List ℕ) → links ≡ replicate (length links₀) 0 → allWords ≤ length words
@@ -51,11 +51,11 @@ module _ (texts : List (List ℕ)) (t start i : ℕ) (w : Situated texts t start
       absurd (omega (arith, line-below, length-drop j (linesOf text), ap length e)))
 
   -- and is the one that is met there
-  pub line-again : (n : NextLine) → n ≡ nextLine text start → lineAt text j ≡ lineOf (take (n .end - start) (drop start text)) (n .ended)
+  pub line-again : (n : NextLine) → n ≡ nextLine text start → tableLine text j ≡ lineOf (take (n .end - start) (drop start text)) (n .ended)
   line-again n e = at-is (linesOf text) j noLine (sym (w .start) ∙ lines-next text start n e start-below)
 
   -- the row is made of this line
-  pub row-again : (d : Entry) → getD (allRows texts) i d ≡ entry (carriedAt t) t (suc j) (lineAt text j)
+  pub row-again : (d : Entry) → getD (allRows texts) i d ≡ entry (carriedAt t) t (suc j) (tableLine text j)
   unfolding entryAt place
   row-again d =
       let s : suc j - 1 ≡ j = omega arith in

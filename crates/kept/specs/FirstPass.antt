@@ -12,9 +12,9 @@ use Rattle.verdicts.specs.Places.{textAt, noLine, rowsBefore}
 use Rattle.verdicts.specs.Entries.{tableCount}
 use Rattle.row_keys.specs.declared.records.RowKeys.{RowKeys}
 use Rattle.keys.specs.Held.{rowKeysOf}
-use Rattle.kept.specs.Stored.{at, startColumn, tableColumn, StoredRow, KnownRow}
+use Rattle.kept.specs.Stored.{at, keptStartColumn, keptTableColumn, StoredRow, KnownRow}
 use Rattle.kept.specs.Ids.{Spacious, Grown, wanted}
-use Rattle.kept.specs.Puts.{Wide}
+use Rattle.kept.specs.Puts.{AllPlaces}
 use Rattle.kept.specs.Asked.{asks}
 
 -- the lent arrays, and how many symbols there are
@@ -35,7 +35,7 @@ symbolsIn s = symbols (s .words) (s .count)
 pub record Ready (s : Arrays) : Type 0 where
   pub table : searches.Table (s .words) (s .links) (s .count)
   pub spacious : Spacious (s .words) (s .links)
-  pub wide : Wide (s .halves) (s .bytes)
+  pub wide : AllPlaces (s .halves) (s .bytes)
 
 -- rows have been stored from a place on: those before it stay, and at most so many symbols are new
 pub record Onward (s₀ s₁ : Arrays) (from more : ℕ) : Type 0 where
@@ -54,12 +54,12 @@ pub record RowAt (s : Arrays) (r : RowKeys) (i : ℕ) : Type 0 where
 pub record RowKept (s₀ s₁ : Arrays) (r : RowKeys) (i start′ table′ : ℕ) : Type 0 where
   pub onward : Onward s₀ s₁ i (wanted r)
   pub row : RowAt s₁ r i
-  pub start : at (s₁ .halves) startColumn i ≡ start′
-  pub table : at (s₁ .bytes) tableColumn i ≡ table′
+  pub start : at (s₁ .halves) keptStartColumn i ≡ start′
+  pub table : at (s₁ .bytes) keptTableColumn i ≡ table′
 
 -- line j of a table, from 0
-abbrev pub lineAt : List ℕ → ℕ → Line
-lineAt text j = getD (linesOf text) j noLine
+abbrev pub tableLine : List ℕ → ℕ → Line
+tableLine text j = getD (linesOf text) j noLine
 
 -- line j of a text starts at a place
 abbrev pub StartsAt : List ℕ → ℕ → ℕ → Type 0
@@ -67,9 +67,9 @@ StartsAt text j start = linesOf (drop start text) ≡ drop j (linesOf text)
 
 -- row i is line j of table number t
 pub record LineKept (s : Arrays) (table : Table) (t : ℕ) (text : List ℕ) (j i : ℕ) : Type 0 where
-  pub row : RowAt s (rowKeysOf table (lineAt text j)) i
-  pub start : StartsAt text j (at (s .halves) startColumn i)
-  pub number : at (s .bytes) tableColumn i ≡ t
+  pub row : RowAt s (rowKeysOf table (tableLine text j)) i
+  pub start : StartsAt text j (at (s .halves) keptStartColumn i)
+  pub number : at (s .bytes) keptTableColumn i ≡ t
 
 -- the first m lines of a table are stored from a place on
 pub record TableKept (s₀ s₁ : Arrays) (table : Table) (t : ℕ) (text : List ℕ) (from m : ℕ) : Type 0 where
@@ -85,7 +85,7 @@ pub record Situated (texts : List (List ℕ)) (t start′ i : ℕ) : Type 0 wher
 
 -- two columns tell this of the first n rows
 abbrev pub Situations : List (List ℕ) → (halves bytes : List ℕ) → ℕ → Type 0
-Situations texts halves bytes n = (i : ℕ) → i < n → Situated texts (at bytes tableColumn i) (at halves startColumn i) i
+Situations texts halves bytes n = (i : ℕ) → i < n → Situated texts (at bytes keptTableColumn i) (at halves keptStartColumn i) i
 
 -- the arrays are as long as they were
 pub record SameSizes (s₀ s₁ : Arrays) : Type 0 where
@@ -95,5 +95,5 @@ pub record SameSizes (s₀ s₁ : Arrays) : Type 0 where
   pub bytes : length (s₁ .bytes) ≡ length (s₀ .bytes)
 
 -- tables hold bytes
-abbrev pub Bytes : List (List ℕ) → Type 0
-Bytes texts = (t i : ℕ) → t < tableCount → getD (textAt texts t) i 0 < 256
+abbrev pub HoldBytes : List (List ℕ) → Type 0
+HoldBytes texts = (t i : ℕ) → t < tableCount → getD (textAt texts t) i 0 < 256

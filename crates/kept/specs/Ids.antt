@@ -23,7 +23,7 @@ pub record Spacious (ws ls : List ℕ) : Type 0 where
   pub links : allLinks ≤ length ls
 
 -- keys keep the ids that they have
-pub record Keeps (ls ms : List Symbol) : Type 0 where
+pub record KeepsIds (ls ms : List Symbol) : Type 0 where
   pub same : (k : Symbol) → idOf k ls < noId → idOf k ms ≡ idOf k ls
 
 -- there is a place for a key, or it is a symbol
@@ -32,7 +32,7 @@ Fits ls n k = mostSymbols ≤ n → idOf k ls < noId
 
 -- n symbols have become `count`, of which at most so many are new
 pub record Grown (words₀ links₀ : List ℕ) (n : ℕ) (words₁ links₁ : List ℕ) (count more : ℕ) : Type 0 where
-  pub keeps : Keeps (symbols words₀ n) (symbols words₁ count)
+  pub keeps : KeepsIds (symbols words₀ n) (symbols words₁ count)
   pub table : Table words₁ links₁ count
   pub few : count ≤ n + more
   pub words : length words₁ ≡ length words₀
@@ -46,12 +46,12 @@ pub record Entered (words₀ links₀ words₁ links₁ : List ℕ) (n : ℕ) (g
   pub old : idOf k (symbols words₀ n) < noId → r .count ≤ n
 
 -- this key is named
-abbrev pub names : Named → Symbol → Bool
-names n k = isNamed n && sameSymbol k (n .key)
+abbrev pub namesSymbol : Named → Symbol → Bool
+namesSymbol n k = isNamed n && sameSymbol k (n .key)
 
 -- 1 for a key that is given and isn't named
 abbrev pub besides : Named → Bool → Symbol → ℕ
-besides n given k = bit (given && not (names n k))
+besides n given k = bit (given && not (namesSymbol n k))
 
 -- how many symbols a row asks for: a second naming or a group that goes by the key of the first naming asks for none
 unfoldable pub firstWanted : RowKeys → ℕ

@@ -10,7 +10,7 @@ use Rattle.verdicts.specs.Entries.{allRows}
 use Rattle.tables.specs.Sizes.{fit, refusedBy, sizesOf}
 use Rattle.kept.specs.Stored.{Stored}
 use Rattle.kept.specs.Puts.{allHalves, allBytes}
-use Rattle.kept.specs.FirstPass.{Arrays, Situations, SameSizes, Bytes}
+use Rattle.kept.specs.FirstPass.{Arrays, Situations, SameSizes, HoldBytes}
 use Rattle.kept.specs.declared.Keeping.{Keeping}
 use Rattle.kept.specs.declared.Keeping.the-variants.{Done, TooLong, TooManyRows, NoRoom}
 
@@ -27,7 +27,7 @@ pub record KeepsRows (texts : List (List ℕ)) (s₀ s₁ : Arrays) (rows symbol
   pub stored : Stored (allRows texts) (s₁ .words) (s₁ .links) symbols (s₁ .halves) (s₁ .bytes)
   pub situated : Situations texts (s₁ .halves) (s₁ .bytes) rows
   pub sizes : SameSizes s₀ s₁
-  pub below : Bytes texts
+  pub below : HoldBytes texts
 
 -- 01: "A refusal writes nothing"
 unfoldable pub Keeps : List (List ℕ) → Arrays → Arrays → Keeping → Type 0

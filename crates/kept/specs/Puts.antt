@@ -27,6 +27,6 @@ abbrev pub allBytes : ℕ
 allBytes = 5 * mostPlaces
 
 -- the lent columns have all their places
-pub record Wide (hs bs : List ℕ) : Type 0 where
+pub record AllPlaces (hs bs : List ℕ) : Type 0 where
   pub halves : allHalves ≤ length hs
   pub bytes : allBytes ≤ length bs

@@ -39,11 +39,11 @@ name2Column = 4
 abbrev pub groupColumn : ℕ
 groupColumn = 5
 
-abbrev pub numberColumn : ℕ
-numberColumn = 6
+abbrev pub keptNumberColumn : ℕ
+keptNumberColumn = 6
 
-abbrev pub startColumn : ℕ
-startColumn = 7
+abbrev pub keptStartColumn : ℕ
+keptStartColumn = 7
 
 abbrev pub code1Column : ℕ
 code1Column = 0
@@ -57,8 +57,8 @@ marksColumn = 2
 abbrev pub countColumn : ℕ
 countColumn = 3
 
-abbrev pub tableColumn : ℕ
-tableColumn = 4
+abbrev pub keptTableColumn : ℕ
+keptTableColumn = 4
 
 -- the id of a key that a row may hold, and of one that it may name
 unfoldable pub slotId : List Symbol → Slot → ℕ
@@ -75,7 +75,7 @@ pub record StoredRow (ls : List Symbol) (r : RowKeys) (halves bytes : List ℕ) 
   pub name1 : at halves name1Column i ≡ namedId ls (r .one)
   pub name2 : at halves name2Column i ≡ namedId ls (r .two)
   pub group : at halves groupColumn i ≡ slotId ls (r .group)
-  pub number : at halves numberColumn i ≡ min (r .count .number) 65535
+  pub number : at halves keptNumberColumn i ≡ min (r .count .number) 65535
   pub code1 : at bytes code1Column i ≡ r .one .code
   pub code2 : at bytes code2Column i ≡ r .two .code
   pub marks : at bytes marksColumn i ≡ r .marks

@@ -18,7 +18,7 @@ ghost use Rattle.verdicts.specs.Answer.{tooLong, tooManyRows};
 ghost use Rattle.kept.specs.Stored.{Stored};
 ghost use Rattle.kept.specs.Ids.{wanted};
 ghost use Rattle.kept.specs.Asked.{asks};
-ghost use Rattle.kept.specs.FirstPass.{arrays, Ready, RowKept, TableKept, Situations, SameSizes, Bytes};
+ghost use Rattle.kept.specs.FirstPass.{arrays, Ready, RowKept, TableKept, Situations, SameSizes, HoldBytes};
 
 // How many rows are kept, and how many symbols there are.
 pub(crate) struct Kept {
@@ -102,7 +102,7 @@ pub(crate) fn keep_tables(
     ensures { λ r. ⌜ Situations (map now (tables .entry)) (now (halves .exit)) (now (bytes .exit)) (r .rows) ⌝ }
     ensures { λ r. ⌜ SameSizes (arrays (now (words .entry)) (now (links .entry)) 0 (now (halves .entry)) (now (bytes .entry)))
         (arrays (now (words .exit)) (now (links .exit)) (r .symbols) (now (halves .exit)) (now (bytes .exit))) ⌝ }
-    ensures { λ _. ⌜ Bytes (map now (tables .entry)) ⌝ }
+    ensures { λ _. ⌜ HoldBytes (map now (tables .entry)) ⌝ }
 {
     let mut rows: usize = 0;
     let mut symbols: usize = 0;

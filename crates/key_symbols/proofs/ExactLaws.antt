@@ -20,7 +20,7 @@ use Rattle.symbols.specs.Symbols.{sameSymbol}
 use Rattle.symbols.proofs.SameLaws.{same-is, same-self}
 use Rattle.verdicts.specs.Key.{Key, packet, structure, identification, location, parameter, curve, point, texts, range, limits, check, sameKey}
 use Rattle.verdicts.proofs.KeyLaws.{same-key-is, same-key-self}
-use Rattle.key_symbols.specs.Keyed.{number, lastTwo, nameSymbol, curveSymbol, valueSymbol, integerWord, apidWord, symbolOf}
+use Rattle.key_symbols.specs.Keyed.{digitsNumber, lastTwo, nameSymbol, curveSymbol, valueSymbol, integerWord, apidWord, symbolOf}
 use Rattle.key_symbols.specs.Bounded.{NameBounded, CurveBounded, ValueBounded, Bounded}
 use Rattle.key_symbols.proofs.NumberLaws.{digitsOf, digits-back, digits-take, digits-drop, number-below}
 
@@ -68,7 +68,7 @@ last-below n h =
     let e : length (drop 8 (n .bytes)) ≡ 2 = simp length-drop (omega (arith, h .0)) in
     rw e at (number-below (drop 8 (n .bytes)) (digits-drop 256 8 (n .bytes) (h .1)))
 
-ten-back : (n : CurveName) → CurveBounded n → digitsOf 256 8 (number 256 (take 8 (n .bytes))) ++ digitsOf 256 2 (lastTwo n) ≡ n .bytes
+ten-back : (n : CurveName) → CurveBounded n → digitsOf 256 8 (digitsNumber 256 (take 8 (n .bytes))) ++ digitsOf 256 2 (lastTwo n) ≡ n .bytes
 ten-back n h =
     ap₂ (λ (x y : List ℕ). x ++ y)
     (digits-back 256 8 (take 8 (n .bytes)) (simp length-take (omega (arith, h .0))) (digits-take 256 8 (n .bytes) (h .1)))

@@ -11,7 +11,7 @@ use borrow.Author.Tests.{eqb-true, eq-eqb, ltb-true, lt-ltb}
 use Rattle.laws.proofs.Cases.{and-left, and-right, and-both}
 use Rattle.lines.specs.declared.names.CurveName.{CurveName}
 use Rattle.verdicts.specs.Key.{Key, packet, structure, identification, location, parameter, curve, point, texts, range, limits, check}
-use Rattle.key_symbols.specs.Bounded.{Digits, Bytes, ValueBounded, Bounded, digits, bytesFit, valueFits, fits}
+use Rattle.key_symbols.specs.Bounded.{Digits, SoManyBytes, ValueBounded, Bounded, digits, bytesFit, valueFits, keyFits}
 use Rattle.key_symbols.proofs.NumberLaws.{digits-all}
 
 -- both of two tests
@@ -26,10 +26,10 @@ are-digits : (base : ℕ) (ds : List ℕ) → Digits base ds → digits base ds 
 are-digits base [] h = refl
 are-digits base (d ∷ ds) h = and-both (lt-ltb d base (h .0)) (are-digits base ds (h .1))
 
-bytes-are : (n : ℕ) (bytes : List ℕ) → bytesFit n bytes ≡ true → Bytes n bytes
+bytes-are : (n : ℕ) (bytes : List ℕ) → bytesFit n bytes ≡ true → SoManyBytes n bytes
 bytes-are n bytes e = both (eqb (length bytes) n) (digits 256 bytes) (eqb-true (length bytes) n) (digits-are 256 bytes) e
 
-are-bytes : (n : ℕ) (bytes : List ℕ) → Bytes n bytes → bytesFit n bytes ≡ true
+are-bytes : (n : ℕ) (bytes : List ℕ) → SoManyBytes n bytes → bytesFit n bytes ≡ true
 are-bytes n bytes h = and-both (eq-eqb (length bytes) n (h .0)) (are-digits 256 bytes (h .1))
 
 -- an array of bytes
@@ -42,8 +42,8 @@ value-is n e = both (bytesFit 10 (n .bytes)) (ltb (n .len) (2 ^ 48)) (bytes-are 
 is-value : (n : CurveName) → ValueBounded n → valueFits n ≡ true
 is-value n h = and-both (are-bytes 10 (n .bytes) (h .0)) (lt-ltb (n .len) (2 ^ 48) (h .1))
 
-pub fits-bounded : (k : Key) → fits k ≡ true → Bounded k
-unfolding fits Bounded
+pub fits-bounded : (k : Key) → keyFits k ≡ true → Bounded k
+unfolding keyFits Bounded
 fits-bounded (packet ptype stype apid pi1 pi2) e = both (ltb stype (2 ^ 32)) (ltb pi1 (2 ^ 32)) (ltb-true stype (2 ^ 32)) (ltb-true pi1 (2 ^ 32)) e
 fits-bounded (structure spid) e = tt
 fits-bounded (identification ptype stype apid) e = ltb-true stype (2 ^ 32) e
@@ -56,8 +56,8 @@ fits-bounded (range numbr from) e = value-is numbr e
 fits-bounded (limits name) e = bytes-are 8 (name .bytes) e
 fits-bounded (check name position) e = bytes-are 8 (name .bytes) e
 
-pub bounded-fits : (k : Key) → Bounded k → fits k ≡ true
-unfolding fits Bounded
+pub bounded-fits : (k : Key) → Bounded k → keyFits k ≡ true
+unfolding keyFits Bounded
 bounded-fits (packet ptype stype apid pi1 pi2) h = and-both (lt-ltb stype (2 ^ 32) (h .0)) (lt-ltb pi1 (2 ^ 32) (h .1))
 bounded-fits (structure spid) h = refl
 bounded-fits (identification ptype stype apid) h = lt-ltb stype (2 ^ 32) h

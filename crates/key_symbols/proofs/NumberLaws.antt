@@ -8,7 +8,7 @@ use native.Mathlib.Numerals.{add-one}
 use lib.Arith.{digits-lt, digits-div, digits-mod}
 use lib.ListN.{length, getD, take, drop, drop-of-length-le}
 use Rattle.laws.proofs.Lists.{split}
-use Rattle.key_symbols.specs.Keyed.{numberFrom, number}
+use Rattle.key_symbols.specs.Keyed.{numberFrom, digitsNumber}
 use Rattle.key_symbols.specs.Bounded.{Digits}
 
 module _ (base before : ℕ) (s : List ℕ) (i : ℕ) where
@@ -53,8 +53,8 @@ module _ (base : ℕ) where
       (ap (λ (m : ℕ). m % base) (before-back (before * base + d) ds (h .1)) ∙ digits-mod before (h .0))
       (from-back (before * base + d) ds (h .1))
 
-  pub digits-back : (n : ℕ) (ds : List ℕ) → length ds ≡ n → Digits base ds → digitsOf base n (number base ds) ≡ ds
-  unfolding number
+  pub digits-back : (n : ℕ) (ds : List ℕ) → length ds ≡ n → Digits base ds → digitsOf base n (digitsNumber base ds) ≡ ds
+  unfolding digitsNumber
   digits-back n ds e h = rw (← e) (from-back 0 ds h)
 
   pub digits-take : (n : ℕ) (ds : List ℕ) → Digits base ds → Digits base (take n ds)
@@ -76,8 +76,8 @@ module _ (base : ℕ) where
   digits-all (d ∷ ds) h = (h 0, digits-all ds (λ i. h (suc i)))
 
 -- the number of n bytes is below 256 ^ n
-pub number-below : (ds : List ℕ) → Digits 256 ds → number 256 ds < 256 ^ length ds
-unfolding number
+pub number-below : (ds : List ℕ) → Digits 256 ds → digitsNumber 256 ds < 256 ^ length ds
+unfolding digitsNumber
 number-below ds h =
     let p : 0 < 256 ^ length ds = lt-of-lt-of-le {m = 256 ^ 0} (omega arith) (pow-le-pow-right (omega arith) zero-le) in
     let q : numberFrom 256 0 ds / 256 ^ length ds < 1 = omega (arith, before-back 256 0 ds h) in

@@ -18,15 +18,15 @@ Digits base [] = Unit {0}
 Digits base (d ∷ ds) = (d < base) × Digits base ds
 
 -- bytes, as many as there should be
-abbrev pub Bytes : ℕ → List ℕ → Type 0
-Bytes n bytes = (length bytes ≡ n) × Digits 256 bytes
+abbrev pub SoManyBytes : ℕ → List ℕ → Type 0
+SoManyBytes n bytes = (length bytes ≡ n) × Digits 256 bytes
 
 -- 01: "A name is kept as eight bytes and a length, or ten for curves"
 abbrev pub NameBounded : Name → Type 0
-NameBounded n = Bytes 8 (n .bytes)
+NameBounded n = SoManyBytes 8 (n .bytes)
 
 abbrev pub CurveBounded : CurveName → Type 0
-CurveBounded n = Bytes 10 (n .bytes)
+CurveBounded n = SoManyBytes 10 (n .bytes)
 
 -- a curve's name whose length shares a word with two of its bytes
 abbrev pub ValueBounded : CurveName → Type 0
@@ -58,27 +58,27 @@ bytesFit n bytes = eqb (length bytes) n && digits 256 bytes
 abbrev pub valueFits : CurveName → Bool
 valueFits n = bytesFit 10 (n .bytes) && ltb (n .len) (2 ^ 48)
 
-unfoldable pub fits : Key → Bool
-fits (packet ptype stype apid pi1 pi2) = ltb stype (2 ^ 32) && ltb pi1 (2 ^ 32)
-fits (structure spid) = true
-fits (identification ptype stype apid) = ltb stype (2 ^ 32)
-fits (location name spid) = bytesFit 8 (name .bytes)
-fits (parameter name) = bytesFit 8 (name .bytes)
-fits (curve numbr) = bytesFit 10 (numbr .bytes)
-fits (point numbr x) = valueFits numbr
-fits (texts numbr) = bytesFit 10 (numbr .bytes)
-fits (range numbr from) = valueFits numbr
-fits (limits name) = bytesFit 8 (name .bytes)
-fits (check name position) = bytesFit 8 (name .bytes)
+unfoldable pub keyFits : Key → Bool
+keyFits (packet ptype stype apid pi1 pi2) = ltb stype (2 ^ 32) && ltb pi1 (2 ^ 32)
+keyFits (structure spid) = true
+keyFits (identification ptype stype apid) = ltb stype (2 ^ 32)
+keyFits (location name spid) = bytesFit 8 (name .bytes)
+keyFits (parameter name) = bytesFit 8 (name .bytes)
+keyFits (curve numbr) = bytesFit 10 (numbr .bytes)
+keyFits (point numbr x) = valueFits numbr
+keyFits (texts numbr) = bytesFit 10 (numbr .bytes)
+keyFits (range numbr from) = valueFits numbr
+keyFits (limits name) = bytesFit 8 (name .bytes)
+keyFits (check name position) = bytesFit 8 (name .bytes)
 
 -- 01: "The five numbers choose the pid row"
 abbrev pub packetOf : FiveNumbers → Key
 packetOf n = packet (n .ptype) (n .stype) (n .apid) (n .pi1) (n .pi2)
 
 pub record Examples : Type 0 where
-  pub named : fits (parameter (nameOf (ascii "T1"))) ≡ true
-  pub packeted : fits (packet 3 25 1 (2 ^ 32) 0) ≡ false
+  pub named : keyFits (parameter (nameOf (ascii "T1"))) ≡ true
+  pub packeted : keyFits (packet 3 25 1 (2 ^ 32) 0) ≡ false
 
 pub examples : Examples
-unfolding fits nameOf
+unfolding keyFits nameOf
 examples = record { named = refl; packeted = refl }

@@ -18,8 +18,8 @@ unfoldable pub numberFrom : ℕ → ℕ → List ℕ → ℕ
 numberFrom base before [] = before
 numberFrom base before (d ∷ ds) = numberFrom base (before * base + d) ds
 
-unfoldable pub number : ℕ → List ℕ → ℕ
-number base digits = numberFrom base 0 digits
+unfoldable pub digitsNumber : ℕ → List ℕ → ℕ
+digitsNumber base digits = numberFrom base 0 digits
 
 abbrev pub symbol : (space a b c : ℕ) → Symbol
 symbol space a b c = record { space = space; a = a; b = b; c = c }
@@ -30,7 +30,7 @@ noSymbol = symbol 0 0 0 0
 
 -- a name of eight bytes, and a number beside it
 unfoldable pub nameSymbol : ℕ → Name → ℕ → Symbol
-nameSymbol space n c = symbol space (number 256 (n .bytes)) (n .len) c
+nameSymbol space n c = symbol space (digitsNumber 256 (n .bytes)) (n .len) c
 
 -- two numbers below 2 ^ 32
 abbrev pub halves : ℕ → ℕ → ℕ
@@ -43,15 +43,15 @@ integerWord (negsuc n) = n * 2 + 1
 
 -- the last two of ten bytes
 abbrev pub lastTwo : CurveName → ℕ
-lastTwo n = number 256 (drop 8 (n .bytes))
+lastTwo n = digitsNumber 256 (drop 8 (n .bytes))
 
 -- a name of ten bytes: eight of them, the length, and the other two
 unfoldable pub curveSymbol : ℕ → CurveName → Symbol
-curveSymbol space n = symbol space (number 256 (take 8 (n .bytes))) (n .len) (lastTwo n)
+curveSymbol space n = symbol space (digitsNumber 256 (take 8 (n .bytes))) (n .len) (lastTwo n)
 
 -- the same with an integer beside it: the length and the last two bytes share a word, which has 48 bits for the length
 unfoldable pub valueSymbol : ℕ → CurveName → ℤ → Symbol
-valueSymbol space n x = symbol space (number 256 (take 8 (n .bytes))) (n .len % 2 ^ 48 * 65536 + lastTwo n) (integerWord x)
+valueSymbol space n x = symbol space (digitsNumber 256 (take 8 (n .bytes))) (n .len % 2 ^ 48 * 65536 + lastTwo n) (integerWord x)
 
 -- 01: "an empty APID is a key of its own"
 unfoldable pub apidWord : OptionalApid → ℕ
@@ -89,5 +89,5 @@ pub record Examples : Type 0 where
   pub anyApid : symbolOf (identification 3 25 Any) ≡ symbol 2 0x300000019 0 0
 
 pub examples : Examples
-unfolding symbolOf curveSymbol valueSymbol curveNameOf number numberFrom integerWord apidWord
+unfolding symbolOf curveSymbol valueSymbol curveNameOf digitsNumber numberFrom integerWord apidWord
 examples = record { atPoint = refl; ofCurve = refl; ofTexts = refl; oneApid = refl; anyApid = refl }

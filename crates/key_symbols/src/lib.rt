@@ -15,7 +15,7 @@ ghost use mathlib.Core.Path.{_≡_};
 ghost use mathlib.Core.Bool.{true, false};
 ghost use Rattle.verdicts.specs.Key.{packet, structure, identification, location, parameter, curve, point, texts, range, limits, check};
 ghost use Rattle.key_symbols.specs.Keyed.{noSymbol, symbolOf};
-ghost use Rattle.key_symbols.specs.Bounded.{fits, packetOf};
+ghost use Rattle.key_symbols.specs.Bounded.{keyFits, packetOf};
 
 // What identification goes by. 01: "The five numbers choose the pid row".
 pub struct FiveNumbers {
@@ -57,7 +57,7 @@ const CHECK: u64 = 10;
 
 // The key of a pid row: of a row PI1 is below 2 ^ 32.
 pub fn pid_key(ptype: u32, stype: u32, apid: u32, pi1: u32, pi2: u64) -> Symbol
-    ensures { λ r. ⌜ (r ≡ symbolOf (packet ptype stype apid pi1 pi2)) × (fits (packet ptype stype apid pi1 pi2) ≡ true) ⌝ }
+    ensures { λ r. ⌜ (r ≡ symbolOf (packet ptype stype apid pi1 pi2)) × (keyFits (packet ptype stype apid pi1 pi2) ≡ true) ⌝ }
 {
     Symbol {
         space: PACKET,
@@ -69,7 +69,7 @@ pub fn pid_key(ptype: u32, stype: u32, apid: u32, pi1: u32, pi2: u64) -> Symbol
 
 // The key that a packet asks for. Where PI1 is too large for any row there is no symbol.
 pub fn packet_key(n: FiveNumbers) -> PacketKey
-    ensures { λ r. ⌜ (r .fits ≡ fits (packetOf n)) × (r .fits ≡ true → r .key ≡ symbolOf (packetOf n)) × (r .fits ≡ false → r .key ≡ noSymbol) ⌝ }
+    ensures { λ r. ⌜ (r .fits ≡ keyFits (packetOf n)) × (r .fits ≡ true → r .key ≡ symbolOf (packetOf n)) × (r .fits ≡ false → r .key ≡ noSymbol) ⌝ }
 {
     if n.pi1 < 0x1_0000_0000 {
         let key = pid_key(n.ptype, n.stype, n.apid, n.pi1 as u32, n.pi2);
@@ -85,7 +85,7 @@ pub fn packet_key(n: FiveNumbers) -> PacketKey
 }
 
 pub fn structure_key(spid: Spid) -> Symbol
-    ensures { λ r. ⌜ (r ≡ symbolOf (structure (spid .0))) × (fits (structure (spid .0)) ≡ true) ⌝ }
+    ensures { λ r. ⌜ (r ≡ symbolOf (structure (spid .0))) × (keyFits (structure (spid .0)) ≡ true) ⌝ }
 {
     Symbol {
         space: STRUCTURE,
@@ -96,7 +96,7 @@ pub fn structure_key(spid: Spid) -> Symbol
 }
 
 pub fn identification_key(ptype: u32, stype: u32, apid: OptionalApid) -> Symbol
-    ensures { λ r. ⌜ (r ≡ symbolOf (identification ptype stype apid)) × (fits (identification ptype stype apid) ≡ true) ⌝ }
+    ensures { λ r. ⌜ (r ≡ symbolOf (identification ptype stype apid)) × (keyFits (identification ptype stype apid) ≡ true) ⌝ }
 {
     Symbol {
         space: IDENTIFICATION,
@@ -107,19 +107,19 @@ pub fn identification_key(ptype: u32, stype: u32, apid: OptionalApid) -> Symbol
 }
 
 pub fn location_key(name: Name, spid: Spid) -> Symbol
-    ensures { λ r. ⌜ (r ≡ symbolOf (location name (spid .0))) × (fits (location name (spid .0)) ≡ true) ⌝ }
+    ensures { λ r. ⌜ (r ≡ symbolOf (location name (spid .0))) × (keyFits (location name (spid .0)) ≡ true) ⌝ }
 {
     name_symbol(LOCATION, name, spid.0 as u64)
 }
 
 pub fn parameter_key(name: Name) -> Symbol
-    ensures { λ r. ⌜ (r ≡ symbolOf (parameter name)) × (fits (parameter name) ≡ true) ⌝ }
+    ensures { λ r. ⌜ (r ≡ symbolOf (parameter name)) × (keyFits (parameter name) ≡ true) ⌝ }
 {
     name_symbol(PARAMETER, name, 0)
 }
 
 pub fn curve_key(name: CurveName) -> Symbol
-    ensures { λ r. ⌜ (r ≡ symbolOf (curve name)) × (fits (curve name) ≡ true) ⌝ }
+    ensures { λ r. ⌜ (r ≡ symbolOf (curve name)) × (keyFits (curve name) ≡ true) ⌝ }
 {
     curve_symbol(CURVE, name)
 }
@@ -132,7 +132,7 @@ pub fn point_key(name: CurveName, x: i64) -> Symbol
 }
 
 pub fn texts_key(name: CurveName) -> Symbol
-    ensures { λ r. ⌜ (r ≡ symbolOf (texts name)) × (fits (texts name) ≡ true) ⌝ }
+    ensures { λ r. ⌜ (r ≡ symbolOf (texts name)) × (keyFits (texts name) ≡ true) ⌝ }
 {
     curve_symbol(TEXTS, name)
 }
@@ -145,13 +145,13 @@ pub fn range_key(name: CurveName, from: i64) -> Symbol
 }
 
 pub fn limits_key(name: Name) -> Symbol
-    ensures { λ r. ⌜ (r ≡ symbolOf (limits name)) × (fits (limits name) ≡ true) ⌝ }
+    ensures { λ r. ⌜ (r ≡ symbolOf (limits name)) × (keyFits (limits name) ≡ true) ⌝ }
 {
     name_symbol(LIMITS, name, 0)
 }
 
 pub fn check_key(name: Name, position: u32) -> Symbol
-    ensures { λ r. ⌜ (r ≡ symbolOf (check name position)) × (fits (check name position) ≡ true) ⌝ }
+    ensures { λ r. ⌜ (r ≡ symbolOf (check name position)) × (keyFits (check name position) ≡ true) ⌝ }
 {
     name_symbol(CHECK, name, position as u64)
 }

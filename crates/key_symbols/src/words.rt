@@ -7,7 +7,7 @@ ghost use mathlib.Core.Path.{_≡_};
 ghost use mathlib.Core.Bool.{true};
 ghost use Prim.Native.Nat.{_-_, _≤_, _<_, _^_};
 ghost use lib.ListN.{length, take, drop};
-ghost use Rattle.key_symbols.specs.Keyed.{number, nameSymbol, curveSymbol, valueSymbol, halves, integerWord, apidWord};
+ghost use Rattle.key_symbols.specs.Keyed.{digitsNumber, nameSymbol, curveSymbol, valueSymbol, halves, integerWord, apidWord};
 ghost use Rattle.key_symbols.specs.Bounded.{bytesFit};
 
 fn wide(b: u8) -> u64
@@ -19,7 +19,7 @@ fn wide(b: u8) -> u64
 // Up to eight bytes as one number, the first byte the highest.
 fn bytes_word(bytes: &[u8]) -> u64
     requires { ⌜ length (now bytes) ≤ 8 ⌝ }
-    ensures { λ r. ⌜ (r ≡ number 256 (now (bytes .entry))) × (r < 256 ^ length (now (bytes .entry))) ⌝ }
+    ensures { λ r. ⌜ (r ≡ digitsNumber 256 (now (bytes .entry))) × (r < 256 ^ length (now (bytes .entry))) ⌝ }
 {
     let mut n: u64 = 0;
     let mut i: usize = 0;
@@ -33,7 +33,7 @@ fn bytes_word(bytes: &[u8]) -> u64
 // The bytes from `from` to before `end`, at most eight, as one number.
 fn part_word(bytes: &[u8], from: usize, end: usize) -> u64
     requires { ⌜ (from ≤ end) × (end ≤ length (now bytes)) × (end - from ≤ 8) ⌝ }
-    ensures { λ r. ⌜ (r ≡ number 256 (take (end - from) (drop from (now (bytes .entry))))) × (r < 256 ^ (end - from)) ⌝ }
+    ensures { λ r. ⌜ (r ≡ digitsNumber 256 (take (end - from) (drop from (now (bytes .entry))))) × (r < 256 ^ (end - from)) ⌝ }
 {
     bytes_word(&bytes[from..end])
 }

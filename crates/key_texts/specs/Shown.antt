@@ -7,7 +7,7 @@ use lib.Dec.{eqb}
 use lib.ListN.{getD}
 use Rattle.lines.specs.Lines.{nextLine}
 use Rattle.lines.specs.Columns.{printable, partOf, divided, columnIn}
-use Rattle.kept.specs.Stored.{startColumn, tableColumn}
+use Rattle.kept.specs.Stored.{keptStartColumn, keptTableColumn}
 use Rattle.key_rows.specs.KeyRows.{inColumn}
 
 -- a byte from 0x20 to 0x7E as it is, and any other as a question mark, so that none reaches a terminal as a command
@@ -28,7 +28,7 @@ columnText table start k = cond (eqb k 0) [] (columnIn (lineIn table start) (div
 
 -- the text of column k of row i
 abbrev pub textOf : List (List ℕ) → (halves bytes : List ℕ) → (i k : ℕ) → List ℕ
-textOf texts halves bytes i k = columnText (getD texts (inColumn bytes tableColumn i) []) (inColumn halves startColumn i) k
+textOf texts halves bytes i k = columnText (getD texts (inColumn bytes keptTableColumn i) []) (inColumn halves keptStartColumn i) k
 
 -- the column in which a named key stands: 01 has ocf name by INTER, column 4, the row that NAME, column 1, names
 unfoldable pub keyColumn : (reason column : ℕ) → ℕ

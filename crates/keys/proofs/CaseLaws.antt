@@ -18,7 +18,7 @@ use Rattle.rows.specs.declared.letters.LimitValue.the-variants as LV
 use Rattle.symbols.specs.declared.Symbol.{Symbol}
 use Rattle.verdicts.specs.Key.{Key, packet, structure, parameter}
 use Rattle.verdicts.specs.Facts.{anyRow, whole, Kind, itself, Facts, Naming, plainly, factsOf, pidKeys, curtxKey, pcfFacts, ofEngineering}
-use Rattle.verdicts.specs.Entries.{readingOf, own, said, fine, bad}
+use Rattle.verdicts.specs.Entries.{readingOf, own, factsIn, fine, bad}
 use Rattle.key_symbols.specs.Keyed.{symbolOf}
 use Rattle.manners.specs.Manners.{mannerOf, manners, weight, sameManner, codeFrom, codeOf, marksOf}
 use Rattle.row_keys.specs.declared.records.RowKeys.{RowKeys}
@@ -95,7 +95,7 @@ member-said v k g = refl
 
 -- a row with one of reasons 1 to 8 is blanked
 blanked-at : (z : Bool) (v : ℕ) (f : Facts) → eqb v 0 ≡ z
-    → cond z (keysOf v f) (noKeys v) ≡ keysOf (own (cond z (fine f) (bad v))) (said (cond z (fine f) (bad v)))
+    → cond z (keysOf v f) (noKeys v) ≡ keysOf (own (cond z (fine f) (bad v))) (factsIn (cond z (fine f) (bad v)))
 unfolding keysOf slotOf namedOf countOf marksOf
 blanked-at true v f e = ap (λ (n : ℕ). keysOf n f) (eqb-true v 0 e)
 blanked-at false v f e = refl

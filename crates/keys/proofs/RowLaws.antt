@@ -23,7 +23,7 @@ use Rattle.rows.specs.declared.letters.Category.the-variants.{Numeric, Status, 
 use Rattle.verdicts.specs.Key.{packet, parameter, limits, check}
 use Rattle.verdicts.specs.Facts.{anyRow, whole, numeric, itself, through, Facts, pidKeys, curtxKey, factsOf}
 use Rattle.verdicts.specs.Facts.{pidFacts, picFacts, plfFacts, pcfFacts, cafFacts, capFacts, txfFacts, txpFacts, ocfFacts, ocpFacts}
-use Rattle.verdicts.specs.Entries.{readingOf, said, fine, bad}
+use Rattle.verdicts.specs.Entries.{readingOf, factsIn, fine, bad}
 use Rattle.key_symbols.specs.Keyed.{nameSymbol, curveSymbol, valueSymbol, symbolOf}
 use Rattle.keys.specs.Ranks.{ranks, rank}
 use Rattle.manners.specs.Manners.{secondColumn, secondCondition, manners, mannerAt, weight, sameManner, codeFrom, codeOf}
@@ -121,10 +121,10 @@ module _ (line : List ℕ) (h : (i : ℕ) → getD line i 0 < 256) where
       }
 
 -- well-formed or not
-said-fits : (z : Bool) (f : Facts) (v : ℕ) → Fits f → Fits (said (cond z (fine f) (bad v)))
+said-fits : (z : Bool) (f : Facts) (v : ℕ) → Fits f → Fits (factsIn (cond z (fine f) (bad v)))
 said-fits true f v h = h
 said-fits false f v h = record { keys = tt; names = tt; counts = tt; groups = tt }
 
-pub row-fits : (t : Table) (line : Line) → ((i : ℕ) → getD (line .bytes) i 0 < 256) → Fits (said (readingOf t line))
+pub row-fits : (t : Table) (line : Line) → ((i : ℕ) → getD (line .bytes) i 0 < 256) → Fits (factsIn (readingOf t line))
 unfolding readingOf
 row-fits t line h = said-fits (eqb (formed t line) 0) (factsOf t (line .bytes)) (formed t line) (facts-fit (line .bytes) h t)

@@ -11,7 +11,7 @@ use Rattle.lines.specs.Lines.{Line}
 use Rattle.schemas.specs.declared.Table.{Table}
 use Rattle.verdicts.specs.Key.{Key}
 use Rattle.verdicts.specs.Facts.{Naming, Count, Facts}
-use Rattle.verdicts.specs.Entries.{readingOf, own, said}
+use Rattle.verdicts.specs.Entries.{readingOf, own, factsIn}
 use Rattle.key_symbols.specs.Keyed.{symbolOf, spaceOf}
 use Rattle.row_keys.specs.Parts.{isNamed}
 use Rattle.keys.specs.Ranks.{parameters, rank}
@@ -166,6 +166,6 @@ unfolding rowKeysOf keysOf
 row-verdict t line = refl
 
 -- every row's symbols say its facts
-pub row-says : (t : Table) (line : Line) → ((i : ℕ) → getD (line .bytes) i 0 < 256) → Says (said (readingOf t line)) (rowKeysOf t line)
+pub row-says : (t : Table) (line : Line) → ((i : ℕ) → getD (line .bytes) i 0 < 256) → Says (factsIn (readingOf t line)) (rowKeysOf t line)
 unfolding rowKeysOf
-row-says t line h = fits-say (own (readingOf t line)) (said (readingOf t line)) (row-fits t line h)
+row-says t line h = fits-say (own (readingOf t line)) (factsIn (readingOf t line)) (row-fits t line h)

@@ -20,8 +20,8 @@ use Rattle.formed.specs.Formed.{orContradiction, formed}
 use Rattle.symbols.specs.declared.Symbol.{Symbol}
 use Rattle.verdicts.specs.Key.{Key}
 use Rattle.verdicts.specs.Facts.{Facts, Naming, Count, capFacts, factsOf}
-use Rattle.verdicts.specs.Entries.{readingOf, own, said}
-use Rattle.key_symbols.specs.Keyed.{number, numberFrom, symbol, noSymbol, curveSymbol, valueSymbol, integerWord, symbolOf}
+use Rattle.verdicts.specs.Entries.{readingOf, own, factsIn}
+use Rattle.key_symbols.specs.Keyed.{digitsNumber, numberFrom, symbol, noSymbol, curveSymbol, valueSymbol, integerWord, symbolOf}
 use Rattle.row_keys.specs.declared.records.Slot.{Slot}
 use Rattle.row_keys.specs.declared.records.Named.{Named}
 use Rattle.row_keys.specs.declared.records.Counting.{Counting}
@@ -65,7 +65,7 @@ columnKeys table line = keysOf (formed table line) (factsOf table (line .bytes))
 
 -- 01: "rows without 1–8 hold keys for reason 9": a row with one of reasons 1 to 8 holds, names and counts nothing
 unfoldable pub rowKeysOf : Table → Line → RowKeys
-rowKeysOf table line = keysOf (own (readingOf table line)) (said (readingOf table line))
+rowKeysOf table line = keysOf (own (readingOf table line)) (factsIn (readingOf table line))
 
 -- what is read of the line that starts at a place of a table: its keys, as its columns say them, and where the next line starts
 pub record ColumnsRead (table : Table) (bytes : List ℕ) (at : ℕ) (read : LineKeys) : Type 0 where
@@ -91,7 +91,7 @@ pub record Examples : Type 0 where
   pub unended : rowKeysOf Cap (lineOf row false) ≡ noKeys 256
 
 pub examples : Examples
-unfolding rowKeysOf keysOf slotOf namedOf countOf marksOf symbolOf curveSymbol valueSymbol number numberFrom integerWord
+unfolding rowKeysOf keysOf slotOf namedOf countOf marksOf symbolOf curveSymbol valueSymbol digitsNumber numberFrom integerWord
     codeOf codeFrom sameManner manners weight
     readingOf factsOf capFacts capRow curveNameOf integerOr integerFrom formed orContradiction contradiction shape schema cap foreignIn allowed printable
     column columnsOf columnsFrom firstReason columnReason kindReason numberReason numberOf meaning spelt after digitOn digitOf

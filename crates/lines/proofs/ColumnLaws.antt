@@ -4,7 +4,8 @@ use mathlib.Core.List.{List, [], _∷_, _++_, map, append-nil, append-assoc}
 use Prim.Native.Nat.{ℕ, zero, suc, _+_, _-_, _<_, _≤_}
 use native.Mathlib.Omega.{arith}
 use lib.Dec.{eqb}
-use lib.ListN.{length, getD, take, drop, set, replicate, drop-of-length-le, length-append, length-take, length-drop, getD-replicate, List·getD-map, List·getD-eq-default}
+use lib.ListN.{length, getD, take, drop, set, replicate, drop-of-length-le, length-append, length-take, length-drop, getD-replicate, List·getD-map}
+use lib.ListN.{List·getD-eq-default}
 use lib.Seq.{sets, take-all, take-nil, getD-take, append-snoc, take-append-seam, drop-append-seam}
 use borrow.Author.Tests.{eqb-true}
 use Rattle.laws.proofs.Cases.{cond-cases, cond-cases₂}

@@ -15,20 +15,20 @@ use Rattle.schemas.specs.declared.Table.{Table}
 use Rattle.formed.specs.Formed.{formed}
 use Rattle.verdicts.specs.Key.{Key, sameKey}
 use Rattle.verdicts.specs.Facts.{Facts, factsOf}
-use Rattle.verdicts.specs.Entries.{Entry, readingOf, own, said, facts, allRows, carriedAt}
+use Rattle.verdicts.specs.Entries.{Entry, readingOf, own, factsIn, facts, allRows, carriedAt}
 use Rattle.verdicts.specs.Verdicts.{shared, sound, verdict, verdicts}
 use Rattle.verdicts.specs.Places.{textAt, rowsBefore, place}
 use Rattle.verdicts.proofs.EntryLaws.{own-reading}
 use Rattle.verdicts.proofs.CellLaws.{cell-at}
 use Rattle.verdicts.proofs.GoodLaw.{good-law}
-use Rattle.meaning.specs.Kept.{noEntry, rowAt}
-use Rattle.kept.specs.FirstPass.{lineAt, Situated}
+use Rattle.meaning.specs.Kept.{noEntry, keptEntry}
+use Rattle.kept.specs.FirstPass.{tableLine, Situated}
 use Rattle.kept.proofs.SituationLaws.{line-below, row-again}
 use Rattle.database.specs.GoodRows.{isGood, tableOf}
 use Rattle.loading.proofs.RowLaws.{rowIn, row-there, line-there}
 
 -- a line with no reason of 1 to 8 says what its columns do
-said-fine : (table : Table) (line : Line) → own (readingOf table line) ≡ 0 → said (readingOf table line) ≡ factsOf table (line .bytes)
+said-fine : (table : Table) (line : Line) → own (readingOf table line) ≡ 0 → factsIn (readingOf table line) ≡ factsOf table (line .bytes)
 unfolding readingOf
 said-fine table line e = let z : formed table line ≡ 0 = sym (own-reading table line) ∙ e in rw (eq-eqb (formed table line) 0 z)
 
@@ -39,7 +39,7 @@ goodAt texts i = eqb (getD (verdicts texts) i 0) 0
 -- which is that of its entry
 module _ (texts : List (List ℕ)) (i : ℕ) (below : i < length (allRows texts)) (g : goodAt texts i ≡ true) where
   abbrev e : Entry
-  e = rowAt (allRows texts) i
+  e = keptEntry (allRows texts) i
 
   good-verdict : verdict (allRows texts) e ≡ 0
   unfolding verdicts
@@ -66,15 +66,15 @@ module _ {texts : List (List ℕ)} {t start i : ℕ} (w : Situated texts t start
       rw (row-there w) (ap (λ (v : ℕ). eqb v 0) (sym (rw z at c)))
 
   -- where its verdict is 0, its columns say what its entry does
-  pub said-same : goodAt texts i ≡ true → facts (rowAt (allRows texts) i) ≡ factsOf (tableOf (rowIn texts i)) (rowIn texts i .bytes)
+  pub said-same : goodAt texts i ≡ true → facts (keptEntry (allRows texts) i) ≡ factsOf (tableOf (rowIn texts i)) (rowIn texts i .bytes)
   said-same g =
       let a = row-again texts t start i w noEntry in
-      let o : own (readingOf (carriedAt t) (lineAt (textAt texts t) j)) ≡ 0 =
+      let o : own (readingOf (carriedAt t) (tableLine (textAt texts t) j)) ≡ 0 =
       ap (λ (e : Entry). own (e .reading)) (sym a) ∙ good-own texts i below g in
       ap (λ (e : Entry). facts e) a ∙ said-fine _ _ o ∙ rw (row-there w, ← line-there w)
 
   -- so that to be good and have a key is the same by the row and by its entry
   pub has-same : (k : Key) (part : Facts → List Key)
       → (isGood texts (rowIn texts i) && any (sameKey k) (part (factsOf (tableOf (rowIn texts i)) (rowIn texts i .bytes))))
-      ≡ (goodAt texts i && any (sameKey k) (part (facts (rowAt (allRows texts) i))))
+      ≡ (goodAt texts i && any (sameKey k) (part (facts (keptEntry (allRows texts) i))))
   has-same k part = rw good-is (bool-cases (goodAt texts i) (λ g. rw (said-same g)) (λ g. rw g))

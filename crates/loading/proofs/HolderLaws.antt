@@ -74,7 +74,7 @@ module _ {texts : List (List ℕ)} {words links : List ℕ} {count : ℕ} {halve
 
   -- row i is good and holds the key
   abbrev held : ℕ → Bool
-  held i = goodAt texts i && holds (meaning.rowAt (allRows texts) i) k
+  held i = goodAt texts i && holds (meaning.keptEntry (allRows texts) i) k
 
   hit-known : Known coding ls k → Hit held n found
   hit-known q =

@@ -16,7 +16,7 @@ use Rattle.symbols.proofs.FindLaws.{symbols-length, found-id}
 use Rattle.symbols.proofs.PlaceLaws.{id-below}
 use Rattle.verdicts.specs.Key.{Key}
 use Rattle.key_symbols.specs.Keyed.{symbolOf}
-use Rattle.key_symbols.specs.Bounded.{fits}
+use Rattle.key_symbols.specs.Bounded.{keyFits}
 use Rattle.key_symbols.proofs.FitLaws.{fits-bounded, bounded-fits}
 use Rattle.meaning.specs.Kept.{keyId, Known}
 use Rattle.judged.proofs.Held.{coding}
@@ -32,7 +32,7 @@ module _ {words links : List ℕ} {count : ℕ} (table : Table words links count
   -- a key has an id or not
   pub known-cases : {P : Type 0} → (Known coding ls k → P) → ((Known coding ls k → ⊥) → P) → P
   known-cases f g =
-      bool-cases (fits k)
+      bool-cases (keyFits k)
       (λ a. bool-cases (ltb id noId)
       (λ b. f (record { fits = fits-bounded k a; numbered = ltb-true id noId b }))
       (λ b. g (λ q. omega (arith, ltb-false id noId b, q .numbered))))
@@ -50,11 +50,11 @@ module _ {words links : List ℕ} {count : ℕ} (table : Table words links count
   pub keyed-none : (Known coding ls k → ⊥) → (columns : List ℕ) (column : ℕ) → keyedBy words links columns column k ≡ 0
   unfolding keyedBy keyed
   keyed-none n columns column =
-      cond-cases (λ (x : ℕ). x ≡ 0) (fits k)
+      cond-cases (λ (x : ℕ). x ≡ 0) (keyFits k)
       (λ a. rw (found-id words links count table (symbolOf k), le-ltb id mostSymbols (none a)))
       (λ _. refl)
     where
-      none : fits k ≡ true → mostSymbols ≤ id
+      none : keyFits k ≡ true → mostSymbols ≤ id
       none a =
           bool-cases (ltb id noId)
           (λ b. absurd (n (record { fits = fits-bounded k a; numbered = ltb-true id noId b })))

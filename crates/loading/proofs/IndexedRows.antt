@@ -38,10 +38,11 @@ module _ {texts : List (List ℕ)} {words links : List ℕ} {count : ℕ} {halve
   pub mark-at : getD (r .index .marks) i 0 ≡ flag (goodAt texts i)
   mark-at = r .index .marked i p ∙ ap (λ (v : ℕ). flag (eqb v 0)) (r .judged i p)
 
-  pub row-holds : (k : Key) → (isGood texts (rowIn texts i) && holdsKey k (rowIn texts i)) ≡ (goodAt texts i && holds (meaning.rowAt (allRows texts) i) k)
+  pub row-holds : (k : Key) → (isGood texts (rowIn texts i) && holdsKey k (rowIn texts i)) ≡ (goodAt texts i && holds (meaning.keptEntry (allRows texts) i) k)
   unfolding holdsKey holds
   row-holds k = has-same (r .situated i p) p k (λ f. f .keys)
 
-  pub row-belongs : (k : Key) → (isGood texts (rowIn texts i) && inGroup k (rowIn texts i)) ≡ (goodAt texts i && belongs (meaning.rowAt (allRows texts) i) k)
+  pub row-belongs : (k : Key) → (isGood texts (rowIn texts i) && inGroup k (rowIn texts i))
+      ≡ (goodAt texts i && belongs (meaning.keptEntry (allRows texts) i) k)
   unfolding inGroup belongs
   row-belongs k = has-same (r .situated i p) p k (λ f. f .groups)

@@ -18,7 +18,7 @@ use Rattle.verdicts.specs.Key.{Key, sameKey}
 use Rattle.verdicts.specs.Entries.{Entry, own, facts, allRows}
 use Rattle.verdicts.specs.Steps.{holds, belongs}
 use Rattle.verdicts.proofs.KeyLaws.{same-key-is}
-use Rattle.meaning.specs.Kept.{keyId, Known, AllKnown, more, noEntry, rowAt, Kept}
+use Rattle.meaning.specs.Kept.{keyId, Known, AllKnown, more, noEntry, keptEntry, Kept}
 use Rattle.meaning.proofs.TestLaws.{flag-is}
 use Rattle.meaning.proofs.KeyLaws.{belongs-id}
 use Rattle.meaning.proofs.ShareLaws as share
@@ -59,20 +59,20 @@ module _ (texts : List (List ℕ)) {words links : List ℕ} {count : ℕ} {halve
   abbrev formed : List ℕ
   formed = map (λ e. flag (eqb (own (e .reading)) 0)) (allRows texts)
 
-  formed-at : (i : ℕ) → i < length all → getD formed i 0 ≡ flag (eqb (own (rowAt all i .reading)) 0)
+  formed-at : (i : ℕ) → i < length all → getD formed i 0 ≡ flag (eqb (own (keptEntry all i .reading)) 0)
   formed-at i p = map-at (λ (e : Entry). flag (eqb (own (e .reading)) 0)) all i noEntry 0 p
 
   rows-kept : Kept coding ls all formed key1 key2 group
   rows-kept = kept all words links count halves bytes h formed formed-at
 
   module _ (k : Key) (n : Known coding ls k → ⊥) (i : ℕ) (p : i < length (allRows texts)) where
-    pub none-holds : holds (rowAt (allRows texts) i) k ≡ false
+    pub none-holds : holds (keptEntry (allRows texts) i) k ≡ false
     unfolding holds
-    none-holds = none-same ls k n (facts (rowAt all i) .keys) (rows-kept .row i p .known)
+    none-holds = none-same ls k n (facts (keptEntry all i) .keys) (rows-kept .row i p .known)
 
-    pub none-belongs : belongs (rowAt (allRows texts) i) k ≡ false
+    pub none-belongs : belongs (keptEntry (allRows texts) i) k ≡ false
     unfolding belongs
-    none-belongs = none-same ls k n (facts (rowAt all i) .groups) (rows-kept .row i p .grouped)
+    none-belongs = none-same ls k n (facts (keptEntry all i) .groups) (rows-kept .row i p .grouped)
 
   module _ (marks : List ℕ) (marked : (i : ℕ) → i < length (allRows texts) → getD marks i 0 ≡ flag (goodAt texts i)) (k : Key) (q : Known coding ls k)
       (i : ℕ) (p : i < length (allRows texts)) where
@@ -85,17 +85,17 @@ module _ (texts : List (List ℕ)) {words links : List ℕ} {count : ℕ} {halve
 
     -- a good row is well-formed
     formed-good : goodAt texts i ≡ true → eqb (getD formed i 0) 1 ≡ true
-    formed-good g = ap (λ (m : ℕ). eqb m 1) (formed-at i p) ∙ flag-is (eqb (own (rowAt all i .reading)) 0) ∙ eq-eqb _ 0 (good-own texts i p g)
+    formed-good g = ap (λ (m : ℕ). eqb m 1) (formed-at i p) ∙ flag-is (eqb (own (keptEntry all i .reading)) 0) ∙ eq-eqb _ 0 (good-own texts i p g)
 
-    pub good-holds : (goodAt texts i && holds (rowAt (allRows texts) i) k) ≡ (hasId marks key1 id i || hasId marks key2 id i)
+    pub good-holds : (goodAt texts i && holds (keptEntry (allRows texts) i) k) ≡ (hasId marks key1 id i || hasId marks key2 id i)
     unfolding hasId
     good-holds =
         bool-cases (goodAt texts i)
         (λ g. rw (mark-is, g) (rw (formed-good g) at (share.held coding ls all formed key1 key2 group rows-kept k q i p)))
         (λ g. rw (mark-is, g, and-false (eqb (getD key1 i 0) id), and-false (eqb (getD key2 i 0) id)))
 
-    pub good-belongs : (goodAt texts i && belongs (rowAt (allRows texts) i) k) ≡ hasId marks group id i
+    pub good-belongs : (goodAt texts i && belongs (keptEntry (allRows texts) i) k) ≡ hasId marks group id i
     unfolding hasId
     good-belongs =
-        let b = belongs-id coding ls k q formed key1 key2 group i (rowAt all i) (rows-kept .row i p) (rows-kept .tables .single i p) in
+        let b = belongs-id coding ls k q formed key1 key2 group i (keptEntry all i) (rows-kept .row i p) (rows-kept .tables .single i p) in
         rw (mark-is, b) (and-comm (goodAt texts i) _)

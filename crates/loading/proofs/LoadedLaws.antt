@@ -26,7 +26,7 @@ use Rattle.indexing.specs.Indexing.{goodMarks, IndexedBy}
 use Rattle.database.specs.Arrays.{allColumns, startColumn, database, answers}
 use Rattle.database.specs.GoodRows.{ofTables}
 use Rattle.loading.specs.Index.{Indexed}
-use Rattle.loading.specs.Loaded.{lent, hasRoom, IndexMade}
+use Rattle.loading.specs.Loaded.{lent, allLent, IndexMade}
 use Rattle.loading.proofs.NumberLaws.{number-is}
 use Rattle.loading.proofs.IndexLaws.{cells-hold, indexed-answers}
 
@@ -45,7 +45,7 @@ module _ (texts : List (List ℕ)) (s₀ s : Arrays) (rows count : ℕ) (k : Kee
 
   module _ (cells columns : List ℕ) (x : IndexedBy (s .halves) (s .bytes) cells columns rows) where
     abbrev tables : List ℕ
-    tables = columnOf (s .bytes) kept.tableColumn
+    tables = columnOf (s .bytes) kept.keptTableColumn
 
     put-at : (j : ℕ) → getD columns j 0 ≡ getD (indexColumns (s .halves) tables (x .holders) (x .firsts) (x .nexts) rows) j 0
     put-at j = ap (λ (xs : List ℕ). getD xs j 0) (x .put)
@@ -72,7 +72,7 @@ module _ (texts : List (List ℕ)) (s₀ s : Arrays) (rows count : ℕ) (k : Kee
               ∙ number-is texts (s .halves) (s .bytes) rows few (k .situated) i p;
           table = λ i p. put-at _
               ∙ table-at (s .halves) tables (x .holders) (x .firsts) (x .nexts) rows few room i p
-              ∙ column-at (s .bytes) kept.tableColumn i (omega (arith, few));
+              ∙ column-at (s .bytes) kept.keptTableColumn i (omega (arith, few));
           start = λ i p. put-at _
               ∙ start-at (s .halves) tables (x .holders) (x .firsts) (x .nexts) rows few room (startColumn + i) (omega arith);
         }
@@ -88,7 +88,7 @@ module _ (texts : List (List ℕ)) (s₀ s : Arrays) (rows count : ℕ) (k : Kee
 
 -- the array of bytes is loading's own
 pub no-room : (words links columns : List ℕ) → hasPlaces (arrays words links 0 columns (replicate allBytes 0)) ≡ false
-    → hasRoom (lent words links columns) ≡ false
+    → allLent (lent words links columns) ≡ false
 no-room words links columns e =
     let h : allBytes ≤ length (replicate {A = ℕ} allBytes 0) = omega (arith, length-replicate {A = ℕ} allBytes 0) in
     let t : leb allBytes (length (replicate {A = ℕ} allBytes 0)) ≡ true = le-leb allBytes (length (replicate {A = ℕ} allBytes 0)) h in

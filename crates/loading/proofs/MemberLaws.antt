@@ -25,11 +25,11 @@ use Rattle.verdicts.proofs.EntryLaws.{rows-before-next}
 use Rattle.verdicts.proofs.OwnerLaws.{tableIndex, groupTable}
 use Rattle.meaning.specs.Kept as meaning
 use Rattle.meaning.specs.Kept.{keyId, Known}
-use Rattle.kept.specs.Stored.{at, tableColumn, groupColumn}
+use Rattle.kept.specs.Stored.{at, keptTableColumn, groupColumn}
 use Rattle.judged.specs.Passes.{columnOf}
 use Rattle.judged.proofs.Held.{coding}
 use Rattle.database.specs.Rows.{Row}
-use Rattle.database.specs.Arrays.{mostMembers, firstColumn, nextColumn, rowAt, keyedBy, placesFrom}
+use Rattle.database.specs.Arrays.{mostMembers, firstColumn, nextColumn, rowAt, keyedBy, groupPlaces}
 use Rattle.database.specs.GoodRows.{rowsIn, isGood, goodRows, inGroup}
 use Rattle.loading.proofs.ListLaws.{keep-keep, map-all, all-few}
 use Rattle.loading.proofs.ChainLaws.{chain-takes, chain-none}
@@ -71,15 +71,15 @@ module _ {texts : List (List ℕ)} {words links : List ℕ} {count : ℕ} {halve
   abbrev member : ℕ → Bool
   member i = passes (rowIn texts i)
 
-  member-is : (i : ℕ) → i < n → member i ≡ (goodAt texts i && belongs (meaning.rowAt (allRows texts) i) k)
+  member-is : (i : ℕ) → i < n → member i ≡ (goodAt texts i && belongs (meaning.keptEntry (allRows texts) i) k)
   member-is i p = row-belongs r i p k
 
   -- all are of one table
-  in-table : (i : ℕ) → i < n → member i ≡ true → at bytes tableColumn i ≡ tableIndex (groupTable k)
+  in-table : (i : ℕ) → i < n → member i ≡ true → at bytes keptTableColumn i ≡ tableIndex (groupTable k)
   unfolding inGroup
   in-table i p e =
       let w = r .situated i p in
-      group-table (at bytes tableColumn i) (rowIn texts i .bytes) k (w .below)
+      group-table (at bytes keptTableColumn i) (rowIn texts i .bytes) k (w .below)
       (rw (ap (λ (row : Row). row .table) (row-there w)) at (and-right (isGood texts (rowIn texts i)) _ e))
 
   few-members : length (allFrom member 0 n) ≤ mostMembers
@@ -115,8 +115,8 @@ module _ {texts : List (List ℕ)} {words links : List ℕ} {count : ℕ} {halve
         ∙ ap (λ (x : ℕ). firstRow marks group (replicate mostSymbols 0) x (j + 1) n) s
         ∙ first-row mostSymbols marks group id (j + 1) n few
 
-    places-known : placesFrom columns first ≡ allFrom member 0 n
-    unfolding placesFrom
+    places-known : groupPlaces columns first ≡ allFrom member 0 n
+    unfolding groupPlaces
     places-known =
         let f : ℕ → Bool = hasId marks group id in
         let z : n - 0 ≡ n = omega arith in
@@ -129,8 +129,8 @@ module _ {texts : List (List ℕ)} {words links : List ℕ} {count : ℕ} {halve
         ∙ ap (take mostMembers) (sym s)
         ∙ take-all mostMembers (allFrom member 0 n) few-members
 
-  places-none : (Known coding ls k → ⊥) → placesFrom columns first ≡ allFrom member 0 n
-  unfolding placesFrom
+  places-none : (Known coding ls k → ⊥) → groupPlaces columns first ≡ allFrom member 0 n
+  unfolding groupPlaces
   places-none z =
       ap (chain (drop nextColumn columns) mostMembers) (keyed-none (r .held .stored .table) (r .held .stored .small) k z columns firstColumn)
       ∙ chain-none (drop nextColumn columns) mostMembers
@@ -139,11 +139,11 @@ module _ {texts : List (List ℕ)} {words links : List ℕ} {count : ℕ} {halve
       member-is i q ∙ ap (λ (t : Bool). goodAt texts i && t) (none-belongs texts (r .held) k z i q) ∙ and-false (goodAt texts i)))
 
   -- the places that are met from the group's first row on are those of its members
-  places-are : placesFrom columns first ≡ allFrom member 0 n
+  places-are : groupPlaces columns first ≡ allFrom member 0 n
   places-are = known-cases (r .held .stored .table) (r .held .stored .small) k places-known places-none
 
   -- THE LAW OF MEMBERS
-  pub members-are : map (rowAt texts columns) (placesFrom columns (keyedBy words links columns firstColumn k)) ≡ keep (inGroup k) (goodRows texts)
+  pub members-are : map (rowAt texts columns) (groupPlaces columns (keyedBy words links columns firstColumn k)) ≡ keep (inGroup k) (goodRows texts)
   unfolding goodRows
   members-are =
       ap (map (rowAt texts columns)) places-are

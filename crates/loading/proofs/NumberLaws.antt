@@ -10,11 +10,11 @@ use Rattle.laws.proofs.Cases.{bool-cases}
 use Rattle.arrays.specs.Room.{mostPlaces}
 use Rattle.verdicts.specs.Places.{rowsBefore}
 use Rattle.verdicts.proofs.EntryLaws.{rows-before-next}
-use Rattle.kept.specs.Stored.{at, tableColumn}
+use Rattle.kept.specs.Stored.{at, keptTableColumn}
 use Rattle.kept.specs.FirstPass.{Situations}
 use Rattle.judged.specs.Passes.{columnOf}
 use Rattle.judged.proofs.Held.{column-at}
-use Rattle.index_columns.specs.Columns.{following, numberOf}
+use Rattle.index_columns.specs.Columns.{following, rowNumberAt}
 
 module _ (texts : List (List ℕ)) where
   -- more tables have more rows
@@ -52,15 +52,15 @@ module _ (texts : List (List ℕ)) where
 
 module _ (texts : List (List ℕ)) (halves bytes : List ℕ) (n : ℕ) (few : n ≤ mostPlaces) (w : Situations texts halves bytes n) where
   abbrev tables : List ℕ
-  tables = columnOf bytes tableColumn
+  tables = columnOf bytes keptTableColumn
 
   abbrev tableAt : ℕ → ℕ
-  tableAt i = at bytes tableColumn i
+  tableAt i = at bytes keptTableColumn i
 
-  pub number-is : (i : ℕ) → i < n → numberOf tables i ≡ suc (i - rowsBefore texts (tableAt i))
-  unfolding numberOf
+  pub number-is : (i : ℕ) → i < n → rowNumberAt tables i ≡ suc (i - rowsBefore texts (tableAt i))
+  unfolding rowNumberAt
   number-is zero h = omega (arith, w 0 h .low)
   number-is (suc i) h =
       let p : i < n = omega arith in
-      rw (number-is i p, column-at bytes tableColumn i (omega arith), column-at bytes tableColumn (suc i) (omega arith))
+      rw (number-is i p, column-at bytes keptTableColumn i (omega arith), column-at bytes keptTableColumn (suc i) (omega arith))
       (next-is texts (tableAt i) (tableAt (suc i)) i (w i p .low) (w i p .high) (w (suc i) h .low) (w (suc i) h .high))

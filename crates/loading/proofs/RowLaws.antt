@@ -11,7 +11,7 @@ use Rattle.schemas.specs.declared.Table.{Table}
 use Rattle.verdicts.specs.Entries.{carried, allRows}
 use Rattle.verdicts.specs.Places.{textAt, noLine, rowsBefore}
 use Rattle.verdicts.proofs.EntryLaws.{length-rows}
-use Rattle.kept.specs.FirstPass.{lineAt, Situated}
+use Rattle.kept.specs.FirstPass.{tableLine, Situated}
 use Rattle.kept.proofs.SituationLaws.{line-below, start-below, line-again}
 use Rattle.database.specs.Rows.{Row}
 use Rattle.database.specs.GoodRows.{rowsOf, rowsFrom, rowsIn}
@@ -84,7 +84,7 @@ module _ {texts : List (List ℕ)} {t start i : ℕ} (w : Situated texts t start
   j = i - rowsBefore texts t
 
   -- its line is the one that starts there
-  pub line-there : lineAt (textAt texts t) j .bytes ≡ lineFrom (textAt texts t) start .bytes
+  pub line-there : tableLine (textAt texts t) j .bytes ≡ lineFrom (textAt texts t) start .bytes
   unfolding nextLine lineFrom
   line-there =
       let k : ℕ = lineLength (drop start (textAt texts t)) in

@@ -29,6 +29,6 @@ pub record Indexed (texts : List (List ℕ)) (halves bytes cells columns : List 
   pub holder : (id : ℕ) → id < mostSymbols → getD columns (holderColumn + id) 0 ≡ getD holders id 0
   pub first : (id : ℕ) → id < mostSymbols → getD columns (firstColumn + id) 0 ≡ getD firsts id 0
   pub next : (i : ℕ) → i < n → getD columns (nextColumn + i) 0 ≡ getD nexts i 0
-  pub number : (i : ℕ) → i < n → getD columns (numberColumn + i) 0 ≡ suc (i - rowsBefore texts (at bytes kept.tableColumn i))
-  pub table : (i : ℕ) → i < n → getD columns (tableColumn + i) 0 ≡ at bytes kept.tableColumn i
-  pub start : (i : ℕ) → i < n → getD columns (startColumn + i) 0 ≡ at halves kept.startColumn i
+  pub number : (i : ℕ) → i < n → getD columns (numberColumn + i) 0 ≡ suc (i - rowsBefore texts (at bytes kept.keptTableColumn i))
+  pub table : (i : ℕ) → i < n → getD columns (tableColumn + i) 0 ≡ at bytes kept.keptTableColumn i
+  pub start : (i : ℕ) → i < n → getD columns (startColumn + i) 0 ≡ at halves kept.keptStartColumn i

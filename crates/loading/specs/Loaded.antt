@@ -25,11 +25,11 @@ abbrev pub lent : (words links columns : List ℕ) → Lent
 lent words links columns = record { words = words; links = links; columns = columns }
 
 -- they have all their places
-abbrev pub hasRoom : Lent → Bool
-hasRoom l = leb allWords (length (l .words)) && (leb allLinks (length (l .links)) && leb allColumns (length (l .columns)))
+abbrev pub allLent : Lent → Bool
+allLent l = leb allWords (length (l .words)) && (leb allLinks (length (l .links)) && leb allColumns (length (l .columns)))
 
 -- none of them is there
-example : hasRoom (lent [] [] []) ≡ false
+example : allLent (lent [] [] []) ≡ false
 example = refl
 
 -- 01: "A refusal writes nothing". Once tables are loaded, the database answers what they do
@@ -37,7 +37,7 @@ unfoldable pub Loads : List (List ℕ) → Lent → Lent → Loading → Type 0
 Loads texts before after Done = (sizesOf texts ≡ fit) × (answers (database texts (after .words) (after .links) (after .columns)) ≡ ofTables texts)
 Loads texts before after (TooLong table) = (sizesOf texts ≡ refusedBy 1 (table .0)) × (after ≡ before)
 Loads texts before after (TooManyRows table) = (sizesOf texts ≡ refusedBy 2 (table .0)) × (after ≡ before)
-Loads texts before after NoRoom = (sizesOf texts ≡ fit) × (hasRoom before ≡ false) × (after ≡ before)
+Loads texts before after NoRoom = (sizesOf texts ≡ fit) × (allLent before ≡ false) × (after ≡ before)
 
 -- the rows that are kept are judged, and the good ones indexed
 pub record IndexMade (halves bytes columns : List ℕ) (n : ℕ) : Type 0 where

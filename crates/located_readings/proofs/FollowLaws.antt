@@ -28,7 +28,8 @@ unfolding agrees equals withValidity
 string-disagrees valid start bytes valpar = sym (and-false valid)
 
 -- a chain of at most as many rows as a table has is asked whole
-pub whole-chain : (values valpars : List ℤ) (last : Bool) (n : ℕ) → n ≤ mostRows → validAlong values valpars last 0 (min n mostRows) ≡ validAlong values valpars last 0 n
+pub whole-chain : (values valpars : List ℤ) (last : Bool) (n : ℕ) → n ≤ mostRows → validAlong values valpars last 0 (min n mostRows)
+    ≡ validAlong values valpars last 0 n
 whole-chain values valpars last n h = let e : min n mostRows ≡ n = omega arith in rw e
 
 -- the last row of a chain stands for the rows after it

@@ -24,17 +24,17 @@ use Rattle.verdicts.specs.Steps.{twin, holds}
 use Rattle.verdicts.specs.Verdicts.{shared}
 use Rattle.verdicts.proofs.KeyLaws.{same-key-is}
 use Rattle.verdicts.proofs.SoundLaws.{both-shared}
-use Rattle.meaning.specs.Kept.{Coding, keyId, Known, AllKnown, none, more, noEntry, rowAt, Rows, Kept, holderOf, ById}
+use Rattle.meaning.specs.Kept.{Coding, keyId, Known, AllKnown, none, more, noEntry, keptEntry, ToldApart, Kept, holderOf, ById}
 use Rattle.meaning.specs.Found.{Finds}
 use Rattle.meaning.proofs.ShareLaws.{held}
 
 -- a row that holds a key and shares none is the only one that does
-pub only-holder : (rows : List Entry) → Rows rows → (k : Key) (i j : ℕ) → i < length rows → j < length rows
-    → holds (rowAt rows i) k ≡ true → holds (rowAt rows j) k ≡ true → shared rows (rowAt rows j) ≡ false → j ≡ i
+pub only-holder : (rows : List Entry) → ToldApart rows → (k : Key) (i j : ℕ) → i < length rows → j < length rows
+    → holds (keptEntry rows i) k ≡ true → holds (keptEntry rows j) k ≡ true → shared rows (keptEntry rows j) ≡ false → j ≡ i
 only-holder rows t k i j p q a b s =
-    bool-cases (twin (rowAt rows j) (rowAt rows i))
+    bool-cases (twin (keptEntry rows j) (keptEntry rows i))
     (λ e. eqb-true j i (sym (t .places j i q p) ∙ e))
-    (λ e. absurd (false≢true (sym s ∙ both-shared rows (rowAt rows j) (rowAt rows i) k (at-mem rows i noEntry p) b a e)))
+    (λ e. absurd (false≢true (sym s ∙ both-shared rows (keptEntry rows j) (keptEntry rows i) k (at-mem rows i noEntry p) b a e)))
 
 module _ (c : Coding) (symbols : List Symbol) (rows : List Entry) (formed key1 key2 group : List ℕ) (kept : Kept c symbols rows formed key1 key2 group) where
   abbrev n : ℕ
@@ -47,10 +47,10 @@ module _ (c : Coding) (symbols : List Symbol) (rows : List Entry) (formed key1 k
     abbrev found : ℕ
     found = holderOf formed key1 key2 n id
 
-    holder : (j : ℕ) → j < n → holds (rowAt rows j) k ≡ (hasId formed key1 id j || hasId formed key2 id j)
+    holder : (j : ℕ) → j < n → holds (keptEntry rows j) k ≡ (hasId formed key1 id j || hasId formed key2 id j)
     holder = held c symbols rows formed key1 key2 group kept k h
 
-    found-none : found ≡ 0 → (j : ℕ) → j < n → holds (rowAt rows j) k ≡ false
+    found-none : found ≡ 0 → (j : ℕ) → j < n → holds (keptEntry rows j) k ≡ false
     unfolding holderOf
     found-none e j p =
         let s = or-else-zero (lastWith (hasId formed key2 id) n) (lastWith (hasId formed key1 id) n) e in
@@ -60,11 +60,12 @@ module _ (c : Coding) (symbols : List Symbol) (rows : List Entry) (formed key1 k
               (omega (arith, s .0)) p,
         )
 
-    found-is : (j : ℕ) → found ≡ j + 1 → (j < n) × (holds (rowAt rows j) k ≡ true)
+    found-is : (j : ℕ) → found ≡ j + 1 → (j < n) × (holds (keptEntry rows j) k ≡ true)
     unfolding holderOf
     found-is j e = go (lastWith (hasId formed key2 id) n) refl e
       where
-        go : (a : ℕ) → lastWith (hasId formed key2 id) n ≡ a → orElse a (lastWith (hasId formed key1 id) n) ≡ j + 1 → (j < n) × (holds (rowAt rows j) k ≡ true)
+        go : (a : ℕ) → lastWith (hasId formed key2 id) n ≡ a → orElse a (lastWith (hasId formed key1 id) n) ≡ j + 1 → (j < n)
+            × (holds (keptEntry rows j) k ≡ true)
         go zero p r =
             let w = last-tells (hasId formed key1 id) n in
             let s : j < n = omega (arith, w .within) in
@@ -74,7 +75,7 @@ module _ (c : Coding) (symbols : List Symbol) (rows : List Entry) (formed key1 k
             let s : j < n = omega (arith, w .within) in
             (s, holder j s ∙ or-right (hasId formed key1 id j) (w .hit j (p ∙ r)))
 
-    found-only : (j : ℕ) → j < n → holds (rowAt rows j) k ≡ true → shared rows (rowAt rows j) ≡ false → found ≡ j + 1
+    found-only : (j : ℕ) → j < n → holds (keptEntry rows j) k ≡ true → shared rows (keptEntry rows j) ≡ false → found ≡ j + 1
     found-only j p e s = go found refl
       where
         go : (m : ℕ) → found ≡ m → found ≡ j + 1
@@ -92,12 +93,12 @@ module _ (c : Coding) (symbols : List Symbol) (rows : List Entry) (formed key1 k
   known-of (l ∷ ls) (more g w) (List·Memᴰ·head e) = subst (Known c symbols) (sym e) g
   known-of (l ∷ ls) (more g w) (List·Memᴰ·tail m) = known-of ls w m
 
-  nobody : (k : Key) → noId ≤ keyId c symbols k → (j : ℕ) → j < n → holds (rowAt rows j) k ≡ false
+  nobody : (k : Key) → noId ≤ keyId c symbols k → (j : ℕ) → j < n → holds (keptEntry rows j) k ≡ false
   unfolding holds
   nobody k h j p =
-      false-of (any (sameKey k) (facts (rowAt rows j) .keys))
-      (λ e. let w = any-witness (sameKey k) (facts (rowAt rows j) .keys) e in
-      let g = known-of (facts (rowAt rows j) .keys) (kept .row j p .known) (w .1) in
+      false-of (any (sameKey k) (facts (keptEntry rows j) .keys))
+      (λ e. let w = any-witness (sameKey k) (facts (keptEntry rows j) .keys) e in
+      let g = known-of (facts (keptEntry rows j) .keys) (kept .row j p .known) (w .1) in
       let q : keyId c symbols k ≡ keyId c symbols (w .0) = ap (keyId c symbols) (same-key-is k (w .0) (w .2)) in
       omega (arith, g .numbered))
 

@@ -16,10 +16,11 @@ use Rattle.symbols.proofs.SameLaws.{same-is, same-self}
 use Rattle.symbols.proofs.PlaceLaws.{ids-tell}
 use Rattle.passes.specs.Marked.{hasId}
 use Rattle.verdicts.specs.Key.{Key, sameKey}
-use Rattle.verdicts.specs.Entries.{Entry, Reading, bad, fine, own, said, facts}
+use Rattle.verdicts.specs.Entries.{Entry, RowReading, bad, fine, own, factsIn, facts}
 use Rattle.verdicts.specs.Steps.{holds, belongs}
 use Rattle.verdicts.proofs.KeyLaws.{same-key-is, same-key-self}
-use Rattle.meaning.specs.Kept.{Coding, keyId, Known, firstId, AllKnown, none, more, Apart, zero-keys, one-key, two-keys, AtMostOne, no-group, one-group, KeptRow}
+use Rattle.meaning.specs.Kept.{Coding, keyId, Known, firstId, AllKnown, none, more, AtMostTwo, zero-keys, one-key, two-keys, AtMostOne, no-group}
+use Rattle.meaning.specs.Kept.{one-group, KeptRow}
 use Rattle.meaning.proofs.TestLaws.{same-test}
 
 -- k is the first of these keys
@@ -28,12 +29,12 @@ firstIs k [] = false
 firstIs k (l ∷ ls) = sameKey k l
 
 module _ (k : Key) where
-  one-of-two : (ks : List Key) → Apart ks → any (sameKey k) ks ≡ (firstIs k ks || firstIs k (drop 1 ks))
+  one-of-two : (ks : List Key) → AtMostTwo ks → any (sameKey k) ks ≡ (firstIs k ks || firstIs k (drop 1 ks))
   one-of-two [] zero-keys = refl
   one-of-two (l ∷ []) one-key = refl
   one-of-two (l ∷ m ∷ []) (two-keys z) = ap (λ (t : Bool). sameKey k l || t) (or-false (sameKey k m))
 
-  not-both : (ks : List Key) → Apart ks → (firstIs k ks && firstIs k (drop 1 ks)) ≡ false
+  not-both : (ks : List Key) → AtMostTwo ks → (firstIs k ks && firstIs k (drop 1 ks)) ≡ false
   not-both [] zero-keys = refl
   not-both (l ∷ []) one-key = and-false (sameKey k l)
   not-both (l ∷ m ∷ []) (two-keys z) =
@@ -47,11 +48,11 @@ module _ (k : Key) where
   the-one (l ∷ []) one-group = or-false (sameKey k l)
 
 -- a row that isn't well-formed says nothing
-keyed : (k : Key) (r : Reading) → firstIs k (said r .keys) ≡ true → own r ≡ 0
+keyed : (k : Key) (r : RowReading) → firstIs k (factsIn r .keys) ≡ true → own r ≡ 0
 keyed k (bad v) q = absurd (false≢true q)
 keyed k (fine f) q = refl
 
-keyed₂ : (k : Key) (r : Reading) → firstIs k (drop 1 (said r .keys)) ≡ true → own r ≡ 0
+keyed₂ : (k : Key) (r : RowReading) → firstIs k (drop 1 (factsIn r .keys)) ≡ true → own r ≡ 0
 keyed₂ k (bad v) q = absurd (false≢true q)
 keyed₂ k (fine f) q = refl
 
@@ -98,12 +99,12 @@ module _ (c : Coding) (symbols : List Symbol) (k : Key) (h : Known c symbols k) 
         (marked (getD formed i 0) (own (e .reading)) (firstIs k (drop 1 (facts e .keys))) (w .formed) (keyed₂ k (e .reading)))
 
     -- THE LAW OF HOLDING: a row holds a key just where it has its id
-    pub holds-id : Apart (facts e .keys) → holds e k ≡ (hasId formed key1 id i || hasId formed key2 id i)
+    pub holds-id : AtMostTwo (facts e .keys) → holds e k ≡ (hasId formed key1 id i || hasId formed key2 id i)
     unfolding holds
     holds-id a = one-of-two k (facts e .keys) a ∙ ap₂ _||_ (sym first-has) (sym second-has)
 
     -- once
-    pub holds-once : Apart (facts e .keys) → (hasId formed key1 id i && hasId formed key2 id i) ≡ false
+    pub holds-once : AtMostTwo (facts e .keys) → (hasId formed key1 id i && hasId formed key2 id i) ≡ false
     holds-once a = ap₂ _&&_ first-has second-has ∙ not-both k (facts e .keys) a
 
     pub belongs-id : AtMostOne (facts e .groups) → belongs e k ≡ eqb (getD group i 0) id

@@ -18,7 +18,7 @@ use Rattle.passes.proofs.HolderLaws.{stored}
 use Rattle.verdicts.specs.Key.{Key}
 use Rattle.verdicts.specs.Entries.{Entry}
 use Rattle.verdicts.specs.Verdicts.{sound, tally}
-use Rattle.meaning.specs.Kept.{Coding, keyId, Known, rowAt, Kept, holdersOf, holderOf, ById}
+use Rattle.meaning.specs.Kept.{Coding, keyId, Known, keptEntry, Kept, holdersOf, holderOf, ById}
 use Rattle.meaning.specs.Judging.{Judged}
 use Rattle.meaning.proofs.ShareLaws.{sound-law}
 use Rattle.meaning.proofs.TallyLaws.{tally-law}
@@ -87,7 +87,7 @@ module _ (c : Coding) (symbols : List Symbol) (rows : List Entry) (formed key1 k
             (holder-by symbols formed key1 key2 n few r₀ r₁ rowsOf rz ra rb);
       }
     where
-      sounds-at : (i : ℕ) → i < n → getD sounds i 0 ≡ flag (sound rows (rowAt rows i))
+      sounds-at : (i : ℕ) → i < n → getD sounds i 0 ≡ flag (sound rows (keptEntry rows i))
       sounds-at i p =
           stored (soundAt formed key1 key2 holders) s₀ sounds n f i p (omega arith)
           ∙ sound-law c symbols rows formed key1 key2 group kept holders (holders-by symbols formed key1 key2 n few h₀ h₁ holders hz ha hb) i p

@@ -22,11 +22,11 @@ use Rattle.rows.specs.declared.letters.Valid.{Valid}
 use Rattle.rows.specs.declared.letters.Valid.the-variants.{Yes, No}
 use Rattle.verdicts.specs.Key.{keyWords, sameKey}
 use Rattle.verdicts.specs.Facts.{Facts, pidKeys, pidFacts, picFacts, plfFacts, pcfFacts, cafFacts, capFacts, txfFacts, txpFacts, ocfFacts, ocpFacts, factsOf}
-use Rattle.verdicts.specs.Entries.{Entry, bad, fine, readingOf, said, facts, entry, entriesOf, entriesFrom, allRows}
+use Rattle.verdicts.specs.Entries.{Entry, bad, fine, readingOf, factsIn, facts, entry, entriesOf, entriesFrom, allRows}
 use Rattle.verdicts.specs.Steps.{twin}
 use Rattle.verdicts.specs.Places.{entryAt}
 use Rattle.verdicts.proofs.EntryLaws.{length-entries, row-of}
-use Rattle.meaning.specs.Kept.{Apart, zero-keys, one-key, two-keys, AtMostOne, no-group, one-group, noEntry, rowAt, Rows}
+use Rattle.meaning.specs.Kept.{AtMostTwo, zero-keys, one-key, two-keys, AtMostOne, no-group, one-group, noEntry, keptEntry, ToldApart}
 
 -- ---- rows by their tables and numbers
 
@@ -107,12 +107,12 @@ twin-self e = rw (eq-eqb (e .table) (e .table) refl, eq-eqb (e .row) (e .row) re
 
 -- ---- what a row holds
 
-pid-apart : (v : Valid) (r : PidRow) → Apart (pidKeys v r)
+pid-apart : (v : Valid) (r : PidRow) → AtMostTwo (pidKeys v r)
 unfolding pidKeys sameKey keyWords sameBytes
 pid-apart Yes r = two-keys refl
 pid-apart No r = zero-keys
 
-keys-apart : (t : Table) (line : List ℕ) → Apart (factsOf t line .keys)
+keys-apart : (t : Table) (line : List ℕ) → AtMostTwo (factsOf t line .keys)
 unfolding factsOf pidFacts picFacts plfFacts pcfFacts cafFacts capFacts txfFacts txpFacts ocfFacts ocpFacts
 keys-apart Pid line = pid-apart (pidRow line .valid) (pidRow line)
 keys-apart Pic line = one-key
@@ -139,14 +139,14 @@ groups-single Ocf line = no-group
 groups-single Ocp line = one-group
 
 -- a row that isn't well-formed says nothing
-formed-part : {A : Type 0} (P : List A → Type 0) (part : Facts → List A) (fs : Facts) (v : ℕ) (z : Bool) → P (part fs) → P (part (said (bad v))) → P
-    (part (said (cond z (fine fs) (bad v))))
+formed-part : {A : Type 0} (P : List A → Type 0) (part : Facts → List A) (fs : Facts) (v : ℕ) (z : Bool) → P (part fs) → P (part (factsIn (bad v))) → P
+    (part (factsIn (cond z (fine fs) (bad v))))
 formed-part P part fs v true a b = a
 formed-part P part fs v false a b = b
 
-entry-apart : (t : Table) (u r : ℕ) (line : Line) → Apart (facts (entry t u r line) .keys)
+entry-apart : (t : Table) (u r : ℕ) (line : Line) → AtMostTwo (facts (entry t u r line) .keys)
 unfolding readingOf
-entry-apart t u r line = formed-part Apart (λ f. f .keys) (factsOf t (line .bytes)) (formed t line) (eqb (formed t line) 0)
+entry-apart t u r line = formed-part AtMostTwo (λ f. f .keys) (factsOf t (line .bytes)) (formed t line) (eqb (formed t line) 0)
     (keys-apart t (line .bytes)) zero-keys
 
 entry-single : (t : Table) (u r : ℕ) (line : Line) → AtMostOne (facts (entry t u r line) .groups)
@@ -158,24 +158,24 @@ module _ (texts : List (List ℕ)) where
   abbrev rows : List Entry
   rows = allRows texts
 
-  row-is : (i : ℕ) → i < length rows → rowAt rows i ≡ entryAt texts (rowAt rows i .table) (rowAt rows i .row)
-  row-is i p = row-of texts (rowAt rows i) (at-mem rows i noEntry p) .1
+  row-is : (i : ℕ) → i < length rows → keptEntry rows i ≡ entryAt texts (keptEntry rows i .table) (keptEntry rows i .row)
+  row-is i p = row-of texts (keptEntry rows i) (at-mem rows i noEntry p) .1
 
-  places : (i j : ℕ) → i < length rows → j < length rows → Dec (i ≡ j) → twin (rowAt rows i) (rowAt rows j) ≡ eqb i j
+  places : (i j : ℕ) → i < length rows → j < length rows → Dec (i ≡ j) → twin (keptEntry rows i) (keptEntry rows j) ≡ eqb i j
   unfolding allRows
-  places i j p q (yes e) = rw (e, eq-eqb j j refl) (twin-self (rowAt rows j))
+  places i j p q (yes e) = rw (e, eq-eqb j j refl) (twin-self (keptEntry rows j))
   places i j p q (no z) =
       bool-cases (ltb i j)
-      (λ b. differ-twin (rowAt rows i) (rowAt rows j) (from-apart 0 _ texts noEntry i j (ltb-true i j b) q) ∙ sym (ne-eqb i j z))
+      (λ b. differ-twin (keptEntry rows i) (keptEntry rows j) (from-apart 0 _ texts noEntry i j (ltb-true i j b) q) ∙ sym (ne-eqb i j z))
       (λ b. let h = ltb-false i j b in
-      differ-twin (rowAt rows i) (rowAt rows j) (λ s r. from-apart 0 _ texts noEntry j i (omega (arith, z)) p (sym s) (sym r)) ∙ sym (ne-eqb i j z))
+      differ-twin (keptEntry rows i) (keptEntry rows j) (λ s r. from-apart 0 _ texts noEntry j i (omega (arith, z)) p (sym s) (sym r)) ∙ sym (ne-eqb i j z))
 
   -- the rows of any tables are such rows
-  pub table-rows : Rows rows
+  pub table-rows : ToldApart rows
   unfolding entryAt
   table-rows =
       record {
         places = λ i j p q. places i j p q (ℕ-discrete i j);
-        apart = λ i p. subst (λ (e : Entry). Apart (facts e .keys)) (sym (row-is i p)) (entry-apart _ 0 0 _);
+        apart = λ i p. subst (λ (e : Entry). AtMostTwo (facts e .keys)) (sym (row-is i p)) (entry-apart _ 0 0 _);
         single = λ i p. subst (λ (e : Entry). AtMostOne (facts e .groups)) (sym (row-is i p)) (entry-single _ 0 0 _);
       }

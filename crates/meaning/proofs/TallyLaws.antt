@@ -18,7 +18,7 @@ use Rattle.verdicts.specs.Key.{Key}
 use Rattle.verdicts.specs.Entries.{Entry}
 use Rattle.verdicts.specs.Steps.{belongs}
 use Rattle.verdicts.specs.Verdicts.{sound, tally}
-use Rattle.meaning.specs.Kept.{Coding, keyId, Known, noEntry, rowAt, Kept}
+use Rattle.meaning.specs.Kept.{Coding, keyId, Known, noEntry, keptEntry, Kept}
 use Rattle.meaning.proofs.TestLaws.{flag-is}
 use Rattle.meaning.proofs.KeyLaws.{belongs-id}
 
@@ -31,28 +31,28 @@ module _ (c : Coding) (symbols : List Symbol) (rows : List Entry) (formed key1 k
   id = keyId c symbols g
 
   -- marks of the rows that pass a test
-  module _ (test : Entry → Bool) (marks : List ℕ) (is : (i : ℕ) → i < n → getD marks i 0 ≡ flag (test (rowAt rows i))) where
-    member : (i : ℕ) → i < n → (belongs (rowAt rows i) g && test (rowAt rows i)) ≡ hasId marks group id i
+  module _ (test : Entry → Bool) (marks : List ℕ) (is : (i : ℕ) → i < n → getD marks i 0 ≡ flag (test (keptEntry rows i))) where
+    member : (i : ℕ) → i < n → (belongs (keptEntry rows i) g && test (keptEntry rows i)) ≡ hasId marks group id i
     unfolding hasId
     member i p =
         ap₂ _&&_
-        (belongs-id c symbols g h formed key1 key2 group i (rowAt rows i) (kept .row i p) (kept .tables .single i p))
-        (sym (ap (λ (z : ℕ). eqb z 1) (is i p) ∙ flag-is (test (rowAt rows i))))
+        (belongs-id c symbols g h formed key1 key2 group i (keptEntry rows i) (kept .row i p) (kept .tables .single i p))
+        (sym (ap (λ (z : ℕ). eqb z 1) (is i p) ∙ flag-is (test (keptEntry rows i))))
 
     -- THE LAW OF GROUPS: the rows of a group that pass are those that the links of its id meet, in their order
     pub members-law : (firsts₀ nexts₀ firsts nexts : List ℕ) → Chained marks group firsts₀ nexts₀ firsts nexts 0 n → n ≤ length nexts₀ → id < length firsts₀
         → getD firsts₀ id 0 ≡ 0
-        → keep (λ o. belongs o g && test o) rows ≡ map (rowAt rows) (chain nexts n (getD firsts id 0))
+        → keep (λ o. belongs o g && test o) rows ≡ map (keptEntry rows) (chain nexts n (getD firsts id 0))
     members-law firsts₀ nexts₀ firsts nexts w room b z =
         keep-all noEntry (λ o. belongs o g && test o) rows
-        ∙ ap (map (rowAt rows))
-        (all-same (λ i. belongs (rowAt rows i) g && test (rowAt rows i)) (hasId marks group id) 0 n (λ i p q. member i (omega arith))
+        ∙ ap (map (keptEntry rows))
+        (all-same (λ i. belongs (keptEntry rows i) g && test (keptEntry rows i)) (hasId marks group id) 0 n (λ i p q. member i (omega arith))
         ∙ sym (group-rows marks group firsts₀ nexts₀ n firsts nexts w room id b z))
 
   -- THE LAW OF REASON 10: a group has as many sound rows as a counter of their groups says
-  pub tally-law : (sounds : List ℕ) → ((i : ℕ) → i < n → getD sounds i 0 ≡ flag (sound rows (rowAt rows i))) → tally rows g ≡ countWith
+  pub tally-law : (sounds : List ℕ) → ((i : ℕ) → i < n → getD sounds i 0 ≡ flag (sound rows (keptEntry rows i))) → tally rows g ≡ countWith
       (hasId sounds group id) n
   unfolding tally
   tally-law sounds is =
       keep-places noEntry (λ o. belongs o g && sound rows o) rows
-      ∙ count-same (λ i. belongs (rowAt rows i) g && sound rows (rowAt rows i)) (hasId sounds group id) n (member (sound rows) sounds is)
+      ∙ count-same (λ i. belongs (keptEntry rows i) g && sound rows (keptEntry rows i)) (hasId sounds group id) n (member (sound rows) sounds is)

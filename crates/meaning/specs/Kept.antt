@@ -38,10 +38,10 @@ pub data AllKnown (c : Coding) (symbols : List Symbol) : List Key → Type 0 whe
   more : {k : Key} {ks : List Key} → Known c symbols k → AllKnown c symbols ks → AllKnown c symbols (k ∷ ks)
 
 -- what a row may hold: at most two keys, which differ
-pub data Apart : List Key → Type 0 where
-  zero-keys : Apart []
-  one-key : {k : Key} → Apart (k ∷ [])
-  two-keys : {k l : Key} → sameKey k l ≡ false → Apart (k ∷ l ∷ [])
+pub data AtMostTwo : List Key → Type 0 where
+  zero-keys : AtMostTwo []
+  one-key : {k : Key} → AtMostTwo (k ∷ [])
+  two-keys : {k l : Key} → sameKey k l ≡ false → AtMostTwo (k ∷ l ∷ [])
 
 -- and the groups that it is counted in: at most one
 pub data AtMostOne : List Key → Type 0 where
@@ -52,8 +52,8 @@ pub data AtMostOne : List Key → Type 0 where
 abbrev pub noEntry : Entry
 noEntry = record { table = 0; row = 0; reading = bad 1 }
 
-abbrev pub rowAt : List Entry → ℕ → Entry
-rowAt rows i = getD rows i noEntry
+abbrev pub keptEntry : List Entry → ℕ → Entry
+keptEntry rows i = getD rows i noEntry
 
 -- a row by whether it is well-formed, its two keys and its group
 pub record KeptRow (c : Coding) (symbols : List Symbol) (e : Entry) (f k₁ k₂ g : ℕ) : Type 0 where
@@ -65,15 +65,15 @@ pub record KeptRow (c : Coding) (symbols : List Symbol) (e : Entry) (f k₁ k₂
   pub grouped : AllKnown c symbols (facts e .groups)
 
 -- rows that can be told apart, each with at most two keys and one group
-pub record Rows (rows : List Entry) : Type 0 where
-  pub places : (i j : ℕ) → i < length rows → j < length rows → twin (rowAt rows i) (rowAt rows j) ≡ eqb i j
-  pub apart : (i : ℕ) → i < length rows → Apart (facts (rowAt rows i) .keys)
-  pub single : (i : ℕ) → i < length rows → AtMostOne (facts (rowAt rows i) .groups)
+pub record ToldApart (rows : List Entry) : Type 0 where
+  pub places : (i j : ℕ) → i < length rows → j < length rows → twin (keptEntry rows i) (keptEntry rows j) ≡ eqb i j
+  pub apart : (i : ℕ) → i < length rows → AtMostTwo (facts (keptEntry rows i) .keys)
+  pub single : (i : ℕ) → i < length rows → AtMostOne (facts (keptEntry rows i) .groups)
 
 -- the arrays keep the rows
 pub record Kept (c : Coding) (symbols : List Symbol) (rows : List Entry) (formed key1 key2 group : List ℕ) : Type 0 where
-  pub tables : Rows rows
-  pub row : (i : ℕ) → i < length rows → KeptRow c symbols (rowAt rows i) (getD formed i 0) (getD key1 i 0) (getD key2 i 0) (getD group i 0)
+  pub tables : ToldApart rows
+  pub row : (i : ℕ) → i < length rows → KeptRow c symbols (keptEntry rows i) (getD formed i 0) (getD key1 i 0) (getD key2 i 0) (getD group i 0)
 
 -- how many of the first n rows hold the key with this id, as two passes count
 unfoldable pub holdersOf : (formed key1 key2 : List ℕ) → (n id : ℕ) → ℕ

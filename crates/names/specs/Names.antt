@@ -7,7 +7,7 @@ use lib.Dec.{eqb}
 use lib.ListN.{getD}
 use Rattle.laws.specs.Lists.{orElse}
 use Rattle.laws.specs.Prefix.{flag}
-use Rattle.schemas.specs.Reasons.{verdict}
+use Rattle.schemas.specs.Reasons.{reasonAt}
 use Rattle.manners.specs.Manners.{manners, mannerAt, weight, kindWeight, metBy}
 use Rattle.chains.specs.Chains.{noRow}
 
@@ -21,7 +21,7 @@ metAt kinds good code found = eqb code 0 || (askedAt kinds code found && eqb (ge
 
 -- 0, or reason 11 at its column
 unfoldable pub nameAt : (kinds good : List ℕ) → (code found : ℕ) → ℕ
-nameAt kinds good code found = cond (metAt kinds good code found) 0 (verdict 11 (mannerAt code .column))
+nameAt kinds good code found = cond (metAt kinds good code found) 0 (reasonAt 11 (mannerAt code .column))
 
 -- the verdict of a row, by what stands before its names and by its two namings
 unfoldable pub finalOf : (kinds good : List ℕ) → (base code1 found1 code2 found2 : ℕ) → ℕ

@@ -8,7 +8,8 @@ use lib.IntN.{ℤ, pos, negsuc, negℤ}
 use lib.ListN.{length, getD, drop}
 use Rattle.laws.proofs.Lists.{split}
 use Rattle.laws.specs.Text.{ascii}
-use Rattle.numbers.specs.Number.{Spelling, start, minus, leadingZero, minusZero, hexMark, digits, stuck, digitOf, digitOn, after, spelt, meaning, numberOf}
+use Rattle.numbers.specs.Number.{Spelling, start, minus, leadingZero, minusZero, hexMark, digits, stuck, digitOf, digitOn, after, spelt, meaning}
+use Rattle.numbers.specs.Number.{numberOf}
 
 -- no character leads on from where no number can go on
 pub stuck-stays : (t : List ℕ) → spelt stuck t ≡ stuck

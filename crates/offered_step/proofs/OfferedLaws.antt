@@ -5,7 +5,7 @@ use mathlib.Core.Option.{Option}
 use Prim.Native.Nat.{ℕ}
 use Rattle.units.specs.declared.TableNumber.{TableNumber}
 use Rattle.outcomes.specs.Outcome.{Outcome, refused}
-use Rattle.outcomes.specs.Refusals.{numberOf, placeOf, refusedBy}
+use Rattle.outcomes.specs.Refusals.{refusalNumber, refusalPlace, refusedBy}
 use Rattle.outcomes.specs.declared.Refusal.{Refusal}
 use Rattle.outcomes.specs.declared.Refusal.the-variants.{TableTooLong, TooManyRows, NoState}
 use Rattle.tables.specs.Sizes.{Sized, saidSizes, sizesOf}
@@ -27,15 +27,15 @@ module _ (texts : List (List ℕ)) {r : Sizes} (h : saidSizes r ≡ sizesOf text
   by e = ap (λ (x : Sized). afterSizes x (refused 34 0)) (sym (ap saidSizes e) ∙ h)
 
   pub fit-no-state : r ≡ sizes.Fit → refusedBy NoState ≡ noState texts
-  unfolding afterSizes refusedBy numberOf placeOf
+  unfolding afterSizes refusedBy refusalNumber refusalPlace
   fit-no-state e = by e
 
   pub long-no-state : (table : TableNumber) → r ≡ sizes.TooLong table → refusedBy (TableTooLong table) ≡ noState texts
-  unfolding afterSizes refusedBy numberOf placeOf
+  unfolding afterSizes refusedBy refusalNumber refusalPlace
   long-no-state table e = by e
 
   pub many-no-state : (table : TableNumber) → r ≡ sizes.TooManyRows table → refusedBy (TooManyRows table) ≡ noState texts
-  unfolding afterSizes refusedBy numberOf placeOf
+  unfolding afterSizes refusedBy refusalNumber refusalPlace
   many-no-state table e = by e
 
 module _ (texts : List (List ℕ)) (p name : List ℕ) {o : Offered} {x : Option LimitState} (h : saidOffered o ≡ x) {q : Outcome LimitState} where

@@ -27,55 +27,55 @@ use Rattle.outcomes.specs.declared.Refusal.the-variants.{
 }
 
 -- 01: "Refused calls"
-unfoldable pub numberOf : Refusal → ℕ
-numberOf (TableTooLong table) = 1
-numberOf (TooManyRows table) = 2
-numberOf TooFewCells = 3
-numberOf PacketLength = 20
-numberOf Version = 21
-numberOf LengthField = 22
-numberOf DataField = 23
-numberOf (IdentificationLeaves byte) = 24
-numberOf NoPidRow = 25
-numberOf NoPlfRow = 26
-numberOf NoOccurrence = 27
-numberOf (FieldLeaves byte) = 28
-numberOf (StringOffByte byte) = 29
-numberOf OffCurve = 30
-numberOf OutOfRange = 31
-numberOf NoText = 32
-numberOf NoLimits = 33
-numberOf NoState = 34
-numberOf NotNewer = 35
-numberOf OtherApid = 36
+unfoldable pub refusalNumber : Refusal → ℕ
+refusalNumber (TableTooLong table) = 1
+refusalNumber (TooManyRows table) = 2
+refusalNumber TooFewCells = 3
+refusalNumber PacketLength = 20
+refusalNumber Version = 21
+refusalNumber LengthField = 22
+refusalNumber DataField = 23
+refusalNumber (IdentificationLeaves byte) = 24
+refusalNumber NoPidRow = 25
+refusalNumber NoPlfRow = 26
+refusalNumber NoOccurrence = 27
+refusalNumber (FieldLeaves byte) = 28
+refusalNumber (StringOffByte byte) = 29
+refusalNumber OffCurve = 30
+refusalNumber OutOfRange = 31
+refusalNumber NoText = 32
+refusalNumber NoLimits = 33
+refusalNumber NoState = 34
+refusalNumber NotNewer = 35
+refusalNumber OtherApid = 36
 
 -- 01: "for 1 and 2 the first such table, 1 to 10; for 24, 28 and 29 the byte in which the first such field starts; else 0"
-unfoldable pub placeOf : Refusal → ℕ
-placeOf (TableTooLong table) = table .0
-placeOf (TooManyRows table) = table .0
-placeOf TooFewCells = 0
-placeOf PacketLength = 0
-placeOf Version = 0
-placeOf LengthField = 0
-placeOf DataField = 0
-placeOf (IdentificationLeaves byte) = byte .0
-placeOf NoPidRow = 0
-placeOf NoPlfRow = 0
-placeOf NoOccurrence = 0
-placeOf (FieldLeaves byte) = byte .0
-placeOf (StringOffByte byte) = byte .0
-placeOf OffCurve = 0
-placeOf OutOfRange = 0
-placeOf NoText = 0
-placeOf NoLimits = 0
-placeOf NoState = 0
-placeOf NotNewer = 0
-placeOf OtherApid = 0
+unfoldable pub refusalPlace : Refusal → ℕ
+refusalPlace (TableTooLong table) = table .0
+refusalPlace (TooManyRows table) = table .0
+refusalPlace TooFewCells = 0
+refusalPlace PacketLength = 0
+refusalPlace Version = 0
+refusalPlace LengthField = 0
+refusalPlace DataField = 0
+refusalPlace (IdentificationLeaves byte) = byte .0
+refusalPlace NoPidRow = 0
+refusalPlace NoPlfRow = 0
+refusalPlace NoOccurrence = 0
+refusalPlace (FieldLeaves byte) = byte .0
+refusalPlace (StringOffByte byte) = byte .0
+refusalPlace OffCurve = 0
+refusalPlace OutOfRange = 0
+refusalPlace NoText = 0
+refusalPlace NoLimits = 0
+refusalPlace NoState = 0
+refusalPlace NotNewer = 0
+refusalPlace OtherApid = 0
 
 -- a call that is refused so
 unfoldable pub refusedBy : {A : Type 0} → Refusal → Outcome A
-refusedBy refusal = refused (numberOf refusal) (placeOf refusal)
+refusedBy refusal = refused (refusalNumber refusal) (refusalPlace refusal)
 
 pub example : refusedBy {A = ℕ} (FieldLeaves (record { 0 = 14 })) ≡ refused 28 14
-unfolding refusedBy numberOf placeOf
+unfolding refusedBy refusalNumber refusalPlace
 example = refl

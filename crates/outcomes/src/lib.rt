@@ -2,7 +2,7 @@
 use units::ByteOffset;
 use units::TableNumber;
 ghost use mathlib.Core.Path.{_≡_};
-ghost use Rattle.outcomes.specs.Refusals.{numberOf, placeOf};
+ghost use Rattle.outcomes.specs.Refusals.{refusalNumber, refusalPlace};
 
 // A number, or the part of the packet that a string is: where it starts, and how many bytes it has.
 pub enum Value {
@@ -36,7 +36,7 @@ pub enum Refusal {
 
 // 01's number.
 pub fn number_of(refusal: Refusal) -> u8
-    ensures { λ r. ⌜ r ≡ numberOf refusal ⌝ }
+    ensures { λ r. ⌜ r ≡ refusalNumber refusal ⌝ }
 {
     match refusal {
         Refusal::TableTooLong(_) => 1,
@@ -64,7 +64,7 @@ pub fn number_of(refusal: Refusal) -> u8
 
 // And its place, 0 where there is none.
 pub fn place_of(refusal: Refusal) -> usize
-    ensures { λ r. ⌜ r ≡ placeOf refusal ⌝ }
+    ensures { λ r. ⌜ r ≡ refusalPlace refusal ⌝ }
 {
     match refusal {
         Refusal::TableTooLong(table) => table.0,

@@ -16,12 +16,12 @@ use Rattle.limit_state.specs.declared.state.LimitState.{LimitState}
 use Rattle.accepting.specs.Accepted.{stateAfter}
 use Rattle.stepping.specs.Step.{stepIn, afterPackets}
 use Rattle.playing.specs.declared.Replay.{Replay}
-use Rattle.playing.specs.Plays.{counted, Plays}
+use Rattle.playing.specs.Plays.{cappedSum, Plays}
 
 -- what is still to be offered leads to where all of it leads
 pub record PlaysSo (rows : Rows) (name : List ℕ) (begun : Replay) (bytes : List ℕ) (replay : Replay) (at : ℕ) : Type 0 where
   pub state : afterPackets rows name (replay .state) (packetsIn (drop at bytes)) ≡ afterPackets rows name (begun .state) (packetsIn bytes)
-  pub packets : counted (replay .packets) (length (packetsIn (drop at bytes))) ≡ counted (begun .packets) (length (packetsIn bytes))
+  pub packets : cappedSum (replay .packets) (length (packetsIn (drop at bytes))) ≡ cappedSum (begun .packets) (length (packetsIn bytes))
   pub left : leftIn (drop at bytes) ≡ leftIn bytes
   pub within : at ≤ length bytes
   pub fits : replay .packets ≤ 18446744073709551615
@@ -38,7 +38,7 @@ module _ (rows : Rows) (name : List ℕ) where
   module _ {begun replay : Replay} {bytes : List ℕ} {at : ℕ} (so : PlaysSo rows name begun bytes replay at) where
     pub plays-more : {after : Replay} {end : ℕ} {packet : List ℕ} → framedAt bytes at ≡ Whole end → packet ≡ partOf bytes at end
         → after .state ≡ stateAfter (replay .state) (stepIn rows packet name (replay .state))
-        → after .packets ≡ counted (replay .packets) 1
+        → after .packets ≡ cappedSum (replay .packets) 1
         → PlaysSo rows name begun bytes after end
     plays-more {after} {end} {packet} w q s k =
         let all = next-packets bytes at w q in
@@ -55,7 +55,7 @@ module _ (rows : Rows) (name : List ℕ) where
           fits = omega arith;
         }
       where
-        counts : (n m k j : ℕ) → m ≡ counted n 1 → j ≡ suc k → counted m k ≡ counted n j
+        counts : (n m k j : ℕ) → m ≡ cappedSum n 1 → j ≡ suc k → cappedSum m k ≡ cappedSum n j
         counts n m k j e f = omega arith
 
     pub plays-end : framedAt bytes at ≡ Cut → Plays rows name begun bytes replay at
@@ -65,10 +65,10 @@ module _ (rows : Rows) (name : List ℕ) where
         let none : packetsIn (drop at bytes) ≡ [] = packets-none (drop at bytes) f in
         record {
           state = ap (λ (ps : List (List ℕ)). afterPackets rows name (replay .state) ps) (sym none) ∙ so .state;
-          packets = last (replay .packets) (so .fits) ∙ ap (λ (ps : List (List ℕ)). counted (replay .packets) (length ps)) (sym none) ∙ so .packets;
+          packets = last (replay .packets) (so .fits) ∙ ap (λ (ps : List (List ℕ)). cappedSum (replay .packets) (length ps)) (sym none) ∙ so .packets;
           left = sym (left-none (drop at bytes) f) ∙ so .left;
           within = so .within;
         }
       where
-        last : (n : ℕ) → n ≤ 18446744073709551615 → n ≡ counted n 0
+        last : (n : ℕ) → n ≤ 18446744073709551615 → n ≡ cappedSum n 0
         last n h = omega arith

@@ -15,16 +15,16 @@ unfoldable pub freshState : LimitState
 freshState = record { fresh = true; apid = 0; count = 0; run = 0; announced = 0 }
 
 -- so many packets and so many more; a count that a word can't hold stays at its most
-abbrev pub counted : ℕ → ℕ → ℕ
-counted n more = min (n + more) 18446744073709551615
+abbrev pub cappedSum : ℕ → ℕ → ℕ
+cappedSum n more = min (n + more) 18446744073709551615
 
 -- Each packet that stands in the bytes was offered in its turn, and no other: the state that they lead to, how many they are, and where
 -- the bytes begin that are left over.
 pub record Plays (rows : Rows) (name : List ℕ) (begun : Replay) (bytes : List ℕ) (after : Replay) (used : ℕ) : Type 0 where
   pub state : after .state ≡ afterPackets rows name (begun .state) (packetsIn bytes)
-  pub packets : after .packets ≡ counted (begun .packets) (length (packetsIn bytes))
+  pub packets : after .packets ≡ cappedSum (begun .packets) (length (packetsIn bytes))
   pub left : drop used bytes ≡ leftIn bytes
   pub within : used ≤ length bytes
 
-pub example : counted 18446744073709551614 3 ≡ 18446744073709551615
+pub example : cappedSum 18446744073709551614 3 ≡ 18446744073709551615
 example = refl

@@ -15,7 +15,7 @@ ghost use mathlib.Core.List.{map};
 ghost use Rattle.database.specs.Arrays.{database, answers};
 ghost use Rattle.accepting.specs.Accepted.{stateAfter};
 ghost use Rattle.stepping.specs.Step.{stepIn};
-ghost use Rattle.playing.specs.Plays.{freshState, counted, Plays};
+ghost use Rattle.playing.specs.Plays.{freshState, cappedSum, Plays};
 
 // The state after so many packets, and the stretch of packets that is still to be said.
 pub struct Replay {
@@ -60,7 +60,7 @@ pub fn fresh_replay() -> Replay
 
 // One packet more.
 fn next_number(packets: usize) -> usize
-    ensures { λ r. ⌜ r ≡ counted packets 1 ⌝ }
+    ensures { λ r. ⌜ r ≡ cappedSum packets 1 ⌝ }
 {
     if packets == usize::MAX {
         return packets;
@@ -82,7 +82,7 @@ fn offer(
     ensures { λ r. ⌜ r .state ≡ stateAfter (begun .state)
         (stepIn (answers (database (map now (tables .entry)) (now (words .entry)) (now (links .entry)) (now (columns .entry))))
         (now (packet .entry)) (now (name .entry)) (begun .state)) ⌝ }
-    ensures { λ r. ⌜ r .packets ≡ counted (begun .packets) 1 ⌝ }
+    ensures { λ r. ⌜ r .packets ≡ cappedSum (begun .packets) 1 ⌝ }
 {
     let state = begun.state;
     let stretch = begun.stretch;

@@ -5,7 +5,7 @@ use mathlib.Core.Option.{Option, some, none}
 use Prim.Native.Nat.{ℕ}
 use borrow.Author.Tests.{eq-eqb, ne-eqb}
 use Rattle.limit_state.specs.declared.state.LimitState.{LimitState}
-use Rattle.scripts.specs.Escapes.{unescaped, rowBytes, within}
+use Rattle.scripts.specs.Escapes.{unescaped, rowBytes, whereRoom}
 use Rattle.answers.specs.declared.compare.Verdict.{Verdict}
 use Rattle.answers.specs.declared.compare.Verdict.the-variants.{Unread}
 use Rattle.questions.specs.declared.Judged.{Judged}
@@ -13,11 +13,11 @@ use Rattle.questions.specs.Questions.{questionBytes, judgedText, judgedB
 
 -- a text, as it is read into a buffer of this length
 module _ (room k : ℕ) (raw : List ℕ) {o : Option (List ℕ)} where
-  pub bytes-row : o ≡ within room (raw ++ 10 ∷ []) (rowBytes raw) → room ≡ 65537 → k ≡ 1 → o ≡ questionBytes k raw
+  pub bytes-row : o ≡ whereRoom room (raw ++ 10 ∷ []) (rowBytes raw) → room ≡ 65537 → k ≡ 1 → o ≡ questionBytes k raw
   unfolding questionBytes
   bytes-row p e h = rw (eq-eqb k 1 h) (rw e at p)
 
-  pub bytes-other : o ≡ within room raw (unescaped raw) → room ≡ 65537 → (k ≡ 1 → ⊥) → o ≡ questionBytes k raw
+  pub bytes-other : o ≡ whereRoom room raw (unescaped raw) → room ≡ 65537 → (k ≡ 1 → ⊥) → o ≡ questionBytes k raw
   unfolding questionBytes
   bytes-other p e n = rw (ne-eqb k 1 n) (rw e at p)
 

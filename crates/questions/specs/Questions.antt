@@ -10,7 +10,7 @@ use Rattle.laws.specs.Text.{ascii}
 use Rattle.limit_state.specs.declared.state.LimitState.{LimitState}
 use Rattle.accepting.specs.Accepted.{stateAfter}
 use Rattle.calls.specs.Calls.{limitStepOf}
-use Rattle.scripts.specs.Escapes.{unescaped, rowBytes, isOpen, ended, within, before, plain}
+use Rattle.scripts.specs.Escapes.{unescaped, rowBytes, isOpen, endedRow, whereRoom, before, plain}
 use Rattle.answers.specs.declared.compare.Verdict.{Verdict}
 use Rattle.answers.specs.declared.compare.Verdict.the-variants.{Unread}
 use Rattle.answers.specs.Compared.{verdictOf}
@@ -38,7 +38,7 @@ judgedText k texts packet s line text =
 
 -- a question's text is read as a text, and that of `row` as a row, as far as a buffer of 65,537 bytes holds them
 unfoldable pub questionBytes : ℕ → List ℕ → Option (List ℕ)
-questionBytes k raw = cond (eqb k 1) (within 65537 (raw ++ 10 ∷ []) (rowBytes raw)) (within 65537 raw (unescaped raw))
+questionBytes k raw = cond (eqb k 1) (whereRoom 65537 (raw ++ 10 ∷ []) (rowBytes raw)) (whereRoom 65537 raw (unescaped raw))
 
 unfoldable pub judgedBytes : ℕ → List (List ℕ) → (packet : List ℕ) → LimitState → (line : List ℕ) → Option (List ℕ) → Judged
 judgedBytes k texts packet s line none = record { verdict = Unread; state = s }
@@ -54,5 +54,5 @@ pub record Examples (s : LimitState) (line : List ℕ) : Type 0 where
   pub unread : judged 2 [] [] (ascii "\\7") s line ≡ record { verdict = Unread; state = s }
 
 pub examples : (s : LimitState) (line : List ℕ) → Examples s line
-unfolding judged judgedBytes questionBytes within rowBytes isOpen ended unescaped before plain
+unfolding judged judgedBytes questionBytes whereRoom rowBytes isOpen endedRow unescaped before plain
 examples s line = record { row = refl; other = refl; unread = refl }

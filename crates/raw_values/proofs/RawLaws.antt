@@ -21,7 +21,7 @@ use Rattle.laws.proofs.Words.{through-word}
 use Rattle.laws.specs.Said.{Said, value, refused as refusedWith}
 use Rattle.numbers.specs.Number.{numberOf}
 use Rattle.rows.specs.Values.{naturalFrom, naturalOr}
-use Rattle.fields.specs.Width.{bitsOf, within, integerWidth, widthOf}
+use Rattle.fields.specs.Width.{bitsOf, bitsWithin, integerWidth, widthOf}
 use Rattle.fields.specs.declared.width.Width.{Width}
 use Rattle.fields.specs.declared.width.Width.the-variants as width
 use Rattle.rows.specs.Records.{plfRow}
@@ -39,7 +39,7 @@ use Rattle.fields.proofs.SignLaws.{signed-range}
 use Rattle.fields.proofs.TextLaws.{string-outside}
 use Rattle.outcomes.specs.Outcome.{Outcome, refused, answer}
 use Rattle.outcomes.specs.Values.{Value, number}
-use Rattle.raw_values.specs.RawValues.{isString, Wide, valueAt, partAt, fieldRaw, startOf, rawIn, rawOf}
+use Rattle.raw_values.specs.RawValues.{isString, TypeWidth, valueAt, packetPart, fieldRaw, startOf, rawIn, rawOf}
 
 -- where an occurrence starts, a word holds its bits
 pub offset-bounded : (k l : ℕ) → k + 1 < 2 ^ 32 → l < 2 ^ 32 → k * l ≤ 4294967294 * 4294967295
@@ -73,8 +73,8 @@ pub record In-range (m lowest highest bits n : ℕ) : Type 0 where
   pub high : m ≤ highest
   pub is : n ≡ bits
 
-bits-within : (m lowest highest bits n : ℕ) → within m lowest highest bits ≡ some n → In-range m lowest highest bits n
-unfolding within
+bits-within : (m lowest highest bits n : ℕ) → bitsWithin m lowest highest bits ≡ some n → In-range m lowest highest bits n
+unfolding bitsWithin
 bits-within m lowest highest bits n e = by (leb lowest m) (leb m highest) refl refl e
   where
     by : (a b : Bool) → leb lowest m ≡ a → leb m highest ≡ b → cond (a && b) (some bits) none ≡ some n → In-range m lowest highest bits n
@@ -92,7 +92,7 @@ string-is ptc e = by (eqb ptc 7) (eqb ptc 8) refl refl e
     by false false f g e = absurd (let z : _≡_ {A = ℕ} 0 1 = cc in omega arith)
 
 -- a string has whole bytes
-bytes-of : (pfc n : ℕ) → within pfc 1 255 (8 * pfc) ≡ some n → 8 ≤ n
+bytes-of : (pfc n : ℕ) → bitsWithin pfc 1 255 (8 * pfc) ≡ some n → 8 ≤ n
 bytes-of pfc n e = let r = bits-within pfc 1 255 (8 * pfc) n e in omega (arith, r .low, r .is)
 
 string-wide : (ptc pfc n : ℕ) → (ptc ≡ 7) ⊎ (ptc ≡ 8) → widthOf ptc pfc ≡ some n → 8 ≤ n
@@ -104,20 +104,20 @@ string-wide ptc pfc n (inr s) e = bytes-of pfc n (rw s at e)
 abbrev Narrow : ℕ → Type 0
 Narrow n = (1 ≤ n) × (n ≤ 32)
 
-few-bits : (pfc n : ℕ) → within pfc 1 32 pfc ≡ some n → Narrow n
+few-bits : (pfc n : ℕ) → bitsWithin pfc 1 32 pfc ≡ some n → Narrow n
 few-bits pfc n e = let r = bits-within pfc 1 32 pfc n e in (omega (arith, r .low, r .is), omega (arith, r .high, r .is))
 
-one-bit : (pfc n : ℕ) → within pfc 0 0 1 ≡ some n → Narrow n
+one-bit : (pfc n : ℕ) → bitsWithin pfc 0 0 1 ≡ some n → Narrow n
 one-bit pfc n e = let r = bits-within pfc 0 0 1 n e in (omega (arith, r .is), omega (arith, r .is))
 
 integer-narrow : (pfc n : ℕ) → integerWidth pfc ≡ some n → Narrow n
 unfolding integerWidth
 integer-narrow pfc n e = by (eqb pfc 13) (eqb pfc 14) e
   where
-    to-12 : within pfc 0 12 (pfc + 4) ≡ some n → Narrow n
+    to-12 : bitsWithin pfc 0 12 (pfc + 4) ≡ some n → Narrow n
     to-12 e = let r = bits-within pfc 0 12 (pfc + 4) n e in (omega (arith, r .is), omega (arith, r .high, r .is))
 
-    by : (a b : Bool) → cond a (some 24) (cond b (some 32) (within pfc 0 12 (pfc + 4))) ≡ some n → Narrow n
+    by : (a b : Bool) → cond a (some 24) (cond b (some 32) (bitsWithin pfc 0 12 (pfc + 4))) ≡ some n → Narrow n
     by true b e = let m : n ≡ 24 = cc in (omega arith, omega arith)
     by false true e = let m : n ≡ 32 = cc in (omega arith, omega arith)
     by false false e = to-12 e
@@ -127,14 +127,15 @@ unfolding widthOf isString
 other-narrow ptc pfc n s e = by (eqb ptc 1) (eqb ptc 2 || eqb ptc 6) (eqb ptc 3 || eqb ptc 4) (eqb ptc 7 || eqb ptc 8) s e
   where
     by : (a b c d : Bool) → d ≡ false
-        → cond a (within pfc 0 0 1) (cond b (within pfc 1 32 pfc) (cond c (integerWidth pfc) (cond d (within pfc 1 255 (8 * pfc)) none))) ≡ some n → Narrow n
+        → cond a (bitsWithin pfc 0 0 1) (cond b (bitsWithin pfc 1 32 pfc) (cond c (integerWidth pfc) (cond d (bitsWithin pfc 1 255 (8 * pfc)) none)))
+        ≡ some n → Narrow n
     by true b c d s e = one-bit pfc n e
     by false true c d s e = few-bits pfc n e
     by false false true d s e = integer-narrow pfc n e
     by false false false true s e = absurd (let z : _≡_ {A = ℕ} 0 1 = cc in omega arith)
     by false false false false s e = absurd (let z : _≡_ {A = ℕ} 0 1 = cc in omega arith)
 
-pub width-wide : (ptc pfc n : ℕ) → widthOf ptc pfc ≡ some n → Wide ptc n
+pub width-wide : (ptc pfc n : ℕ) → widthOf ptc pfc ≡ some n → TypeWidth ptc n
 width-wide ptc pfc n e =
     record {
       some =
@@ -146,13 +147,13 @@ width-wide ptc pfc n e =
     }
 
 -- a field from a byte past the end is outside, whatever it is
-pub field-past : (p : List ℕ) (ptc n byte bit : ℕ) → length p < byte → bit < 8 → Wide ptc n → refused 28 byte ≡ fieldRaw p ptc n (8 * byte + bit)
+pub field-past : (p : List ℕ) (ptc n byte bit : ℕ) → length p < byte → bit < 8 → TypeWidth ptc n → refused 28 byte ≡ fieldRaw p ptc n (8 * byte + bit)
 unfolding fieldRaw valueAt signedAt unsignedAt
 field-past p ptc n byte bit out low w =
     let at : ℕ = 8 * byte + bit in
     ap (refused 28) (whole byte bit low)
     ∙ cond-cases (λ (r : Outcome Value). refused 28 (at / 8) ≡ r) (isString ptc)
-    (λ t. let h = w .string t in ap (valueAt at (partAt at (n / 8))) (string-outside p at (n / 8) (omega arith) (omega arith)))
+    (λ t. let h = w .string t in ap (valueAt at (packetPart at (n / 8))) (string-outside p at (n / 8) (omega arith) (omega arith)))
     (λ f. let h = w .other f in ap (valueAt at number) (cond-cases (λ s. refusedWith 28 ≡ s) (eqb ptc 4)
     (λ _. field-outside (complementOf n) p at n (w .some) (omega arith) (omega (arith, w .some)))
     (λ _. field-outside pos p at n (w .some) (omega arith) (omega (arith, w .some)))))
@@ -162,7 +163,7 @@ field-past p ptc n byte bit out low w =
 
 -- each kind of field
 module _ (p : List ℕ) (ptc n at : ℕ) where
-  pub field-string : isString ptc ≡ true → valueAt at (partAt at (n / 8)) (stringAt p at (n / 8)) ≡ fieldRaw p ptc n at
+  pub field-string : isString ptc ≡ true → valueAt at (packetPart at (n / 8)) (stringAt p at (n / 8)) ≡ fieldRaw p ptc n at
   unfolding fieldRaw
   field-string t = rw t
 

@@ -15,7 +15,7 @@ use Rattle.fields.specs.Field.{isWidth, fieldAt, unsignedAt}
 use Rattle.fields.specs.Figures.{packet}
 use Rattle.fields.specs.Sign.{signedAt}
 use Rattle.fields.specs.Text.{stringAt}
-use Rattle.fields.specs.Width.{widthOf, integerWidth, within}
+use Rattle.fields.specs.Width.{widthOf, integerWidth, bitsWithin}
 use Rattle.rows.specs.declared.records.PlfRow.{PlfRow}
 use Rattle.rows.specs.declared.records.PcfRow.{PcfRow}
 use Rattle.outcomes.specs.Outcome.{Outcome, refused, answer}
@@ -33,7 +33,7 @@ unfoldable pub isString : ℕ → Bool
 isString ptc = eqb ptc 7 || eqb ptc 8
 
 -- the widths that fields of a type have: a string some bytes, any other at most 32 bits
-pub record Wide (ptc n : ℕ) : Type 0 where
+pub record TypeWidth (ptc n : ℕ) : Type 0 where
   pub some : 1 ≤ n
   pub string : isString ptc ≡ true → 8 ≤ n
   pub other : isString ptc ≡ false → n ≤ 32
@@ -45,13 +45,13 @@ valueAt at make (refusedWith n) = refused n (at / 8)
 valueAt at make free = refused 26 0
 
 -- 01: "A string is answered as the part of the packet it is"
-abbrev pub partAt : (at bytes : ℕ) → ℤ → Value
-partAt at bytes z = part (at / 8) bytes
+abbrev pub packetPart : (at bytes : ℕ) → ℤ → Value
+packetPart at bytes z = part (at / 8) bytes
 
 -- a field of n bits from bit `at`. 01: "PTC 4 is two's complement"
 unfoldable pub fieldRaw : List ℕ → (ptc n at : ℕ) → Outcome Value
 fieldRaw p ptc n at =
-    cond (isString ptc) (valueAt at (partAt at (n / 8)) (stringAt p at (n / 8)))
+    cond (isString ptc) (valueAt at (packetPart at (n / 8)) (stringAt p at (n / 8)))
     (valueAt at number (cond (eqb ptc 4) (signedAt p at n) (unsignedAt p at n)))
 
 -- 01: "27 … occurrence not below NBOCC". A pair of codes without a width, which no good row has, has no field
@@ -79,5 +79,5 @@ pub record Examples : Type 0 where
   pub second : rawIn packet (at12 0) 3 1 (widthOf 3 12) ≡ refused 27 0
 
 pub examples : Examples
-unfolding rawIn startOf fieldRaw isString valueAt widthOf integerWidth within stringAt unsignedAt fieldAt isWidth inside bitInside numberAt bitAt packet
+unfolding rawIn startOf fieldRaw isString valueAt widthOf integerWidth bitsWithin stringAt unsignedAt fieldAt isWidth inside bitInside numberAt bitAt packet
 examples = record { unsigned = refl; string-at-a-bit = refl; past-the-end = refl; second = refl }

@@ -26,7 +26,7 @@ ghost use Rattle.fields.specs.Field.{unsignedAt};
 ghost use Rattle.fields.specs.Sign.{signedAt};
 ghost use Rattle.fields.specs.Text.{stringAt};
 ghost use Rattle.outcomes.specs.Values.{number};
-ghost use Rattle.raw_values.specs.RawValues.{saidRaw, valueAt, partAt, isString, Wide, fieldRaw, rawIn, rawOf};
+ghost use Rattle.raw_values.specs.RawValues.{saidRaw, valueAt, packetPart, isString, TypeWidth, fieldRaw, rawIn, rawOf};
 
 // A packet has at most so many bytes.
 const PACKET_BYTES: usize = 8192;
@@ -47,7 +47,7 @@ fn is_string(ptc: u32) -> bool
 }
 
 fn string_raw(p: &[u8], at: BitOffset, bytes: usize) -> RawValue
-    ensures { λ r. ⌜ saidRaw r ≡ valueAt (at .0) (partAt (at .0) bytes) (stringAt (now (p .entry)) (at .0) bytes) ⌝ }
+    ensures { λ r. ⌜ saidRaw r ≡ valueAt (at .0) (packetPart (at .0) bytes) (stringAt (now (p .entry)) (at .0) bytes) ⌝ }
 {
     let byte = ByteOffset(at.0 / 8);
     match string_at(p, at, bytes) {
@@ -82,7 +82,7 @@ fn unsigned_raw(p: &[u8], at: BitOffset, width: u32) -> RawValue
 
 // A field of `width` bits at a byte that the packet may not have.
 fn field_raw(p: &[u8], ptc: u32, width: u32, start: FieldStart) -> RawValue
-    requires { ⌜ (length (now p) ≤ 8192) × (start .bit < 8) × Wide ptc width ⌝ }
+    requires { ⌜ (length (now p) ≤ 8192) × (start .bit < 8) × TypeWidth ptc width ⌝ }
     ensures { λ r. ⌜ saidRaw r ≡ fieldRaw (now (p .entry)) ptc width (8 * start .byte .0 + start .bit) ⌝ }
 {
     let byte = start.byte.0;
@@ -101,7 +101,7 @@ fn field_raw(p: &[u8], ptc: u32, width: u32, start: FieldStart) -> RawValue
 
 // Occurrence k of a field of `width` bits, by the line of its plf row.
 fn occurrence_raw(p: &[u8], plf: &[u8], ptc: u32, width: u32, k: usize) -> RawValue
-    requires { ⌜ (length (now p) ≤ 8192) × Wide ptc width ⌝ }
+    requires { ⌜ (length (now p) ≤ 8192) × TypeWidth ptc width ⌝ }
     ensures { λ r. ⌜ saidRaw r ≡ rawIn (now (p .entry)) (plfRow (now (plf .entry))) ptc k (some width) ⌝ }
 {
     let row = plf_of(plf);

@@ -14,7 +14,7 @@ use Rattle.lines.specs.declared.names.Name.{Name}
 use Rattle.rows.specs.Values.{naturalFrom, naturalOr, integerFrom, integerOr, letterOf, isGiven, optionalName, optionalCurve, categoryOf, natureOf}
 use Rattle.rows.specs.Records.{column, plfRow, pcfRow}
 use Rattle.rows.specs.declared.records.PcfRow.{PcfRow}
-use Rattle.fields.specs.Width.{widthOf, integerWidth, within}
+use Rattle.fields.specs.Width.{widthOf, integerWidth, bitsWithin}
 use Rattle.fields.specs.Bits.{bitAt, numberAt}
 use Rattle.fields.specs.Place.{bitInside, inside}
 use Rattle.fields.specs.Field.{isWidth, fieldAt, unsignedAt}
@@ -114,6 +114,6 @@ unfolding
     among find holdsKey factsOf plfFacts pcfFacts sameKey keyWords sameBytes
     plfRow pcfRow column columnsOf columnsFrom nameOf naturalOr naturalFrom integerOr integerFrom numberOf meaning spelt after digitOn digitOf
     optionalName isGiven optionalCurve curveNameOf letterOf categoryOf natureOf
-    rawOf rawIn startOf fieldRaw isString valueAt widthOf integerWidth within
+    rawOf rawIn startOf fieldRaw isString valueAt widthOf integerWidth bitsWithin
     unsignedAt signedAt complementOf fieldAt isWidth inside bitInside numberAt bitAt packet
 examples = record { valid = refl; other-value = refl; circle = refl }

@@ -22,7 +22,7 @@ use Rattle.limit_state.specs.declared.state.LimitState.{LimitState}
 use Rattle.stepping.specs.Step.{stepIn}
 use Rattle.calls.specs.Tables.{afterSizes, asking}
 use Rattle.extraction.specs.Extraction.{extractBy}
-use Rattle.extraction.specs.Engineering.{ofValue, engineerBy}
+use Rattle.extraction.specs.Engineering.{engineeredFrom, engineerBy}
 use Rattle.calls.specs.Calls.{identifyOf, extractOf, engineerOf, limitStepOf}
 use Rattle.refusal_places.specs.Small.{Small}
 use Rattle.refusal_places.proofs.SmallLaws.{small-answer, small-place, small-then}
@@ -31,8 +31,8 @@ use Rattle.refusal_places.proofs.PacketPlaces.{identify-small, reading-
 use Rattle.refusal_places.proofs.StepPlaces.{step-small}
 use Rattle.refusal_places.proofs.TablePlaces.{long-small, many-small}
 
-value-small : (rows : Rows) (name : Name) (v : Value) → Small (ofValue rows name v)
-unfolding ofValue
+value-small : (rows : Rows) (name : Name) (v : Value) → Small (engineeredFrom rows name v)
+unfolding engineeredFrom
 value-small rows name (number z) =
     small-then (needed (rows .holder (parameter name))) _ (needed-small (rows .holder (parameter name)))
     (λ row _. engineered-small rows (pcfRow (row .bytes)) z)

@@ -13,7 +13,7 @@ use Rattle.laws.proofs.Cases.{false≢true}
 use Rattle.numbers.specs.Number.{numberOf, meaning, spelt, after}
 use Rattle.lines.specs.Lines.{Line}
 use Rattle.schemas.specs.declared.Table.the-variants.{Pic, Plf}
-use Rattle.schemas.specs.Schema.{Column, Kind, aNumber, natural, natural!, integer! }
+use Rattle.schemas.specs.Schema.{Column, ColumnKind, aNumber, natural, natural!, integer! }
 use Rattle.schemas.specs.Tables.{schema, pic, plf}
 use Rattle.schemas.specs.Reasons.{kindReason, columnReason}
 use Rattle.schemas.proofs.Meaning.{Absent, Given, column-fine, number-fine}
@@ -49,7 +49,7 @@ natural-most c t lowest highest default q h d e = ⊎-elim absent given (column-
 
     given : Given c t → naturalOr default t ≤ highest
     given g =
-        let n = natural-column lowest highest default t h (ap (λ (k : Kind). kindReason k t) (sym q) ∙ g .kind-fits) in
+        let n = natural-column lowest highest default t h (ap (λ (k : ColumnKind). kindReason k t) (sym q) ∙ g .kind-fits) in
         omega (arith, n .high, n .says)
 
 -- and so is a mandatory integer
@@ -62,7 +62,7 @@ integer-most c t lowest highest default q m l h e = ⊎-elim absent given (colum
 
     given : Given c t → leZ (integerOr default t) highest ≡ true
     given g =
-        let k : kindReason (aNumber lowest highest) t ≡ 0 = ap (λ (k : Kind). kindReason k t) (sym q) ∙ g .kind-fits in
+        let k : kindReason (aNumber lowest highest) t ≡ 0 = ap (λ (k : ColumnKind). kindReason k t) (sym q) ∙ g .kind-fits in
         ap (λ (v : ℤ). leZ v highest) (integer-column lowest highest default t l h k) ∙ number-fine lowest highest t k .high
 
 -- A row

@@ -9,16 +9,16 @@ use Rattle.showing.specs.declared.stretches.Showing.the-variants.{Runs, Last}
 use Rattle.replay.specs.declared.options.Choice.{Choice}
 use Rattle.replay.specs.declared.options.Choice.the-variants.{Is, Unknown}
 
-unfoldable pub chosenBy : List ℕ → Choice
-chosenBy option =
+unfoldable pub showingChosen : List ℕ → Choice
+showingChosen option =
     cond (sameName (nameOf option) (nameOf (ascii "runs"))) (Is Runs)
     (cond (sameName (nameOf option) (nameOf (ascii "last"))) (Is Last) Unknown)
 
 pub record Examples : Type 0 where
-  pub runs : chosenBy (ascii "runs") ≡ Is Runs
-  pub last : chosenBy (ascii "last") ≡ Is Last
-  pub other : chosenBy (ascii "run") ≡ Unknown
+  pub runs : showingChosen (ascii "runs") ≡ Is Runs
+  pub last : showingChosen (ascii "last") ≡ Is Last
+  pub other : showingChosen (ascii "run") ≡ Unknown
 
 pub examples : Examples
-unfolding chosenBy nameOf sameName sameBytes
+unfolding showingChosen nameOf sameName sameBytes
 examples = record { runs = refl; last = refl; other = refl }

@@ -6,7 +6,7 @@ use mathlib.Core.List.{List, [], _∷_, _++_}
 use native.Mathlib.Omega.{arith}
 use lib.ListN.{length, length-append}
 use Rattle.lines.specs.Columns.{partOf}
-use Rattle.archives.specs.Packets.{lengthSaid, isWhole, packetsIn, leftIn}
+use Rattle.archives.specs.Packets.{lengthSaid, isComplete, packetsIn, leftIn}
 use Rattle.archives.specs.Blocks.{Refilled}
 use Rattle.archives.proofs.PacketLaws.{packets-none, left-none}
 use Rattle.archives.proofs.BlockLaws.{part-length, part-of-front, newBytes, packets-next, left-next}
@@ -14,28 +14,28 @@ use Rattle.database.specs.Rows.{Rows}
 use Rattle.limit_state.specs.declared.state.LimitState.{LimitState}
 use Rattle.accepting.specs.Accepted.{stateAfter}
 use Rattle.stepping.specs.Step.{stepIn, afterPackets}
-use Rattle.playing.specs.Plays.{freshState, counted, Plays}
+use Rattle.playing.specs.Plays.{freshState, cappedSum, Plays}
 use Rattle.replaying.specs.declared.Standing.{Standing}
-use Rattle.replaying.specs.Replayed.{AtStart, Turned, Replayed}
+use Rattle.replaying.specs.Replayed.{AtStart, BlockReplayed, Replayed}
 
 -- the bytes so far, and what is left over of them stands in the block
 pub record ReplayedSo (rows : Rows) (name : List ℕ) (so : Standing) (block : List ℕ) : Type 0 where
   pub bytes : List ℕ
   pub state : so .replay .state ≡ afterPackets rows name freshState (packetsIn bytes)
-  pub packets : so .replay .packets ≡ counted 0 (length (packetsIn bytes))
+  pub packets : so .replay .packets ≡ cappedSum 0 (length (packetsIn bytes))
   pub left : leftIn bytes ≡ partOf block (so .from) (so .to)
   pub within : so .to ≤ length block
 
 module _ (rows : Rows) (name : List ℕ) where
   pub replayed-none : {s : Standing} {block : List ℕ} → AtStart s → ReplayedSo rows name s block
-  unfolding afterPackets isWhole lengthSaid
+  unfolding afterPackets isComplete lengthSaid
   replayed-none {s} {block} h =
       let none : packetsIn [] ≡ [] = packets-none [] refl in
       let empty : leftIn [] ≡ [] = left-none [] refl in
       record {
         bytes = [];
         state = h .state ∙ ap (λ (ps : List (List ℕ)). afterPackets rows name freshState ps) (sym none);
-        packets = h .packets ∙ ap (λ (ps : List (List ℕ)). counted 0 (length ps)) (sym none);
+        packets = h .packets ∙ ap (λ (ps : List (List ℕ)). cappedSum 0 (length ps)) (sym none);
         left = empty ∙ rw (h .from, h .to);
         within = omega (arith, h .to);
       }
@@ -45,10 +45,10 @@ module _ (rows : Rows) (name : List ℕ) where
   more s [] qs = refl
   more s (p ∷ ps) qs = more (stateAfter s (stepIn rows p name s)) ps qs
 
-  counts : (a b c n m : ℕ) → n ≡ counted 0 a → m ≡ counted n b → c ≡ a + b → m ≡ counted 0 c
+  counts : (a b c n m : ℕ) → n ≡ cappedSum 0 a → m ≡ cappedSum n b → c ≡ a + b → m ≡ cappedSum 0 c
   counts a b c n m e f g = omega arith
 
-  pub replayed-more : {s t : Standing} {before block : List ℕ} → ReplayedSo rows name s before → Turned rows name s t before block
+  pub replayed-more : {s t : Standing} {before block : List ℕ} → ReplayedSo rows name s before → BlockReplayed rows name s t before block
       → ReplayedSo rows name t block
   replayed-more {s} {t} {before} {block} so turned =
       let r = turned .refilled in
@@ -83,5 +83,5 @@ module _ (rows : Rows) (name : List ℕ) where
 
   -- the packets of a block are those of the bytes that stand in it
   pub turned : {s t : Standing} {before block bytes : List ℕ} → Refilled (s .from) (s .to) (t .to) before block → bytes ≡ partOf block 0 (t .to)
-      → Plays rows name (s .replay) bytes (t .replay) (t .from) → Turned rows name s t before block
+      → Plays rows name (s .replay) bytes (t .replay) (t .from) → BlockReplayed rows name s t before block
   turned {s} {t} r q p = record { refilled = r; plays = subst (λ (l : List ℕ). Plays rows name (s .replay) l (t .replay) (t .from)) q p }

@@ -9,7 +9,7 @@ use Rattle.archives.specs.Packets.{packetsIn, leftIn}
 use Rattle.archives.specs.Blocks.{Refilled}
 use Rattle.database.specs.Rows.{Rows}
 use Rattle.stepping.specs.Step.{afterPackets}
-use Rattle.playing.specs.Plays.{freshState, counted, Plays}
+use Rattle.playing.specs.Plays.{freshState, cappedSum, Plays}
 use Rattle.replaying.specs.declared.Standing.{Standing}
 
 -- nothing is read yet
@@ -20,7 +20,7 @@ pub record AtStart (s : Standing) : Type 0 where
   pub to : s .to ≡ 0
 
 -- one block: what was left over stands in front of what was read, and each packet that stands in both together was offered
-pub record Turned (rows : Rows) (name : List ℕ) (begun after : Standing) (before block : List ℕ) : Type 0 where
+pub record BlockReplayed (rows : Rows) (name : List ℕ) (begun after : Standing) (before block : List ℕ) : Type 0 where
   pub refilled : Refilled (begun .from) (begun .to) (after .to) before block
   pub plays : Plays rows name (begun .replay) (partOf block 0 (after .to)) (after .replay) (after .from)
 
@@ -28,5 +28,5 @@ pub record Turned (rows : Rows) (name : List ℕ) (begun after : Standing) (befo
 pub record Replayed (rows : Rows) (name : List ℕ) (after : Standing) : Type 0 where
   pub bytes : List ℕ
   pub state : after .replay .state ≡ afterPackets rows name freshState (packetsIn bytes)
-  pub packets : after .replay .packets ≡ counted 0 (length (packetsIn bytes))
+  pub packets : after .replay .packets ≡ cappedSum 0 (length (packetsIn bytes))
   pub left : length (leftIn bytes) ≡ after .to - after .from

@@ -9,7 +9,7 @@ use showing::stretches::Showing;
 use tables::TABLES;
 ghost use mathlib.Core.List.{map};
 ghost use Rattle.database.specs.Arrays.{database, answers};
-ghost use Rattle.replaying.specs.Replayed.{AtStart, Turned, Replayed};
+ghost use Rattle.replaying.specs.Replayed.{AtStart, BlockReplayed, Replayed};
 
 // More blocks than any file has.
 const MOST_BLOCKS: usize = 18446744073709551615;
@@ -45,7 +45,7 @@ fn take_block(
     showing: Showing,
     begun: Standing,
 ) -> Standing
-    ensures { λ r. ⌜ Turned (answers (database (map now (tables .entry)) (now (words .entry)) (now (links .entry)) (now (columns .entry))))
+    ensures { λ r. ⌜ BlockReplayed (answers (database (map now (tables .entry)) (now (words .entry)) (now (links .entry)) (now (columns .entry))))
         (now (name .entry)) begun r (now (block .entry)) (now (block .exit)) ⌝ }
 {
     let to = refill(fd, block, begun.from, begun.to);

@@ -7,12 +7,12 @@ use answers::answer::says;
 use answers::answer::two;
 use import::Imported;
 ghost use mathlib.Core.Path.{_≡_};
-ghost use Rattle.import.specs.Judged.{said};
+ghost use Rattle.import.specs.Judged.{saidImported};
 ghost use Rattle.replies.specs.Replies.{importedAnswer, cellAnswer, onlyAnswer};
 
 // The counts, and all cells.
 pub fn say_imported(imported: Imported) -> Answer
-    ensures { λ r. ⌜ r ≡ importedAnswer (said imported) ⌝ }
+    ensures { λ r. ⌜ r ≡ importedAnswer (saidImported imported) ⌝ }
 {
     match imported {
         Imported::Done(rows, good) => compose(
@@ -40,7 +40,7 @@ fn say_cell(cell: u16) -> Answer
 
 // The cell of the only row.
 pub fn say_only(imported: Imported, cell: u16) -> Answer
-    ensures { λ r. ⌜ r ≡ onlyAnswer (said imported) cell ⌝ }
+    ensures { λ r. ⌜ r ≡ onlyAnswer (saidImported imported) cell ⌝ }
 {
     match imported {
         Imported::Done(_, _) => say_cell(cell),

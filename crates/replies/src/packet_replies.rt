@@ -19,7 +19,7 @@ use outcomes::number_of;
 use outcomes::place_of;
 use readings::Reading;
 ghost use mathlib.Core.Path.{_≡_};
-ghost use Rattle.outcomes.specs.Refusals.{numberOf, placeOf};
+ghost use Rattle.outcomes.specs.Refusals.{refusalNumber, refusalPlace};
 ghost use Rattle.outcomes.specs.Values.{valueOf, number, part};
 ghost use Rattle.identification.specs.Identification.{saidIdentified};
 ghost use Rattle.readings.specs.Readings.{saidReading};
@@ -29,7 +29,7 @@ ghost use Rattle.answers.specs.Answers.{refusing};
 ghost use Rattle.replies.specs.Replies.{replyOf, identityAnswer, rawAnswer, readingAnswer, valueAnswer, engineeredAnswer, stateAnswer};
 
 fn refused_question(refusal: Refusal) -> Answer
-    ensures { λ r. ⌜ r ≡ refusing (numberOf refusal) (placeOf refusal) ⌝ }
+    ensures { λ r. ⌜ r ≡ refusing (refusalNumber refusal) (refusalPlace refusal) ⌝ }
 {
     refused(number_of(refusal) as u64, place_of(refusal) as u64)
 }

@@ -4,13 +4,13 @@ use mathlib.Core.Path.{_≡_, refl}
 use mathlib.Core.Bool.{cond, _&&_}
 use mathlib.Core.List.{List}
 use lib.Dec.{ltb, leb}
-use Rattle.kept.specs.Stored.{tableColumn}
+use Rattle.kept.specs.Stored.{keptTableColumn}
 use Rattle.key_rows.specs.KeyRows.{inColumn}
 use Rattle.cells.specs.declared.TableCells.{TableCells}
 
 -- the number of its table, from 1
 abbrev pub tableNumber : (bytes : List ℕ) → ℕ → ℕ
-tableNumber bytes i = inColumn bytes tableColumn i + 1
+tableNumber bytes i = inColumn bytes keptTableColumn i + 1
 
 -- its own number, from 1, in the table whose cells these are; 0 where it is in another
 unfoldable pub rowNumber : TableCells → ℕ → ℕ

@@ -11,23 +11,23 @@ use Rattle.lines.specs.Lines.{linesOf, nextLine}
 use Rattle.lines.specs.Columns.{partOf}
 use Rattle.lines.specs.declared.walk.NextLine.{NextLine}
 use Rattle.lines.proofs.LineLaws.{lines-next, lines-none}
-use Rattle.scripts.specs.Words.{wordOf, textOf, settingOf, questionOf}
-use Rattle.running.specs.Script.{Standing, next, nextBy, taken, answered, setBy, unreadLine, afterLines, standingIn}
+use Rattle.scripts.specs.Words.{wordOf, afterWord, settingOf, questionOf}
+use Rattle.running.specs.Script.{Standing, nextStanding, nextBy, taken, underQuestion, setBy, unreadLine, afterLines, standingIn}
 use Rattle.running.specs.declared.Standing as held
 use Rattle.tallies.specs.declared.Tally.{Tally}
 use Rattle.questions.specs.declared.Judged.{Judged}
 use Rattle.answers.specs.declared.compare.Verdict.the-variants.{Unread}
 use Rattle.limit_state.specs.declared.state.LimitState.{LimitState}
 use Rattle.laws.proofs.Cases.{bool-cases, false≢true}
-use Rattle.areas.specs.Memory.{areaIn, tablesIn, packetArea}
+use Rattle.areas.specs.Memory.{areaIn, areaTables, packetArea}
 use Rattle.settings.specs.Settings.{Settled, setLine, settingCount}
 use Rattle.questions.specs.Questions.{judged}
 use Rattle.running.specs.Script.{stood, firstStanding}
-use Rattle.tallies.specs.Totals.{counted, noTally}
+use Rattle.tallies.specs.Totals.{tallyAfter, noTally}
 
 module _ (s : Standing) (text : List ℕ) (from : ℕ) where
   pub lines-more : (n : NextLine) → n ≡ nextLine text from → from < length text
-      → afterLines s (linesOf (drop from text)) ≡ afterLines (next s (partOf text from (n .end))) (linesOf (drop (n .next) text))
+      → afterLines s (linesOf (drop from text)) ≡ afterLines (nextStanding s (partOf text from (n .end))) (linesOf (drop (n .next) text))
   unfolding afterLines
   lines-more n e h = rw (lines-next text from n e h)
 
@@ -36,12 +36,12 @@ module _ (s : Standing) (text : List ℕ) (from : ℕ) where
   lines-end h = rw (lines-none text from h)
 
 module _ (s : Standing) (line : List ℕ) where
-  pub next-answer : (question : List ℕ) → s .waits ≡ some question → answered s question line ≡ next s line
-  unfolding next nextBy
+  pub next-answer : (question : List ℕ) → s .waits ≡ some question → underQuestion s question line ≡ nextStanding s line
+  unfolding nextStanding nextBy
   next-answer question e = rw e
 
-  pub next-taken : s .waits ≡ none → taken s line ≡ next s line
-  unfolding next nextBy
+  pub next-taken : s .waits ≡ none → taken s line ≡ nextStanding s line
+  unfolding nextStanding nextBy
   next-taken e = rw e
 
 module _ (s : Standing) where
@@ -62,7 +62,7 @@ module _ (s : Standing) where
   taken-question (b ∷ bs) h n q = rw (ne-eqb b 35 n, lt-ltb (questionOf (wordOf (b ∷ bs))) 12 q)
 
   pub taken-setting : (line : List ℕ) → 0 < length line → (getD line 0 0 ≡ 35 → ⊥) → 12 ≤ questionOf (wordOf line) → settingOf (wordOf line) < settingCount
-      → setBy s (settingOf (wordOf line)) (textOf line) ≡ taken s line
+      → setBy s (settingOf (wordOf line)) (afterWord line) ≡ taken s line
   unfolding taken
   taken-setting [] h n q k = absurd (omega arith)
   taken-setting (b ∷ bs) h n q k =
@@ -101,10 +101,10 @@ module _ (space ends : List ℕ) (state : LimitState) (tally : Tally) (r : held.
   after = record { space = space; ends = ends; state = r .state; waits = none; tally = r .tally }
 
   pub answered-is : (question line : List ℕ) (k : ℕ) (j : Judged) → k ≡ questionOf (wordOf question)
-      → j ≡ judged k (tablesIn (record { space = space; ends = ends })) (areaIn (record { space = space; ends = ends }) packetArea)
-      (textOf question) state line
-      → r ≡ stood (j .state) (counted tally k (j .verdict)) → after ≡ answered before question line
-  unfolding answered stood
+      → j ≡ judged k (areaTables (record { space = space; ends = ends })) (areaIn (record { space = space; ends = ends }) packetArea)
+      (afterWord question) state line
+      → r ≡ stood (j .state) (tallyAfter tally k (j .verdict)) → after ≡ underQuestion before question line
+  unfolding underQuestion stood
   answered-is question line k j ek ej er = rw (er, ej, ek)
 
   module _ (k : ℕ) (raw : List ℕ) (l : Settled) (el : l ≡ setLine k (record { space = space; ends = ends }) state raw) where
@@ -113,7 +113,7 @@ module _ (space ends : List ℕ) (state : LimitState) (tally : Tally) (r : held.
     unfolding setBy stood
     set-read t er = rw (er, ← el, t)
 
-    pub set-unread : l .readable ≡ false → r ≡ stood (l .state) (counted tally 0 Unread)
+    pub set-unread : l .readable ≡ false → r ≡ stood (l .state) (tallyAfter tally 0 Unread)
         → record { space = l .space; ends = l .ends; state = r .state; waits = none; tally = r .tally } ≡ setBy before k raw
     unfolding setBy stood
     set-unread t er = rw (er, ← el, t)
@@ -128,16 +128,16 @@ first-standing text space ends r e = rw e
 module _ (text space ends : List ℕ) (s r : held.Standing) where
   pub next-answered : (line : List ℕ) → s .waits ≡ true → r ≡ stood (r .state) (r .tally)
       → record { space = space; ends = ends; state = r .state; waits = none; tally = r .tally }
-      ≡ answered (record { space = space; ends = ends; state = s .state; waits = none; tally = s .tally }) (partOf text (s .from) (s .to)) line
-      → standingIn text space ends r ≡ next (standingIn text space ends s) line
-  unfolding standingIn next nextBy answered stood
+      ≡ underQuestion (record { space = space; ends = ends; state = s .state; waits = none; tally = s .tally }) (partOf text (s .from) (s .to)) line
+      → standingIn text space ends r ≡ nextStanding (standingIn text space ends s) line
+  unfolding standingIn nextStanding nextBy underQuestion stood
   next-answered line w e p = rw w (rw (ap (λ (x : held.Standing). x .waits) e) p)
 
   pub next-line : (space′ ends′ : List ℕ) (from to : ℕ) → s .waits ≡ false → (r .waits ≡ true → (r .from ≡ from) × (r .to ≡ to))
       → record { space = space′; ends = ends′; state = r .state; waits = cond (r .waits) (some (partOf text from to)) none; tally = r .tally }
       ≡ taken (record { space = space; ends = ends; state = s .state; waits = none; tally = s .tally }) (partOf text from to)
-      → standingIn text space′ ends′ r ≡ next (standingIn text space ends s) (partOf text from to)
-  unfolding standingIn next nextBy
+      → standingIn text space′ ends′ r ≡ nextStanding (standingIn text space ends s) (partOf text from to)
+  unfolding standingIn nextStanding nextBy
   next-line space′ ends′ from to w f p =
       rw w
       (bool-cases (r .waits)

@@ -14,8 +14,8 @@ use Rattle.lines.specs.Columns.{partOf, columnsOf, columnsFrom}
 use Rattle.lines.specs.Names.{nameOf, sameName, sameBytes}
 use Rattle.fields.specs.Text.{partAt}
 use Rattle.limit_state.specs.declared.state.LimitState.{LimitState}
-use Rattle.scripts.specs.Words.{wordOf, textOf, upto, placeOf, settingOf, questionOf}
-use Rattle.scripts.specs.Escapes.{unescaped, within, before, beforeByte, plain}
+use Rattle.scripts.specs.Words.{wordOf, afterWord, upto, wordPlace, settingOf, questionOf}
+use Rattle.scripts.specs.Escapes.{unescaped, whereRoom, before, beforeByte, plain}
 use Rattle.answers.specs.declared.compare.Verdict.the-variants.{Unread}
 use Rattle.answers.specs.Answers.{saying, composed, integerAnswer, wordsAnswer}
 use Rattle.answers.specs.Spoken.{spoken, signText, spelled, decimal, places, cellsText}
@@ -25,11 +25,11 @@ use Rattle.questions.specs.declared.Judged.{Judged}
 use Rattle.questions.specs.Questions.{judged, judgedBytes, judgedText, questionBytes, questionVerdict}
 use Rattle.packet_questions.specs.PacketReplies.{replyTo}
 use Rattle.tables.specs.Parts as tables
-use Rattle.areas.specs.Memory.{Memory, memory, areaIn, tablesIn, cleared, firstCleared, allCleared, packetArea, areaCount}
+use Rattle.areas.specs.Memory.{Memory, memory, areaIn, areaTables, cleared, firstCleared, allCleared, packetArea, areaCount}
 use Rattle.settings.specs.Settings.{Settled, setLine, settingCount}
 use Rattle.tallies.specs.declared.Tally.{Tally}
 use Rattle.running.specs.declared.Standing as held
-use Rattle.tallies.specs.Totals.{plus, counted, noTally}
+use Rattle.tallies.specs.Totals.{plus, tallyAfter, noTally}
 
 -- the tables and the packet, the limit state, the question that waits for its answer, and the tally so far
 pub record Standing : Type 0 where
@@ -43,26 +43,26 @@ abbrev pub standing : (space ends : List ℕ) → LimitState → Option (List �
 standing space ends state waits tally = record { space = space; ends = ends; state = state; waits = waits; tally = tally }
 
 -- the line under a question
-unfoldable pub answered : Standing → (question line : List ℕ) → Standing
-answered s question line =
+unfoldable pub underQuestion : Standing → (question line : List ℕ) → Standing
+underQuestion s question line =
     let m : Memory = memory (s .space) (s .ends) in
-    let j : Judged = judged (questionOf (wordOf question)) (tablesIn m) (areaIn m packetArea) (textOf question) (s .state) line in
+    let j : Judged = judged (questionOf (wordOf question)) (areaTables m) (areaIn m packetArea) (afterWord question) (s .state) line in
     record {
       space = s .space;
       ends = s .ends;
       state = j .state;
       waits = none;
-      tally = counted (s .tally) (questionOf (wordOf question)) (j .verdict);
+      tally = tallyAfter (s .tally) (questionOf (wordOf question)) (j .verdict);
     }
 
 -- a line that sets something, by its word's place in the list of settings
 unfoldable pub setBy : Standing → ℕ → List ℕ → Standing
 setBy s k raw =
     let l : Settled = setLine k (memory (s .space) (s .ends)) (s .state) raw in
-    record { space = l .space; ends = l .ends; state = l .state; waits = none; tally = cond (l .readable) (s .tally) (counted (s .tally) 0 Unread) }
+    record { space = l .space; ends = l .ends; state = l .state; waits = none; tally = cond (l .readable) (s .tally) (tallyAfter (s .tally) 0 Unread) }
 
 unfoldable pub unreadLine : Standing → Standing
-unreadLine s = record { space = s .space; ends = s .ends; state = s .state; waits = none; tally = counted (s .tally) 0 Unread }
+unreadLine s = record { space = s .space; ends = s .ends; state = s .state; waits = none; tally = tallyAfter (s .tally) 0 Unread }
 
 -- a comment, a question, a setting, or none of them
 unfoldable pub taken : Standing → List ℕ → Standing
@@ -71,24 +71,24 @@ taken s (b ∷ bs) =
     cond (eqb b (char "#")) s
     (cond (ltb (questionOf (wordOf (b ∷ bs))) 12)
     (record { space = s .space; ends = s .ends; state = s .state; waits = some (b ∷ bs); tally = s .tally })
-    (cond (ltb (settingOf (wordOf (b ∷ bs))) settingCount) (setBy s (settingOf (wordOf (b ∷ bs))) (textOf (b ∷ bs))) (unreadLine s)))
+    (cond (ltb (settingOf (wordOf (b ∷ bs))) settingCount) (setBy s (settingOf (wordOf (b ∷ bs))) (afterWord (b ∷ bs))) (unreadLine s)))
 
 -- under a question a line is its answer
 unfoldable pub nextBy : Standing → List ℕ → Option (List ℕ) → Standing
 nextBy s line none = taken s line
-nextBy s line (some question) = answered s question line
+nextBy s line (some question) = underQuestion s question line
 
-unfoldable pub next : Standing → List ℕ → Standing
-next s line = nextBy s line (s .waits)
+unfoldable pub nextStanding : Standing → List ℕ → Standing
+nextStanding s line = nextBy s line (s .waits)
 
 unfoldable pub afterLines : Standing → List Line → Standing
 afterLines s [] = s
-afterLines s (l ∷ ls) = afterLines (next s (l .bytes)) ls
+afterLines s (l ∷ ls) = afterLines (nextStanding s (l .bytes)) ls
 
 -- a question that no line follows can't be read
 unfoldable pub closedBy : Tally → Option (List ℕ) → Tally
 closedBy tally none = tally
-closedBy tally (some question) = counted tally 0 Unread
+closedBy tally (some question) = tallyAfter tally 0 Unread
 
 unfoldable pub closing : Standing → Tally
 closing s = closedBy (s .tally) (s .waits)
@@ -130,9 +130,9 @@ pub record Examples : Type 0 where
 
 pub examples : Examples
 unfolding
-    tallyOf closing closedBy afterLines next nextBy taken answered counted plus setBy unreadLine firstStanding noTally
-    allCleared firstCleared cleared linesOf lead onFirst wordOf textOf upto placeOf settingOf questionOf columnsOf columnsFrom nameOf sameName sameBytes
-    judged judgedBytes judgedText questionBytes within unescaped before beforeByte plain questionVerdict replyTo verdictOf
+    tallyOf closing closedBy afterLines nextStanding nextBy taken underQuestion tallyAfter plus setBy unreadLine firstStanding noTally
+    allCleared firstCleared cleared linesOf lead onFirst wordOf afterWord upto wordPlace settingOf questionOf columnsOf columnsFrom nameOf sameName sameBytes
+    judged judgedBytes judgedText questionBytes whereRoom unescaped before beforeByte plain questionVerdict replyTo verdictOf
     numberAnswer integerAnswer wordsAnswer saying composed numberOf meaning spelt after digitOn digitOf answerOf
-    spoken signText spelled decimal places partAt cellsText tablesIn areaIn tables.tablesIn tables.tableIn tabulate
+    spoken signText spelled decimal places partAt cellsText areaTables areaIn tables.tablesIn tables.tableIn tabulate
 examples = record { four = refl }

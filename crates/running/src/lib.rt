@@ -26,9 +26,10 @@ ghost use mathlib.Core.Option.{some, none};
 ghost use mathlib.Core.List.{List};
 ghost use Prim.Native.Nat.{ℕ};
 ghost use Rattle.lines.specs.Columns.{partOf};
-ghost use Rattle.scripts.specs.Words.{textOf};
+ghost use Rattle.scripts.specs.Words.{afterWord};
 ghost use Rattle.lines.specs.Lines.{linesOf};
-ghost use Rattle.running.specs.Script.{standing, answered, setBy, taken, firstStanding, afterLines, closing, tallyOf, stood, standingIn, next};
+ghost use Rattle.running.specs.Script.{standing, underQuestion, setBy, taken, firstStanding, afterLines, closing, tallyOf, stood, standingIn};
+ghost use Rattle.running.specs.Script.{nextStanding};
 
 // The limit state; the question that waits for its answer, as its place in the text; and the tally.
 pub(crate) struct Standing {
@@ -73,7 +74,7 @@ fn take_answer(
     tally: Tally,
 ) -> Standing
     ensures { λ r. ⌜ standing (now (space .entry)) (now (ends .entry)) (r .state) none (r .tally)
-        ≡ answered (standing (now (space .entry)) (now (ends .entry)) state none tally) (now (question .entry)) (now (line .entry)) ⌝ }
+        ≡ underQuestion (standing (now (space .entry)) (now (ends .entry)) state none tally) (now (question .entry)) (now (line .entry)) ⌝ }
     ensures { λ r. ⌜ r ≡ stood (r .state) (r .tally) ⌝ }
 {
     let k = question_of(word_of(question));
@@ -105,7 +106,7 @@ fn take_setting(
     tally: Tally,
 ) -> Standing
     ensures { λ r. ⌜ standing (now (space .exit)) (now (ends .exit)) (r .state) none (r .tally)
-        ≡ setBy (standing (now (space .entry)) (now (ends .entry)) state none tally) k (textOf (now (line .entry))) ⌝ }
+        ≡ setBy (standing (now (space .entry)) (now (ends .entry)) state none tally) k (afterWord (now (line .entry))) ⌝ }
     ensures { λ r. ⌜ r ≡ stood (r .state) (r .tally) ⌝ }
 {
     let l = set_line(k, text_of(line), space, ends, state);
@@ -168,7 +169,7 @@ fn take_next(
     s: Standing,
 ) -> Standing
     ensures { λ r. ⌜ standingIn (now (text .entry)) (now (space .exit)) (now (ends .exit)) r
-        ≡ next (standingIn (now (text .entry)) (now (space .entry)) (now (ends .entry)) s) (partOf (now (text .entry)) from to) ⌝ }
+        ≡ nextStanding (standingIn (now (text .entry)) (now (space .entry)) (now (ends .entry)) s) (partOf (now (text .entry)) from to) ⌝ }
 {
     let line = part(text, from, to);
     let state = s.state;

@@ -15,7 +15,7 @@ use lib.Signed.{leZ}
 use Rattle.laws.proofs.Cases.{cond-cases}
 use Rattle.numbers.specs.Number.{numberOf}
 use Rattle.numbers.proofs.Answers.{Large, large-outside}
-use Rattle.schemas.specs.Schema.{Kind, anyText, aNumber, aLetter, Column}
+use Rattle.schemas.specs.Schema.{ColumnKind, anyText, aNumber, aLetter, Column}
 use Rattle.schemas.specs.Reasons.{isIn, listed, numberReason, kindReason, columnReason}
 use Rattle.schemas.specs.Constants.{letterLists, lettersAt}
 
@@ -73,7 +73,7 @@ unfolding numberReason
 number-small lowest highest none = lit≤ tt
 number-small lowest highest (some v) = cond-cases (λ (x : ℕ). x ≤ 7) (leZ lowest v && leZ v highest) (λ _. lit≤ tt) (λ _. lit≤ tt)
 
-kind-small : (k : Kind) (text : List ℕ) → kindReason k text ≤ 7
+kind-small : (k : ColumnKind) (text : List ℕ) → kindReason k text ≤ 7
 unfolding kindReason
 kind-small anyText text = lit≤ tt
 kind-small (aNumber lowest highest) text = number-small lowest highest (numberOf text)

@@ -18,7 +18,7 @@ use Rattle.schemas.specs.Schema.{Column, text}
 use Rattle.schemas.specs.Tables.{schema, pid, pic, plf, pcf, caf, cap, txf, txp, ocf, ocp}
 use Rattle.schemas.specs.declared.Table.{Table}
 use Rattle.schemas.specs.declared.Table.the-variants.{Pid, Pic, Plf, Pcf, Caf, Cap, Txf, Txp, Ocf, Ocp}
-use Rattle.schemas.specs.Reasons.{verdict, orLater, columnReason, firstReason, reasonFrom, longestRow, lineOf, shape, shapeBy}
+use Rattle.schemas.specs.Reasons.{reasonAt, orLater, columnReason, firstReason, reasonFrom, longestRow, lineOf, shape, shapeBy}
 use Rattle.schemas.specs.Constants.{Alike, columnFrom, schemaFrom}
 
 -- ---- a schema by its constants
@@ -81,7 +81,7 @@ module _ (ws ms ks : List ℕ) (alike : Alike ws ms ks) (at : ℕ → List ℕ) 
         ∙ c .same
 
     -- a reason ends the walk there
-    pub checking-stop : (r ≡ 0 → ⊥) → verdict r (k + 1) ≡ reasonFrom 0 (schemaFrom ws ms ks) at
+    pub checking-stop : (r ≡ 0 → ⊥) → reasonAt r (k + 1) ≡ reasonFrom 0 (schemaFrom ws ms ks) at
     checking-stop z = sym (rw (ne-eqb r 0 z)) ∙ step
 
     pub checking-more : r ≡ 0 → Checking (schemaFrom ws ms ks) at (k + 1)
@@ -132,7 +132,7 @@ pub shape-walked : (columns : List Column) → length columns ≤ 24 → (line e
 unfolding shapeBy shape
 shape-walked columns few line ends e walk ended p q f =
     rw (p, q, f)
-    (ap (λ (v : ℕ). cond (not ended || ltb longestRow (length line)) (verdict 1 0) (cond (foreignIn line) (verdict 2 0) v))
+    (ap (λ (v : ℕ). cond (not ended || ltb longestRow (length line)) (reasonAt 1 0) (cond (foreignIn line) (reasonAt 2 0) v))
     (bool-cases (eqb (length (columnsOf line)) (length columns))
     (λ t. rw t (reason-texts 0 columns (columnIn line ends) (columnsOf line) (eqb-true _ _ t)
     (λ j h. ap (columnIn line ends) (omega arith) ∙ column-is line ends j e (omega arith))))

@@ -7,7 +7,7 @@ use lib.Dec.{eqb, ltb}
 use lib.ListN.{length, getD}
 use lib.IntN.{ℤ, pos, negℤ}
 use Rattle.laws.specs.Text.{ascii}
-use Rattle.schemas.specs.Schema.{Kind, anyText, aNumber, aLetter, Column}
+use Rattle.schemas.specs.Schema.{ColumnKind, anyText, aNumber, aLetter, Column}
 
 -- the ranges that 01 prints, by the number of their kind; kind 0 is any text
 unfoldable pub lowests : List ℤ
@@ -32,7 +32,7 @@ lettersAt k = getD letterLists (k - 128) []
 unfoldable pub allLetters : List ℕ
 allLetters = ascii "YNNSTRDPHSCPFIURDHOUCRAISHDCE"
 
-unfoldable pub kindAt : ℕ → Kind
+unfoldable pub kindAt : ℕ → ColumnKind
 kindAt k =
     cond (eqb k 0) anyText
     (cond (ltb k 128) (aNumber (getD lowests k (pos 0)) (getD highests k (pos 0)))

@@ -13,17 +13,17 @@ use Rattle.numbers.specs.Number.{numberOf, meaning, spelt, after, digitOn, digi
 use Rattle.lines.specs.Lines.{Line}
 use Rattle.lines.specs.Columns.{columnsOf, columnsFrom, printable, allowed, foreignIn}
 use Rattle.lines.specs.declared.columns.Scanned.{Scanned}
-use Rattle.schemas.specs.Schema.{Kind, anyText, aNumber, aLetter, Column}
+use Rattle.schemas.specs.Schema.{ColumnKind, anyText, aNumber, aLetter, Column}
 use Rattle.schemas.specs.Tables.{schema, cap}
 use Rattle.schemas.specs.declared.Table.the-variants.{Cap}
 
 -- 01: "A verdict is reason × 256 + column"
-abbrev pub verdict : ℕ → ℕ → ℕ
-verdict reason column = reason * 256 + column
+abbrev pub reasonAt : ℕ → ℕ → ℕ
+reasonAt reason column = reason * 256 + column
 
 -- a reason, if there is one, with its column; else what comes after it
 abbrev pub orLater : ℕ → ℕ → ℕ → ℕ
-orLater reason column later = cond (eqb reason 0) later (verdict reason column)
+orLater reason column later = cond (eqb reason 0) later (reasonAt reason column)
 
 -- the byte is one of a list
 unfoldable pub isIn : ℕ → List ℕ → Bool
@@ -40,7 +40,7 @@ unfoldable pub numberReason : ℤ → ℤ → Option ℤ → ℕ
 numberReason lowest highest none = 6
 numberReason lowest highest (some v) = cond (leZ lowest v && leZ v highest) 0 7
 
-unfoldable pub kindReason : Kind → List ℕ → ℕ
+unfoldable pub kindReason : ColumnKind → List ℕ → ℕ
 kindReason anyText t = 0
 kindReason (aNumber lowest highest) t = numberReason lowest highest (numberOf t)
 kindReason (aLetter letters) t = cond (listed letters t) 0 6
@@ -63,9 +63,9 @@ longestRow = 512
 -- 01: "1 unterminated or too long, 2 foreign byte, 3 column count, each column 0; then by column, left to right"
 unfoldable pub shape : List Column → Line → ℕ
 shape columns line =
-    cond (not (line .ended) || ltb longestRow (length (line .bytes))) (verdict 1 0)
-    (cond (foreignIn (line .bytes)) (verdict 2 0)
-    (cond (not (eqb (length (columnsOf (line .bytes))) (length columns))) (verdict 3 0)
+    cond (not (line .ended) || ltb longestRow (length (line .bytes))) (reasonAt 1 0)
+    (cond (foreignIn (line .bytes)) (reasonAt 2 0)
+    (cond (not (eqb (length (columnsOf (line .bytes))) (length columns))) (reasonAt 3 0)
     (firstReason 1 columns (columnsOf (line .bytes)))))
 
 abbrev pub lineOf : List ℕ → Bool → Line
@@ -79,12 +79,13 @@ reasonFrom k (c ∷ cs) at = orLater (columnReason c (at k)) (suc k) (reasonFrom
 -- the shape of a line of so many bytes by what a walk over it told, and by the texts of its columns
 unfoldable pub shapeBy : List Column → Scanned → (bytes : ℕ) → (ℕ → List ℕ) → ℕ
 shapeBy columns walk bytes at =
-    cond (not (walk .ended) || ltb longestRow bytes) (verdict 1 0)
-    (cond (walk .foreign) (verdict 2 0)
-    (cond (not (eqb (walk .count) (length columns))) (verdict 3 0)
+    cond (not (walk .ended) || ltb longestRow bytes) (reasonAt 1 0)
+    (cond (walk .foreign) (reasonAt 2 0)
+    (cond (not (eqb (walk .count) (length columns))) (reasonAt 3 0)
     (reasonFrom 0 columns at)))
 
 -- a cap row: C1, TAB, 5, TAB, 08: "08 is reason 6", at column 3
-pub example : shape (schema Cap) (lineOf (67 ∷ 49 ∷ 9 ∷ 53 ∷ 9 ∷ 48 ∷ 56 ∷ []) true) ≡ verdict 6 3
-unfolding shape schema cap foreignIn allowed printable columnsOf columnsFrom firstReason columnReason kindReason numberReason numberOf meaning spelt after digitOn digitOf
+pub example : shape (schema Cap) (lineOf (67 ∷ 49 ∷ 9 ∷ 53 ∷ 9 ∷ 48 ∷ 56 ∷ []) true) ≡ reasonAt 6 3
+unfolding shape schema cap foreignIn allowed printable columnsOf columnsFrom firstReason columnReason kindReason numberReason numberOf meaning spelt after
+    digitOn digitOf
 example = refl

@@ -5,16 +5,16 @@ use mathlib.Core.Bool.{Bool, true, false}
 use lib.IntN.{ℤ, pos}
 
 -- what a column may hold: any text, a number from lowest to highest, or one letter of a list
-pub data Kind : Type 0 where
-  anyText : Kind
-  aNumber : (lowest highest : ℤ) → Kind
-  aLetter : (letters : List ℕ) → Kind
+pub data ColumnKind : Type 0 where
+  anyText : ColumnKind
+  aNumber : (lowest highest : ℤ) → ColumnKind
+  aLetter : (letters : List ℕ) → ColumnKind
 
 -- 01: "Columns (width; ! mandatory; unlisted rules are width only)"
 pub record Column : Type 0 where
   pub width : ℕ
   pub mandatory : Bool
-  pub kind : Kind
+  pub kind : ColumnKind
 
 -- columns as 01 prints them; with ! they are mandatory
 abbrev pub text : ℕ → Column

@@ -11,7 +11,7 @@ use lines::columns::column;
 ghost use mathlib.Core.Path.{_≡_};
 ghost use lib.ListN.{length};
 ghost use Rattle.lines.specs.Columns.{columnIn};
-ghost use Rattle.schemas.specs.Reasons.{verdict, reasonFrom, shapeBy};
+ghost use Rattle.schemas.specs.Reasons.{reasonAt, reasonFrom, shapeBy};
 ghost use Rattle.schemas.specs.Constants.{Alike, schemaFrom};
 
 // The tables that the rack carries, in their order.
@@ -33,7 +33,7 @@ const LONGEST_ROW: usize = 512;
 
 // Reason and column in one number.
 pub fn verdict_of(reason: u8, column: u8) -> u16
-    ensures { λ r. ⌜ r ≡ verdict reason column ⌝ }
+    ensures { λ r. ⌜ r ≡ reasonAt reason column ⌝ }
 {
     (reason as u16) * 256 + (column as u16)
 }

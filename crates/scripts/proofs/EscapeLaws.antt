@@ -14,7 +14,7 @@ use borrow.Author.Tests.{eq-eqb, ne-eqb, lt-ltb, le-ltb, ltb-true, ltb-false}
 use Rattle.laws.proofs.Lists.{split}
 use Rattle.laws.proofs.Cases.{bool-cases, false≢true}
 use Rattle.lines.specs.Columns.{partOf}
-use Rattle.scripts.specs.Escapes.{byteAt, before, beforeByte, plain, unescaped, hexBytes, within, isOpen, ended, rowBytes}
+use Rattle.scripts.specs.Escapes.{byteAt, before, beforeByte, plain, unescaped, hexBytes, whereRoom, isOpen, endedRow, rowBytes}
 
 -- bytes that are read, and what is still to be read
 unfoldable pub joined : List ℕ → Option (List ℕ) → Option (List ℕ)
@@ -114,28 +114,28 @@ pub hex-end : (raw : List ℕ) (i : ℕ) → length raw ≤ i → hexBytes (drop
 unfolding hexBytes
 hex-end raw i h = rw (drop-of-length-le raw h)
 
-pub fits : (room : ℕ) (raw : List ℕ) (o : Option (List ℕ)) → length raw ≤ room → within room raw o ≡ o
-unfolding within
+pub fits : (room : ℕ) (raw : List ℕ) (o : Option (List ℕ)) → length raw ≤ room → whereRoom room raw o ≡ o
+unfolding whereRoom
 fits room raw o h = rw (le-ltb room (length raw) h)
 
-pub fits-not : (room : ℕ) (raw : List ℕ) (o : Option (List ℕ)) → room < length raw → within room raw o ≡ none
-unfolding within
+pub fits-not : (room : ℕ) (raw : List ℕ) (o : Option (List ℕ)) → room < length raw → whereRoom room raw o ≡ none
+unfolding whereRoom
 fits-not room raw o h = rw (lt-ltb room (length raw) h)
 
 -- Rows
 
 -- a row needs a byte more than its line
-pub row-fits : (room : ℕ) (raw : List ℕ) (o : Option (List ℕ)) → length raw < room → within room (raw ++ 10 ∷ []) o ≡ o
+pub row-fits : (room : ℕ) (raw : List ℕ) (o : Option (List ℕ)) → length raw < room → whereRoom room (raw ++ 10 ∷ []) o ≡ o
 row-fits room raw o h = fits room (raw ++ 10 ∷ []) o (omega (arith, length-append raw (10 ∷ [])))
 
-pub row-fits-not : (room : ℕ) (raw : List ℕ) (o : Option (List ℕ)) → room ≤ length raw → within room (raw ++ 10 ∷ []) o ≡ none
+pub row-fits-not : (room : ℕ) (raw : List ℕ) (o : Option (List ℕ)) → room ≤ length raw → whereRoom room (raw ++ 10 ∷ []) o ≡ none
 row-fits-not room raw o h = fits-not room (raw ++ 10 ∷ []) o (omega (arith, length-append raw (10 ∷ [])))
 
 pub row-open : (raw : List ℕ) → isOpen raw ≡ true → rowBytes raw ≡ unescaped (take (length raw - 1) raw)
 unfolding rowBytes
 row-open raw e = rw e
 
-pub row-ended : (raw : List ℕ) → isOpen raw ≡ false → rowBytes raw ≡ ended (unescaped raw)
+pub row-ended : (raw : List ℕ) → isOpen raw ≡ false → rowBytes raw ≡ endedRow (unescaped raw)
 unfolding rowBytes
 row-ended raw e = rw e
 
@@ -150,14 +150,14 @@ open-some [] e = absurd (false≢true e)
 open-some (b ∷ bs) e = omega arith
 
 pub open-read : (room : ℕ) (raw : List ℕ) → length raw < room → isOpen raw ≡ true
-    → within room (partOf raw 0 (length raw - 1)) (unescaped (partOf raw 0 (length raw - 1))) ≡ within room (raw ++ 10 ∷ []) (rowBytes raw)
+    → whereRoom room (partOf raw 0 (length raw - 1)) (unescaped (partOf raw 0 (length raw - 1))) ≡ whereRoom room (raw ++ 10 ∷ []) (rowBytes raw)
 open-read room raw h e =
     let l : length (take (length raw - 1) raw) ≤ room = omega (arith, length-take (length raw - 1) raw) in
     rw (sub-zero (length raw - 1)) (fits room (take (length raw - 1) raw) _ l ∙ sym (row-fits room raw _ h ∙ row-open raw e))
 
 pub ended-read : (room : ℕ) (raw : List ℕ) {o : Option (List ℕ)} → length raw < room → isOpen raw ≡ false
-    → o ≡ within room raw (unescaped raw) → ended o ≡ within room (raw ++ 10 ∷ []) (rowBytes raw)
-ended-read room raw h e p = ap ended (p ∙ fits room raw _ (omega arith)) ∙ sym (row-fits room raw _ h ∙ row-ended raw e)
+    → o ≡ whereRoom room raw (unescaped raw) → endedRow o ≡ whereRoom room (raw ++ 10 ∷ []) (rowBytes raw)
+ended-read room raw h e p = ap endedRow (p ∙ fits room raw _ (omega arith)) ∙ sym (row-fits room raw _ h ∙ row-ended raw e)
 
 -- the first n bytes of a buffer, as a part of it
 pub read-part : (n : ℕ) (out : List ℕ) {o : Option (List ℕ)} → some (take n out) ≡ o → o ≡ some (partOf out 0 n)

@@ -11,7 +11,7 @@ use native.Mathlib.Nat.{sub-zero}
 use Rattle.lines.specs.Columns.{partOf}
 use Rattle.lines.proofs.ColumnLaws.{part-rest}
 use Rattle.lines.specs.Names.{nameOf, sameName}
-use Rattle.scripts.specs.Words.{upto, wordOf, textOf, placeOf}
+use Rattle.scripts.specs.Words.{upto, wordOf, afterWord, wordPlace}
 
 module _ (b : ℕ) (s : List ℕ) (i : ℕ) where
   pub upto-here : i < length s → getD s i 0 ≡ b → upto b (drop i s) ≡ 0
@@ -27,27 +27,27 @@ module _ (b : ℕ) (s : List ℕ) (i : ℕ) where
   upto-none h = rw (drop-of-length-le s h)
 
 module _ (word : List ℕ) (ws : List (List ℕ)) (k : ℕ) where
-  pub place-here : k < length ws → sameName (nameOf (getD ws k [])) (nameOf word) ≡ true → placeOf word (drop k ws) ≡ 0
-  unfolding placeOf
+  pub place-here : k < length ws → sameName (nameOf (getD ws k [])) (nameOf word) ≡ true → wordPlace word (drop k ws) ≡ 0
+  unfolding wordPlace
   place-here h e = rw (split ws k [] h, e)
 
   pub place-more : k < length ws → sameName (nameOf (getD ws k [])) (nameOf word) ≡ false
-      → placeOf word (drop k ws) ≡ suc (placeOf word (drop (k + 1) ws))
-  unfolding placeOf
+      → wordPlace word (drop k ws) ≡ suc (wordPlace word (drop (k + 1) ws))
+  unfolding wordPlace
   place-more h e = rw (split ws k [] h, e)
 
-  pub place-none : length ws ≤ k → placeOf word (drop k ws) ≡ 0
-  unfolding placeOf
+  pub place-none : length ws ≤ k → wordPlace word (drop k ws) ≡ 0
+  unfolding wordPlace
   place-none h = rw (drop-of-length-le ws h)
 
 pub word-is : (line : List ℕ) (e : ℕ) → e ≡ upto 32 line → partOf line 0 e ≡ wordOf line
 unfolding wordOf
 word-is line e h = rw (h, sub-zero)
 
-pub text-is : (line : List ℕ) (e : ℕ) → e ≡ upto 32 line → partOf line (e + 1) (length line) ≡ textOf line
-unfolding textOf
+pub text-is : (line : List ℕ) (e : ℕ) → e ≡ upto 32 line → partOf line (e + 1) (length line) ≡ afterWord line
+unfolding afterWord
 text-is line e h = part-rest line (e + 1) (length line) (omega arith) ∙ ap (λ (n : ℕ). drop (n + 1) line) h
 
-pub text-none : (line : List ℕ) (e : ℕ) → e ≡ upto 32 line → length line ≤ e → textOf line ≡ []
-unfolding textOf
+pub text-none : (line : List ℕ) (e : ℕ) → e ≡ upto 32 line → length line ≤ e → afterWord line ≡ []
+unfolding afterWord
 text-none line e h l = drop-of-length-le line {i = upto 32 line + 1} (omega arith)

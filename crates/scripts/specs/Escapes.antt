@@ -46,20 +46,20 @@ hexBytes (c ∷ []) = cond (eqb c (char " ")) (some []) none
 hexBytes (c ∷ d ∷ cs) = cond (eqb c (char " ")) (hexBytes (d ∷ cs)) (beforeByte (byteOf c d) (hexBytes cs))
 
 -- a line feed ends a row
-unfoldable pub ended : Option (List ℕ) → Option (List ℕ)
-ended none = none
-ended (some bs) = some (bs ++ 10 ∷ [])
+unfoldable pub endedRow : Option (List ℕ) → Option (List ℕ)
+endedRow none = none
+endedRow (some bs) = some (bs ++ 10 ∷ [])
 
 -- unless a `\` at the very end of the line leaves it out
 unfoldable pub isOpen : List ℕ → Bool
 isOpen raw = eqb (getD raw (length raw - 1) 0) (char "\\")
 
 unfoldable pub rowBytes : List ℕ → Option (List ℕ)
-rowBytes raw = cond (isOpen raw) (unescaped (take (length raw - 1) raw)) (ended (unescaped raw))
+rowBytes raw = cond (isOpen raw) (unescaped (take (length raw - 1) raw)) (endedRow (unescaped raw))
 
 -- a part of more bytes than there is room for can't be read
-unfoldable pub within : (room : ℕ) → List ℕ → Option (List ℕ) → Option (List ℕ)
-within room raw bytes = cond (ltb room (length raw)) none bytes
+unfoldable pub whereRoom : (room : ℕ) → List ℕ → Option (List ℕ) → Option (List ℕ)
+whereRoom room raw bytes = cond (ltb room (length raw)) none bytes
 
 -- what is read of a buffer
 unfoldable pub readIn : Bytes → List ℕ → Option (List ℕ)
@@ -67,9 +67,9 @@ readIn (Are n) out = some (take n out)
 readIn Unread out = none
 
 -- and that it is no more than so many bytes
-abbrev pub Counted : Bytes → ℕ → Type 0
-Counted (Are n) most = n ≤ most
-Counted Unread most = Unit {0}
+abbrev pub NoMoreThan : Bytes → ℕ → Type 0
+NoMoreThan (Are n) most = n ≤ most
+NoMoreThan Unread most = Unit {0}
 
 pub record Examples : Type 0 where
   pub row : rowBytes (ascii "A|\\7C") ≡ some (65 ∷ 9 ∷ 124 ∷ 10 ∷ [])
@@ -80,5 +80,5 @@ pub record Examples : Type 0 where
   pub half : hexBytes (ascii "080") ≡ none
 
 pub examples : Examples
-unfolding rowBytes isOpen unescaped hexBytes ended before beforeByte plain byteOf digitOf
+unfolding rowBytes isOpen unescaped hexBytes endedRow before beforeByte plain byteOf digitOf
 examples = record { row = refl; unended = refl; no-digit = refl; cut = refl; packet = refl; half = refl }

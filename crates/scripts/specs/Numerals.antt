@@ -35,15 +35,15 @@ integerOf (Value v) = integer.Is v
 integerOf NotNumber = integer.Unread
 integerOf Beyond = integer.Is (pos 1152921504606846976)
 
-unfoldable pub integerIn : List ℕ → Integer
-integerIn text = integerOf (answerOf (numberOf text))
+unfoldable pub integerText : List ℕ → Integer
+integerText text = integerOf (answerOf (numberOf text))
 
 pub record Examples : Type 0 where
   pub hexadecimal : naturalIn (ascii "0x10") ≡ natural.Is 16
   pub too-large : atMost 15 (naturalIn (ascii "0x10")) ≡ natural.Unread
   pub no-natural : naturalIn (ascii "-5") ≡ natural.Unread
-  pub negative : integerIn (ascii "-5") ≡ integer.Is (negsuc 4)
+  pub negative : integerText (ascii "-5") ≡ integer.Is (negsuc 4)
 
 pub examples : Examples
-unfolding naturalIn naturalOf atMost integerIn integerOf numberOf answerOf meaning spelt after digitOn digitOf
+unfolding naturalIn naturalOf atMost integerText integerOf numberOf answerOf meaning spelt after digitOn digitOf
 examples = record { hexadecimal = refl; too-large = refl; no-natural = refl; negative = refl }

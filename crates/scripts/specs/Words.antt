@@ -18,30 +18,30 @@ upto b (c ∷ cs) = cond (eqb c b) 0 (suc (upto b cs))
 unfoldable pub wordOf : List ℕ → List ℕ
 wordOf line = take (upto (char " ") line) line
 
-unfoldable pub textOf : List ℕ → List ℕ
-textOf line = drop (upto (char " ") line + 1) line
+unfoldable pub afterWord : List ℕ → List ℕ
+afterWord line = drop (upto (char " ") line + 1) line
 
 -- the place of a word among others, or their number
-unfoldable pub placeOf : List ℕ → List (List ℕ) → ℕ
-placeOf word [] = 0
-placeOf word (w ∷ ws) = cond (sameName (nameOf w) (nameOf word)) 0 (suc (placeOf word ws))
+unfoldable pub wordPlace : List ℕ → List (List ℕ) → ℕ
+wordPlace word [] = 0
+wordPlace word (w ∷ ws) = cond (sameName (nameOf w) (nameOf word)) 0 (suc (wordPlace word ws))
 
 -- the tables in 01's order, the packet, and the other words that set something; their number is none of them
 unfoldable pub settingOf : List ℕ → ℕ
-settingOf word = placeOf word (columnsOf (ascii "pid\tpic\tplf\tpcf\tcaf\tcap\ttxf\ttxp\tocf\tocp\tpacket\tpacket+\tfill\tclear\tstate"))
+settingOf word = wordPlace word (columnsOf (ascii "pid\tpic\tplf\tpcf\tcaf\tcap\ttxf\ttxp\tocf\tocp\tpacket\tpacket+\tfill\tclear\tstate"))
 
 -- the questions; 12 is none of them
 unfoldable pub questionOf : List ℕ → ℕ
-questionOf word = placeOf word (columnsOf (ascii "import\trow\tidentify\textract\tengineer\tstep\tnumber\twidth\tunsigned\tsigned\tstring\tline"))
+questionOf word = wordPlace word (columnsOf (ascii "import\trow\tidentify\textract\tengineer\tstep\tnumber\twidth\tunsigned\tsigned\tstring\tline"))
 
 pub record Examples : Type 0 where
   pub word : wordOf (ascii "extract T1|0") ≡ ascii "extract"
-  pub text : textOf (ascii "extract T1|0") ≡ ascii "T1|0"
-  pub alone : textOf (ascii "import") ≡ []
+  pub text : afterWord (ascii "extract T1|0") ≡ ascii "T1|0"
+  pub alone : afterWord (ascii "import") ≡ []
   pub eighth : settingOf (ascii "txp") ≡ 7
   pub none-such : settingOf (ascii "txq") ≡ 15
   pub fourth : questionOf (ascii "extract") ≡ 3
 
 pub examples : Examples
-unfolding wordOf textOf upto settingOf questionOf placeOf columnsOf columnsFrom nameOf sameName sameBytes
+unfolding wordOf afterWord upto settingOf questionOf wordPlace columnsOf columnsFrom nameOf sameName sameBytes
 examples = record { word = refl; text = refl; alone = refl; eighth = refl; none-such = refl; fourth = refl }

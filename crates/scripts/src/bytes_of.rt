@@ -6,7 +6,7 @@ ghost use mathlib.Core.List.{[], _∷_, _++_};
 ghost use Prim.Native.Nat.{_≤_, _<_};
 ghost use lib.ListN.{length, take};
 ghost use Rattle.numbers.specs.Number.{digitOf};
-ghost use Rattle.scripts.specs.Escapes.{byteOf, byteAt, unescaped, hexBytes, rowBytes, isOpen, ended, within, readIn, Counted};
+ghost use Rattle.scripts.specs.Escapes.{byteOf, byteAt, unescaped, hexBytes, rowBytes, isOpen, endedRow, whereRoom, readIn, NoMoreThan};
 ghost use Rattle.scripts.specs.Escapes.{plain as plainOf};
 
 // A byte more than a table may have, so that one that is too long can be asked about.
@@ -67,8 +67,8 @@ fn byte_at(raw: &[u8], i: usize) -> usize
 
 // A text: `\` and two digits are any byte.
 pub fn unescape(raw: &[u8], out: &mut [u8]) -> Bytes
-    ensures { λ r. ⌜ readIn r (now (out .exit)) ≡ within (length (now (out .entry))) (now (raw .entry)) (unescaped (now (raw .entry))) ⌝ }
-    ensures { λ r. ⌜ Counted r (length (now (raw .entry))) ⌝ }
+    ensures { λ r. ⌜ readIn r (now (out .exit)) ≡ whereRoom (length (now (out .entry))) (now (raw .entry)) (unescaped (now (raw .entry))) ⌝ }
+    ensures { λ r. ⌜ NoMoreThan r (length (now (raw .entry))) ⌝ }
 {
     if out.len() < raw.len() {
         return Bytes::Unread;
@@ -96,7 +96,7 @@ pub fn unescape(raw: &[u8], out: &mut [u8]) -> Bytes
 
 // Bytes of two digits each. A space may stand between two of them.
 pub fn read_hex(raw: &[u8], out: &mut [u8]) -> Bytes
-    ensures { λ r. ⌜ readIn r (now (out .exit)) ≡ within (length (now (out .entry))) (now (raw .entry)) (hexBytes (now (raw .entry))) ⌝ }
+    ensures { λ r. ⌜ readIn r (now (out .exit)) ≡ whereRoom (length (now (out .entry))) (now (raw .entry)) (hexBytes (now (raw .entry))) ⌝ }
 {
     if out.len() < raw.len() {
         return Bytes::Unread;
@@ -132,7 +132,7 @@ fn is_open(raw: &[u8]) -> bool
 // A line feed after the first n bytes.
 fn end_row(out: &mut [u8], n: usize) -> Bytes
     requires { ⌜ n < length (now out) ⌝ }
-    ensures { λ r. ⌜ readIn r (now (out .exit)) ≡ ended (some (take n (now (out .entry)))) ⌝ }
+    ensures { λ r. ⌜ readIn r (now (out .exit)) ≡ endedRow (some (take n (now (out .entry)))) ⌝ }
 {
     out[n] = 10;
     Bytes::Are(n + 1)
@@ -140,7 +140,7 @@ fn end_row(out: &mut [u8], n: usize) -> Bytes
 
 // A row: a line feed ends it, unless a `\` at the very end leaves it out.
 pub fn unescape_row(raw: &[u8], out: &mut [u8]) -> Bytes
-    ensures { λ r. ⌜ readIn r (now (out .exit)) ≡ within (length (now (out .entry))) (now (raw .entry) ++ 10 ∷ []) (rowBytes (now (raw .entry))) ⌝ }
+    ensures { λ r. ⌜ readIn r (now (out .exit)) ≡ whereRoom (length (now (out .entry))) (now (raw .entry) ++ 10 ∷ []) (rowBytes (now (raw .entry))) ⌝ }
 {
     if out.len() <= raw.len() {
         return Bytes::Unread;

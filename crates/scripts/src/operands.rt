@@ -12,7 +12,7 @@ ghost use Prim.Native.Nat.{_+_};
 ghost use lib.ListN.{length, drop};
 ghost use Rattle.lines.specs.Columns.{tab, columnsOf, columnAt};
 ghost use Rattle.scripts.specs.Words.{upto};
-ghost use Rattle.scripts.specs.Numerals.{naturalIn, atMost, integerIn};
+ghost use Rattle.scripts.specs.Numerals.{naturalIn, atMost, integerText};
 
 pub enum Natural {
     Is(u64),
@@ -57,7 +57,7 @@ pub fn natural_to(most: u64, text: &[u8]) -> Natural
 
 // One of 2^60 or more in magnitude stands for 2^60, which is in no column's range.
 fn integer_in(text: &[u8]) -> Integer
-    ensures { λ r. ⌜ r ≡ integerIn (now (text .entry)) ⌝ }
+    ensures { λ r. ⌜ r ≡ integerText (now (text .entry)) ⌝ }
 {
     match read_number(text) {
         Number::Value(v) => Integer::Is(v),
@@ -106,7 +106,7 @@ pub fn natural_at(most: u64, text: &[u8], k: usize) -> Natural
 }
 
 pub fn integer_at(text: &[u8], k: usize) -> Integer
-    ensures { λ r. ⌜ r ≡ integerIn (columnAt (columnsOf (now (text .entry))) k) ⌝ }
+    ensures { λ r. ⌜ r ≡ integerText (columnAt (columnsOf (now (text .entry))) k) ⌝ }
 {
     integer_in(column_at(text, k))
 }

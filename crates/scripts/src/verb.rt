@@ -8,7 +8,7 @@ ghost use mathlib.Core.Path.{_≡_};
 ghost use Prim.Native.Nat.{_≤_};
 ghost use lib.ListN.{length};
 ghost use Rattle.lines.specs.Columns.{columnsOf};
-ghost use Rattle.scripts.specs.Words.{upto, wordOf, textOf, placeOf, settingOf, questionOf};
+ghost use Rattle.scripts.specs.Words.{upto, wordOf, afterWord, wordPlace, settingOf, questionOf};
 
 // Where a byte first stands, or where the text ends.
 pub fn find_byte(text: &[u8], byte: u8) -> usize
@@ -32,7 +32,7 @@ pub fn word_of<'a>(line: &'a [u8]) -> &'a [u8]
 
 // What follows the first word and its space.
 pub fn text_of<'a>(line: &'a [u8]) -> &'a [u8]
-    ensures { λ r. ⌜ now r ≡ textOf (now (line .entry)) ⌝ }
+    ensures { λ r. ⌜ now r ≡ afterWord (now (line .entry)) ⌝ }
 {
     let end = find_byte(line, b' ');
     if end < line.len() {
@@ -43,7 +43,7 @@ pub fn text_of<'a>(line: &'a [u8]) -> &'a [u8]
 
 // The place of a word in a list divided by TAB, or how many words the list has.
 fn place_in(list: &[u8], word: &[u8]) -> usize
-    ensures { λ r. ⌜ r ≡ placeOf (now (word .entry)) (columnsOf (now (list .entry))) ⌝ }
+    ensures { λ r. ⌜ r ≡ wordPlace (now (word .entry)) (columnsOf (now (list .entry))) ⌝ }
 {
     let count = column_count(list);
     let name = name_of(word);

@@ -13,26 +13,26 @@ use Rattle.lines.specs.Columns.{columnsOf, columnAt}
 use Rattle.limit_state.specs.declared.state.LimitState.{LimitState}
 use Rattle.scripts.specs.declared.operands.Natural.{Natural}
 use Rattle.scripts.specs.declared.operands.Natural.the-variants as natural
-use Rattle.scripts.specs.Escapes.{byteOf, within, rowBytes, hexBytes, unescaped}
+use Rattle.scripts.specs.Escapes.{byteOf, whereRoom, rowBytes, hexBytes, unescaped}
 use Rattle.scripts.specs.Words.{settingOf}
 use Rattle.scripts.specs.Numerals.{naturalIn, atMost}
-use Rattle.areas.specs.Memory.{Memory, Kept, added, cleared, allCleared, packetArea, areaCount}
+use Rattle.areas.specs.Memory.{Memory, KeptMemory, added, cleared, allCleared, packetArea, areaCount}
 use Rattle.areas.specs.Memory.{unread}
 use Rattle.settings.specs.declared.SetLine.{SetLine}
 use Rattle.settings.specs.Settings.{settingBytes, byteIn, runBytes, addRun, addFill, clearNamed, packetMore, filling, clearing}
-use Rattle.settings.specs.Settings.{setArea, stateSetting, stateIn, settled, stateSet, memorySet, setText, setBytes, setLine}
+use Rattle.settings.specs.Settings.{setArea, stateSetting, stateText, settled, stateSet, memorySet, setText, setBytes, setLine}
 
 -- the bytes of a line, as they are read into a buffer of this length
 module _ (room k : ℕ) (raw : List ℕ) {o : Option (List ℕ)} where
-  pub bytes-row : o ≡ within room (raw ++ 10 ∷ []) (rowBytes raw) → room ≡ 65537 → k < packetArea → o ≡ settingBytes k raw
+  pub bytes-row : o ≡ whereRoom room (raw ++ 10 ∷ []) (rowBytes raw) → room ≡ 65537 → k < packetArea → o ≡ settingBytes k raw
   unfolding settingBytes
   bytes-row p e h = rw (lt-ltb k packetArea h) (rw e at p)
 
-  pub bytes-digits : o ≡ within room raw (hexBytes raw) → room ≡ 65537 → packetArea ≤ k → k < filling → o ≡ settingBytes k raw
+  pub bytes-digits : o ≡ whereRoom room raw (hexBytes raw) → room ≡ 65537 → packetArea ≤ k → k < filling → o ≡ settingBytes k raw
   unfolding settingBytes
   bytes-digits p e h l = rw (le-ltb k packetArea h, lt-ltb k filling l) (rw e at p)
 
-  pub bytes-text : o ≡ within room raw (unescaped raw) → room ≡ 65537 → filling ≤ k → o ≡ settingBytes k raw
+  pub bytes-text : o ≡ whereRoom room raw (unescaped raw) → room ≡ 65537 → filling ≤ k → o ≡ settingBytes k raw
   unfolding settingBytes
   bytes-text p e h = let l : packetArea ≤ k = omega arith in rw (le-ltb k packetArea l, le-ltb k filling h) (rw e at p)
 
@@ -100,11 +100,11 @@ module _ (k : ℕ) (m : Memory) (bytes : List ℕ) where
   area-row a b c = rw (ne-eqb k packetArea a, ne-eqb k packetMore b, ne-eqb k filling c)
 
 module _ (k : ℕ) (m : Memory) (s : LimitState) where
-  pub text-state : (text : List ℕ) {l : SetLine} → k ≡ stateSetting → l ≡ stateIn s text → stateSet m l ≡ setText k m s text
+  pub text-state : (text : List ℕ) {l : SetLine} → k ≡ stateSetting → l ≡ stateText s text → stateSet m l ≡ setText k m s text
   unfolding setText
   text-state text e p = rw (eq-eqb k stateSetting e, p)
 
-  pub text-memory : (text : List ℕ) {n : Kept} → (k ≡ stateSetting → ⊥) → n ≡ setArea k m text → memorySet s n ≡ setText k m s text
+  pub text-memory : (text : List ℕ) {n : KeptMemory} → (k ≡ stateSetting → ⊥) → n ≡ setArea k m text → memorySet s n ≡ setText k m s text
   unfolding setText
   text-memory text e p = rw (ne-eqb k stateSetting e, p)
 
@@ -116,7 +116,7 @@ module _ (k : ℕ) (m : Memory) (s : LimitState) where
   unfolding setBytes
   bytes-none o e = rw e
 
-  pub line-clear : (raw : List ℕ) {n : Kept} → k ≡ clearing → n ≡ clearNamed m raw → memorySet s n ≡ setLine k m s raw
+  pub line-clear : (raw : List ℕ) {n : KeptMemory} → k ≡ clearing → n ≡ clearNamed m raw → memorySet s n ≡ setLine k m s raw
   unfolding setLine
   line-clear raw e p = rw (eq-eqb k clearing e, p)
 
@@ -130,5 +130,5 @@ pub clear-any : (space ends ends′ name : List ℕ) (r : Bool)
     → record { readable = r; space = space; ends = ends′ } ≡ clearNamed (record { space = space; ends = ends }) name
 unfolding clearNamed unread
 clear-any space ends ends′ name r e =
-    ap (λ (k : Kept). record { readable = k .readable; space = space; ends = k .ends }) e
+    ap (λ (k : KeptMemory). record { readable = k .readable; space = space; ends = k .ends }) e
     ∙ bool-cases (eqb (length name) 0) (λ t. rw t) (λ t. bool-cases (ltb (settingOf name) areaCount) (λ u. rw (t, u)) (λ u. rw (t, u)))

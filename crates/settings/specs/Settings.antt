@@ -13,10 +13,10 @@ use Rattle.limit_state.specs.declared.state.LimitState.{LimitState}
 use Rattle.scripts.specs.declared.operands.Natural.{Natural}
 use Rattle.scripts.specs.declared.operands.Natural.the-variants as natural
 use Rattle.settings.specs.declared.SetLine.{SetLine}
-use Rattle.scripts.specs.Escapes.{byteOf, unescaped, hexBytes, rowBytes, within, before, beforeByte, plain}
+use Rattle.scripts.specs.Escapes.{byteOf, unescaped, hexBytes, rowBytes, whereRoom, before, beforeByte, plain}
 use Rattle.scripts.specs.Words.{settingOf}
 use Rattle.scripts.specs.Numerals.{naturalIn, naturalOf, atMost}
-use Rattle.areas.specs.Memory.{Memory, Kept, memory, kept, added, cleared, allCleared, packetArea, areaCount}
+use Rattle.areas.specs.Memory.{Memory, KeptMemory, memory, kept, added, cleared, allCleared, packetArea, areaCount}
 use Rattle.areas.specs.Memory.{unread}
 
 -- the places of the words that follow `packet` in the list of settings
@@ -39,8 +39,8 @@ settingCount = packetArea + 5
 -- the bytes of a line: a table's row, the digits of a packet, or a text, as far as a buffer of 65,537 bytes holds them
 unfoldable pub settingBytes : ℕ → List ℕ → Option (List ℕ)
 settingBytes k raw =
-    cond (ltb k packetArea) (within 65537 (raw ++ 10 ∷ []) (rowBytes raw))
-    (cond (ltb k filling) (within 65537 raw (hexBytes raw)) (within 65537 raw (unescaped raw)))
+    cond (ltb k packetArea) (whereRoom 65537 (raw ++ 10 ∷ []) (rowBytes raw))
+    (cond (ltb k filling) (whereRoom 65537 raw (hexBytes raw)) (whereRoom 65537 raw (unescaped raw)))
 
 -- the byte of two digits; 256 is none
 unfoldable pub byteIn : List ℕ → ℕ
@@ -50,12 +50,12 @@ byteIn text = cond (eqb (length text) 2) (byteOf (getD text 0 0) (getD text 1 0)
 unfoldable pub runBytes : (byte count : ℕ) → List ℕ
 runBytes byte count = partOf (replicate 65537 byte) 0 count
 
-unfoldable pub addRun : Memory → ℕ → (byte : ℕ) → Natural → Kept
+unfoldable pub addRun : Memory → ℕ → (byte : ℕ) → Natural → KeptMemory
 addRun m t byte (natural.Is count) = added m t (runBytes byte count)
 addRun m t byte natural.Unread = unread m
 
 -- PLACE|COUNT|BYTE
-unfoldable pub addFill : Memory → List ℕ → Kept
+unfoldable pub addFill : Memory → List ℕ → KeptMemory
 addFill m text =
     cond (eqb (length (columnsOf text)) 3)
     (cond (ltb 255 (byteIn (columnAt (columnsOf text) 2))) (unread m)
@@ -64,13 +64,13 @@ addFill m text =
     (unread m)
 
 -- `clear`, and `clear PLACE`
-unfoldable pub clearNamed : Memory → List ℕ → Kept
+unfoldable pub clearNamed : Memory → List ℕ → KeptMemory
 clearNamed m name =
     cond (eqb (length name) 0) (record { readable = true; space = m .space; ends = allCleared (m .ends) })
     (cond (ltb (settingOf name) areaCount) (record { readable = true; space = m .space; ends = cleared (m .ends) (settingOf name) }) (unread m))
 
 -- the memory after the bytes of a line: `packet HEX` and `packet+ HEX`, `fill`, or `TABLE ROW`
-unfoldable pub setArea : ℕ → Memory → List ℕ → Kept
+unfoldable pub setArea : ℕ → Memory → List ℕ → KeptMemory
 setArea k m bytes =
     cond (eqb k packetArea) (added (memory (m .space) (cleared (m .ends) packetArea)) packetArea bytes)
     (cond (eqb k packetMore) (added m packetArea bytes)
@@ -86,8 +86,8 @@ stateOf s (natural.Is fresh) (natural.Is apid) natural.Unread run announced = re
 stateOf s (natural.Is fresh) (natural.Is apid) (natural.Is count) natural.Unread announced = record { readable = false; state = s }
 stateOf s (natural.Is fresh) (natural.Is apid) (natural.Is count) (natural.Is run) natural.Unread = record { readable = false; state = s }
 
-unfoldable pub stateIn : LimitState → List ℕ → SetLine
-stateIn s text =
+unfoldable pub stateText : LimitState → List ℕ → SetLine
+stateText s text =
     cond (eqb (length (columnsOf text)) 5)
     (stateOf s (atMost 1 (naturalIn (columnAt (columnsOf text) 0)))
     (atMost 65535 (naturalIn (columnAt (columnsOf text) 1))) (atMost 65535 (naturalIn (columnAt (columnsOf text) 2)))
@@ -108,11 +108,11 @@ settled readable space ends state = record { readable = readable; space = space;
 abbrev pub stateSet : Memory → SetLine → Settled
 stateSet m l = settled (l .readable) (m .space) (m .ends) (l .state)
 
-abbrev pub memorySet : LimitState → Kept → Settled
+abbrev pub memorySet : LimitState → KeptMemory → Settled
 memorySet s m = settled (m .readable) (m .space) (m .ends) s
 
 unfoldable pub setText : ℕ → Memory → LimitState → List ℕ → Settled
-setText k m s text = cond (eqb k stateSetting) (stateSet m (stateIn s text)) (memorySet s (setArea k m text))
+setText k m s text = cond (eqb k stateSetting) (stateSet m (stateText s text)) (memorySet s (setArea k m text))
 
 -- a line whose bytes can't be read sets nothing
 unfoldable pub setBytes : ℕ → Memory → LimitState → Option (List ℕ) → Settled
@@ -130,6 +130,6 @@ pub record Examples (s : LimitState) : Type 0 where
 
 pub examples : (s : LimitState) → Examples s
 unfolding
-    setLine setBytes setText settingBytes hexBytes stateIn stateOf within unescaped before beforeByte plain byteOf
+    setLine setBytes setText settingBytes hexBytes stateText stateOf whereRoom unescaped before beforeByte plain byteOf
     columnsOf columnsFrom atMost naturalIn naturalOf numberOf answerOf meaning spelt after digitOn digitOf
 examples s = record { no-packet = refl; state = refl }

@@ -23,7 +23,7 @@ ghost use Prim.Native.Nat.{_≤_};
 ghost use Rattle.lines.specs.Columns.{partOf};
 ghost use Rattle.scripts.specs.Escapes.{readIn};
 ghost use Rattle.areas.specs.Memory.{memory, kept, added};
-ghost use Rattle.settings.specs.Settings.{settingBytes, byteIn, addFill, clearNamed, setArea, stateIn, settled, setText, setBytes, setLine};
+ghost use Rattle.settings.specs.Settings.{settingBytes, byteIn, addFill, clearNamed, setArea, stateText, settled, setText, setBytes, setLine};
 
 // The places of the words that follow `packet` in the list of settings, and how many words there are.
 const PACKET_MORE: usize = PACKET + 1;
@@ -99,7 +99,7 @@ fn clear_named(ends: &mut [usize], name: &[u8]) -> bool
 
 // FRESH|APID|COUNT|RUN|ANNOUNCED
 fn state_in(text: &[u8], state: LimitState) -> SetLine
-    ensures { λ r. ⌜ r ≡ stateIn state (now (text .entry)) ⌝ }
+    ensures { λ r. ⌜ r ≡ stateText state (now (text .entry)) ⌝ }
 {
     let none = SetLine {
         readable: false,

@@ -5,13 +5,13 @@ use mathlib.Core.Bool.{Bool, true, false}
 use mathlib.Core.List.{List}
 use lib.Dec.{leb}
 use borrow.Author.Tests.{eq-eqb, ne-eqb}
-use Rattle.outcomes.specs.Refusals.{numberOf, placeOf}
+use Rattle.outcomes.specs.Refusals.{refusalNumber, refusalPlace}
 use Rattle.outcomes.specs.declared.Refusal.{Refusal}
 use Rattle.accepting.specs.declared.step.Answer.{Answer}
 use Rattle.accepting.specs.declared.step.Answer.the-variants.{Taken, Refused}
 use Rattle.accepting.specs.declared.step.Stepped.{Stepped}
-use Rattle.showing.specs.Count.{countIn}
-use Rattle.showing.specs.Lines.{refusalIn, placeIn, lineOf}
+use Rattle.showing.specs.Count.{sequenceCountIn}
+use Rattle.showing.specs.Lines.{refusalIn, placeShown, printedLine}
 use Rattle.showing.specs.Stretches.{joins, extended, shown}
 use Rattle.showing.specs.declared.lines.Line.{Line}
 use Rattle.showing.specs.declared.stretches.Stretch.{Stretch}
@@ -23,13 +23,13 @@ lineWith number count refusal place r =
     record { number = number; count = count; refusal = refusal; place = place; run = r .state .run; announced = r .state .announced }
 
 module _ (number count : ℕ) (r : Stepped) where
-  pub line-taken : r .answer ≡ Taken → lineWith number count 0 0 r ≡ lineOf number count r
-  unfolding lineOf refusalIn placeIn
+  pub line-taken : r .answer ≡ Taken → lineWith number count 0 0 r ≡ printedLine number count r
+  unfolding printedLine refusalIn placeShown
   line-taken e = rw e
 
-  pub line-refused : {refusal : Refusal} {n p : ℕ} → r .answer ≡ Refused refusal → n ≡ numberOf refusal → p ≡ placeOf refusal
-      → lineWith number count n p r ≡ lineOf number count r
-  unfolding lineOf refusalIn placeIn
+  pub line-refused : {refusal : Refusal} {n p : ℕ} → r .answer ≡ Refused refusal → n ≡ refusalNumber refusal → p ≡ refusalPlace refusal
+      → lineWith number count n p r ≡ printedLine number count r
+  unfolding printedLine refusalIn placeShown
   line-refused e f g = rw (e, f, g)
 
 module _ (a b : Line) where
@@ -75,7 +75,7 @@ module _ {showing : Showing} (s : Stretch) (number : ℕ) (packet : List ℕ) (r
   unfolding shown
   shown-last e = rw e
 
-  pub shown-runs : showing ≡ Runs → {count : ℕ} {line : Line} {t : Stretch} → count ≡ countIn packet → line ≡ lineOf number count r
+  pub shown-runs : showing ≡ Runs → {count : ℕ} {line : Line} {t : Stretch} → count ≡ sequenceCountIn packet → line ≡ printedLine number count r
       → t ≡ extended s line → t ≡ shown showing s number packet r
   unfolding shown
   shown-runs e c l x = x ∙ rw (e, l, c)

@@ -9,17 +9,17 @@ use Rattle.fields.specs.Place.{bitInside, inside}
 use Rattle.fields.specs.Field.{isWidth, fieldAt, unsignedAt}
 
 -- the number of a field, 0 where there is none
-unfoldable pub counted : Said → ℕ
-counted (value (pos n)) = n
-counted (value (negsuc n)) = 0
-counted (refused number) = 0
-counted free = 0
+unfoldable pub fieldNumber : Said → ℕ
+fieldNumber (value (pos n)) = n
+fieldNumber (value (negsuc n)) = 0
+fieldNumber (refused number) = 0
+fieldNumber free = 0
 
 -- CCSDS 133.0: the last 14 bits of bytes 2 and 3, also of a packet that is refused
-unfoldable pub countIn : List ℕ → ℕ
-countIn p = counted (unsignedAt p 18 14)
+unfoldable pub sequenceCountIn : List ℕ → ℕ
+sequenceCountIn p = fieldNumber (unsignedAt p 18 14)
 
 -- 01: "Last count 16,383"
-last-count : countIn (0x08 ∷ 0x0A ∷ 0xFF ∷ 0xFF ∷ []) ≡ 16383
-unfolding countIn counted unsignedAt fieldAt isWidth inside bitInside numberAt bitAt
+last-count : sequenceCountIn (0x08 ∷ 0x0A ∷ 0xFF ∷ 0xFF ∷ []) ≡ 16383
+unfolding sequenceCountIn fieldNumber unsignedAt fieldAt isWidth inside bitInside numberAt bitAt
 last-count = refl

@@ -5,8 +5,8 @@ use mathlib.Core.Bool.{Bool, true, false, cond, _&&_}
 use mathlib.Core.List.{List}
 use lib.Dec.{eqb, leb}
 use Rattle.accepting.specs.declared.step.Stepped.{Stepped}
-use Rattle.showing.specs.Count.{countIn}
-use Rattle.showing.specs.Lines.{lineOf}
+use Rattle.showing.specs.Count.{sequenceCountIn}
+use Rattle.showing.specs.Lines.{printedLine}
 use Rattle.showing.specs.declared.stretches.Showing.{Showing}
 use Rattle.showing.specs.declared.stretches.Showing.the-variants.{Each, Runs, Last}
 use Rattle.showing.specs.declared.lines.Line.{Line}
@@ -28,7 +28,7 @@ extended s line =
 -- the same by how packets are shown: only where runs are said is there a stretch
 unfoldable pub shown : Showing → Stretch → (number : ℕ) → (packet : List ℕ) → Stepped → Stretch
 shown Each s number packet r = s
-shown Runs s number packet r = extended s (lineOf number (countIn packet) r)
+shown Runs s number packet r = extended s (printedLine number (sequenceCountIn packet) r)
 shown Last s number packet r = s
 
 -- packets 54 and 55 are taken with runs of 13 and 14, and 56 is refused

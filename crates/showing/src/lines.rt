@@ -7,8 +7,8 @@ use outcomes::number_of;
 use outcomes::place_of;
 use units::BitOffset;
 ghost use mathlib.Core.Path.{_≡_};
-ghost use Rattle.showing.specs.Count.{countIn};
-ghost use Rattle.showing.specs.Lines.{lineOf};
+ghost use Rattle.showing.specs.Count.{sequenceCountIn};
+ghost use Rattle.showing.specs.Lines.{printedLine};
 
 // The packet's number, from 1, and its sequence count; the number and place of its refusal, 0 of one that is taken; and the state's run and announced.
 pub struct Line {
@@ -22,7 +22,7 @@ pub struct Line {
 
 // The sequence count in a packet's header, also in one that is refused.
 pub fn count_of(packet: &[u8]) -> u64
-    ensures { λ r. ⌜ r ≡ countIn (now (packet .entry)) ⌝ }
+    ensures { λ r. ⌜ r ≡ sequenceCountIn (now (packet .entry)) ⌝ }
 {
     match read_unsigned(packet, BitOffset(18), 14) {
         Unsigned::Is(count) => count,
@@ -32,7 +32,7 @@ pub fn count_of(packet: &[u8]) -> u64
 }
 
 pub fn line_of(number: usize, count: u64, stepped: Stepped) -> Line
-    ensures { λ r. ⌜ r ≡ lineOf number count stepped ⌝ }
+    ensures { λ r. ⌜ r ≡ printedLine number count stepped ⌝ }
 {
     let answer = stepped.answer;
     let state = stepped.state;

@@ -28,14 +28,14 @@ use Rattle.rows.specs.Values.{
   checkTypeOf,
 }
 use Rattle.rows.specs.Records.{column, pidRow, plfRow, pcfRow, cafRow, capRow, ocfRow, ocpRow}
-use Rattle.fields.specs.Width.{widthOf, integerWidth, within}
+use Rattle.fields.specs.Width.{widthOf, integerWidth, bitsWithin}
 use Rattle.fields.specs.Bits.{bitAt, numberAt}
 use Rattle.fields.specs.Place.{bitInside, inside}
 use Rattle.fields.specs.Field.{isWidth, fieldAt, unsignedAt}
 use Rattle.fields.specs.Sign.{complementOf, signedAt}
 use Rattle.fields.specs.Figures.{packet}
 use Rattle.curves.specs.Floor.{floorDiv}
-use Rattle.curves.specs.Line.{within as lies, isCoordinate, isPoint, isSegment, isRaw, heightAt, resultOf, lineAt}
+use Rattle.curves.specs.Line.{isBetween as lies, isCoordinate, isPoint, isSegment, isRaw, heightAt, resultOf, lineAt}
 use Rattle.calibration.specs.Nearest.{passes, nearer, closer, better, nearestOf, notAbove, below, above}
 use Rattle.calibration.specs.Curve.{pointAt, through, offEnd, fromLast, beforeFirst, placed, curveAt}
 use Rattle.headers.specs.Header.{version, typeBit, flagged, apid, sequenceCount, lengthField, headOf}
@@ -134,7 +134,7 @@ unfolding
     pidRow plfRow pcfRow cafRow capRow ocfRow ocpRow column columnsOf columnsFrom nameOf curveNameOf
     naturalOr naturalFrom integerOr integerFrom numberOf meaning spelt after digitOn digitOf
     optionalName isGiven optionalCurve letterOf validOf categoryOf natureOf formatOf offEndsOf limitValueOf limitCodingOf checkTypeOf
-    rawOf rawIn startOf fieldRaw isString valueAt widthOf integerWidth within
+    rawOf rawIn startOf fieldRaw isString valueAt widthOf integerWidth bitsWithin
     unsignedAt signedAt complementOf fieldAt isWidth inside bitInside numberAt bitAt packet
     curveAt placed fromLast beforeFirst offEnd through pointAt notAbove below above nearestOf better closer nearer passes
     lineAt isSegment isPoint isCoordinate isRaw lies resultOf heightAt floorDiv

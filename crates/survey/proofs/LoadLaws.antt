@@ -17,7 +17,7 @@ use Rattle.directories.specs.declared.Loaded.{Loaded}
 use Rattle.directories.specs.Space.{DirectoryInto}
 use Rattle.surveying.specs.declared.asking.Question.{Question}
 use Rattle.surveying.specs.declared.archive.Standing.{Standing}
-use Rattle.surveying.specs.Archive.{standing, SurveyedFile}
+use Rattle.surveying.specs.Archive.{nothingRead, SurveyedFile}
 use Rattle.surveying.proofs.ArchiveLaws.{surveyed-start}
 use Rattle.survey.specs.OfTables.{OfTables, OfDirectory}
 
@@ -34,7 +34,7 @@ module _ (texts : List (List ℕ)) {name : List ℕ} {question : Question} where
         refused = λ number place r. cc;
       }
 
-  pub of-refused : {s : Standing} → s ≡ standing → OfTables texts name question s
+  pub of-refused : {s : Standing} → s ≡ nothingRead → OfTables texts name question s
   of-refused {s} h = record { file = surveyed-start _ _ _ h; refused = λ number place r. h }
 
 pub of-same : {texts tables : List (List ℕ)} {name : List ℕ} {question : Question} {s : Standing} → texts ≡ tables
@@ -45,5 +45,5 @@ module _ {before space name : List ℕ} {question : Question} {s : Standing} (lo
   pub of-whole : loaded .whole ≡ true → OfTables (tablesIn space (loaded .ends)) name question s → OfDirectory before space name question s
   of-whole w o = record { loaded = loaded; into = into; whole = λ t. o; unread = λ f. cc }
 
-  pub of-unread : loaded .whole ≡ false → s ≡ standing → OfDirectory before space name question s
+  pub of-unread : loaded .whole ≡ false → s ≡ nothingRead → OfDirectory before space name question s
   of-unread f h = record { loaded = loaded; into = into; whole = λ t. of-refused _ h; unread = λ _. h }

@@ -9,17 +9,17 @@ use Rattle.surveying.specs.declared.asking.Question.the-variants.{Identify, Ext
 use Rattle.survey.specs.declared.options.Choice.{Choice}
 use Rattle.survey.specs.declared.options.Choice.the-variants.{Is, Unknown}
 
-unfoldable pub chosenBy : List ℕ → Choice
-chosenBy option =
+unfoldable pub questionChosen : List ℕ → Choice
+questionChosen option =
     cond (sameName (nameOf option) (nameOf (ascii "identify"))) (Is Identify)
     (cond (sameName (nameOf option) (nameOf (ascii "extract"))) (Is Extract)
     (cond (sameName (nameOf option) (nameOf (ascii "engineer"))) (Is Engineer) Unknown))
 
 pub record Examples : Type 0 where
-  pub identify : chosenBy (ascii "identify") ≡ Is Identify
-  pub engineer : chosenBy (ascii "engineer") ≡ Is Engineer
-  pub other : chosenBy (ascii "import") ≡ Unknown
+  pub identify : questionChosen (ascii "identify") ≡ Is Identify
+  pub engineer : questionChosen (ascii "engineer") ≡ Is Engineer
+  pub other : questionChosen (ascii "import") ≡ Unknown
 
 pub examples : Examples
-unfolding chosenBy nameOf sameName sameBytes
+unfolding questionChosen nameOf sameName sameBytes
 examples = record { identify = refl; engineer = refl; other = refl }

@@ -15,12 +15,12 @@ use tables::TABLES;
 use words::refusals::say_refused;
 ghost use mathlib.Core.Path.{_≡_};
 ghost use mathlib.Core.List.{map};
-ghost use Rattle.surveying.specs.Archive.{standing};
+ghost use Rattle.surveying.specs.Archive.{nothingRead};
 ghost use Rattle.survey.specs.OfTables.{OfTables};
 
 // Refused tables are said, with 01's number and place: nothing is read then.
 fn refuse(refusal: Refusal) -> Standing
-    ensures { λ r. ⌜ r ≡ standing ⌝ }
+    ensures { λ r. ⌜ r ≡ nothingRead ⌝ }
 {
     say_refused(number_of(refusal) as usize, place_of(refusal));
     at_start()

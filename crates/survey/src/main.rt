@@ -5,10 +5,10 @@ mod loaded;
 mod options;
 mod say;
 
+use directories::SPACE;
 use directory::survey_directory;
 use files::arguments::LONGEST;
 use files::arguments::is_too_long;
-use directories::SPACE;
 use options::Choice;
 use options::chosen;
 use surveying::asking::Question;

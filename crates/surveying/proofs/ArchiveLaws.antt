@@ -5,7 +5,7 @@ use mathlib.Core.List.{List, [], _∷_, _++_}
 use native.Mathlib.Omega.{arith}
 use lib.ListN.{length}
 use Rattle.lines.specs.Columns.{partOf}
-use Rattle.archives.specs.Packets.{lengthSaid, isWhole, packetsIn, leftIn}
+use Rattle.archives.specs.Packets.{lengthSaid, isComplete, packetsIn, leftIn}
 use Rattle.archives.specs.Blocks.{Refilled}
 use Rattle.archives.proofs.PacketLaws.{packets-none, left-none}
 use Rattle.archives.proofs.BlockLaws.{part-length, part-of-front, newBytes, packets-next, left-next}
@@ -16,7 +16,7 @@ use Rattle.surveying.specs.declared.counting.Tally.{Tally}
 use Rattle.surveying.specs.declared.archive.Standing.{Standing}
 use Rattle.surveying.specs.Told.{told}
 use Rattle.surveying.specs.Surveys.{noted, tallied, surveyed, Surveys}
-use Rattle.surveying.specs.Archive.{standing, Turned, SurveyedFile}
+use Rattle.surveying.specs.Archive.{nothingRead, BlockSurveyed, SurveyedFile}
 
 -- the bytes so far, and what is left over of them stands in the block
 pub record SurveyedSo (rows : Rows) (name : List ℕ) (question : Question) (so : Standing) (block : List ℕ) : Type 0 where
@@ -31,8 +31,8 @@ more ask t [] qs = refl
 more ask t (p ∷ ps) qs = more ask (noted t (ask p)) ps qs
 
 module _ (rows : Rows) (name : List ℕ) (question : Question) where
-  pub surveyed-none : {s : Standing} {block : List ℕ} → s ≡ standing → SurveyedSo rows name question s block
-  unfolding surveyed isWhole lengthSaid
+  pub surveyed-none : {s : Standing} {block : List ℕ} → s ≡ nothingRead → SurveyedSo rows name question s block
+  unfolding surveyed isComplete lengthSaid
   surveyed-none {s} {block} h =
       let none : packetsIn [] ≡ [] = packets-none [] refl in
       let empty : leftIn [] ≡ [] = left-none [] refl in
@@ -44,7 +44,7 @@ module _ (rows : Rows) (name : List ℕ) (question : Question) where
         within = rw h (omega arith);
       }
 
-  pub surveyed-more : {s t : Standing} {before block : List ℕ} → SurveyedSo rows name question s before → Turned rows name question s t before block
+  pub surveyed-more : {s t : Standing} {before block : List ℕ} → SurveyedSo rows name question s before → BlockSurveyed rows name question s t before block
       → SurveyedSo rows name question t block
   surveyed-more {s} {t} {before} {block} so turned =
       let ask = told rows name question in
@@ -71,11 +71,11 @@ module _ (rows : Rows) (name : List ℕ) (question : Question) where
       ends to n from h = omega arith
 
   -- nothing read is the survey of no packet
-  pub surveyed-start : {s : Standing} → s ≡ standing → SurveyedFile rows name question s
+  pub surveyed-start : {s : Standing} → s ≡ nothingRead → SurveyedFile rows name question s
   surveyed-start {s} h = surveyed-end (surveyed-none {block = []} h)
 
   -- the packets of a block are those of the bytes that stand in it
   pub turned : {s t : Standing} {before block bytes : List ℕ} → Refilled (s .from) (s .to) (t .to) before block → bytes ≡ partOf block 0 (t .to)
-      → Surveys rows name question (s .tally) bytes (t .tally) (t .from) → Turned rows name question s t before block
+      → Surveys rows name question (s .tally) bytes (t .tally) (t .from) → BlockSurveyed rows name question s t before block
   turned {s} {t} r q p =
       record { refilled = r; surveys = subst (λ (l : List ℕ). Surveys rows name question (s .tally) l (t .tally) (t .from)) q p }

@@ -14,11 +14,11 @@ use Rattle.surveying.specs.Told.{told}
 use Rattle.surveying.specs.Surveys.{tallied, surveyed, Surveys}
 
 -- nothing is read yet
-abbrev pub standing : Standing
-standing = record { tally = tallied 0 0 0; from = 0; to = 0 }
+abbrev pub nothingRead : Standing
+nothingRead = record { tally = tallied 0 0 0; from = 0; to = 0 }
 
 -- one block: what was left over stands in front of what was read, and of each packet that stands in both together it was asked
-pub record Turned (rows : Rows) (name : List ℕ) (question : Question) (begun after : Standing) (before block : List ℕ) : Type 0 where
+pub record BlockSurveyed (rows : Rows) (name : List ℕ) (question : Question) (begun after : Standing) (before block : List ℕ) : Type 0 where
   pub refilled : Refilled (begun .from) (begun .to) (after .to) before block
   pub surveys : Surveys rows name question (begun .tally) (partOf block 0 (after .to)) (after .tally) (after .from)
 

@@ -15,13 +15,13 @@ abbrev pub tallied : (answered refused weight : ℕ) → Tally
 tallied answered refused weight = record { answered = answered; refused = refused; weight = weight }
 
 -- as words add
-abbrev pub added : ℕ → ℕ → ℕ
-added n m = (n + m) % 2 ^ 64
+abbrev pub wordSum : ℕ → ℕ → ℕ
+wordSum n m = (n + m) % 2 ^ 64
 
 -- one packet more
 unfoldable pub noted : Tally → Told → Tally
-noted t (Weighs w) = tallied (added (t .answered) 1) (t .refused) (added (t .weight) w)
-noted t Refused = tallied (t .answered) (added (t .refused) 1) (t .weight)
+noted t (Weighs w) = tallied (wordSum (t .answered) 1) (t .refused) (wordSum (t .weight) w)
+noted t Refused = tallied (t .answered) (wordSum (t .refused) 1) (t .weight)
 
 unfoldable pub surveyed : (List ℕ → Told) → Tally → (packets : List (List ℕ)) → Tally
 surveyed ask t [] = t

@@ -9,7 +9,7 @@ use tables::TABLES;
 ghost use mathlib.Core.List.{map};
 ghost use mathlib.Core.Path.{_≡_};
 ghost use Rattle.database.specs.Arrays.{database, answers};
-ghost use Rattle.surveying.specs.Archive.{standing, Turned, SurveyedFile};
+ghost use Rattle.surveying.specs.Archive.{nothingRead, BlockSurveyed, SurveyedFile};
 
 // More blocks than any file has.
 const MOST_BLOCKS: usize = 18446744073709551615;
@@ -23,7 +23,7 @@ pub struct Standing {
 
 // Nothing read yet.
 pub fn at_start() -> Standing
-    ensures { λ r. ⌜ r ≡ standing ⌝ }
+    ensures { λ r. ⌜ r ≡ nothingRead ⌝ }
 {
     Standing {
         tally: Tally {
@@ -48,7 +48,7 @@ fn take_block(
     block: &mut [u8],
     begun: Standing,
 ) -> Standing
-    ensures { λ r. ⌜ Turned (answers (database (map now (tables .entry)) (now (words .entry)) (now (links .entry)) (now (columns .entry))))
+    ensures { λ r. ⌜ BlockSurveyed (answers (database (map now (tables .entry)) (now (words .entry)) (now (links .entry)) (now (columns .entry))))
         (now (name .entry)) question begun r (now (block .entry)) (now (block .exit)) ⌝ }
 {
     let to = refill(fd, block, begun.from, begun.to);

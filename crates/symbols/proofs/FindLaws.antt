@@ -10,7 +10,7 @@ use lib.Seq.{getD-append-seam}
 use borrow.Author.Tests.{ltb-true, ltb-false}
 use Rattle.laws.proofs.Cases.{bool-cases}
 use Rattle.symbols.specs.declared.Symbol.{Symbol}
-use Rattle.symbols.specs.Symbols.{place, idOf}
+use Rattle.symbols.specs.Symbols.{symbolPlace, idOf}
 use Rattle.symbols.specs.Arrays.{symbolAt, symbols, heads}
 use Rattle.symbols.specs.Searches.{sought, found, Table}
 use Rattle.symbols.proofs.PlaceLaws.{place-holds, place-first, id-is, id-none}
@@ -39,7 +39,7 @@ symbols-at words d (suc n) i h = go (ℕ-discrete i n) (λ q. symbols-at words d
 
 module _ (words links : List ℕ) (n : ℕ) (t : Table words links n) (k : Symbol) where
   abbrev p : ℕ
-  p = place k (symbols words n)
+  p = symbolPlace k (symbols words n)
 
   pub sought-symbol : p < n → sought words links k ≡ p + 1
   sought-symbol h =

@@ -10,7 +10,7 @@ use borrow.Author.Tests.{eqb-true, eqb-false}
 use Rattle.laws.proofs.Cases.{bool-cases, and-left, and-right}
 use Rattle.symbols.specs.declared.Symbol.{Symbol}
 use Rattle.symbols.specs.declared.Interned.{Interned}
-use Rattle.symbols.specs.Symbols.{place, idOf, grown}
+use Rattle.symbols.specs.Symbols.{symbolPlace, idOf, grown}
 use Rattle.symbols.specs.Arrays.{symbols, putSymbol, putLink, hasRoom}
 use Rattle.symbols.specs.Searches.{followed, sought, found, Table}
 use Rattle.symbols.specs.Interning.{isNew, interned, wordsAfter, linksAfter, Interns}
@@ -42,9 +42,9 @@ module _ (words links : List ℕ) (n : ℕ) (t : Table words links n) (k : Symbo
       let r = room-tells words links n q in
       let s = symbols-length words n in
       let p = sought-none words links n t k z in
-      let w : length ls ≤ place k ls = omega arith in
+      let w : length ls ≤ symbolPlace k ls = omega arith in
       let g : grown room k ls ≡ ls ++ k ∷ [] = grown-new room k ls w q in
-      let f : place k (grown room k ls) ≡ n = ap (place k) g ∙ new-place room k ls w ∙ s in
+      let f : symbolPlace k (grown room k ls) ≡ n = ap (symbolPlace k) g ∙ new-place room k ls w ∙ s in
       record {
         list = symbols-put words n k (r .place) ∙ sym g;
         id = sym (id-is k (grown room k ls) (grown-has room k ls q) ∙ f);
@@ -103,7 +103,7 @@ module _ {words links words₁ links₁ : List ℕ} {n : ℕ} {k : Symbol} {r : 
       omega (arith, size, symbols-length words₁ (r .count), symbols-length words n, grown-most (hasRoom words links n) k (symbols words n))
 
   -- where there is room, the key is a symbol
-  pub is-symbol : hasRoom words links n ≡ true → place k now < length now
+  pub is-symbol : hasRoom words links n ≡ true → symbolPlace k now < length now
   is-symbol h = rw (w .list) (grown-has (hasRoom words links n) k (symbols words n) h)
 
   pub id-small : hasRoom words links n ≡ true → r .id < r .count

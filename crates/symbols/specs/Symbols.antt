@@ -11,9 +11,9 @@ unfoldable pub sameSymbol : Symbol → Symbol → Bool
 sameSymbol k l = eqb (k .a) (l .a) && (eqb (k .b) (l .b) && (eqb (k .c) (l .c) && eqb (k .space) (l .space)))
 
 -- the place of a symbol, or the number of symbols where it is none of them
-unfoldable pub place : Symbol → List Symbol → ℕ
-place k [] = 0
-place k (l ∷ ls) = cond (sameSymbol k l) 0 (suc (place k ls))
+unfoldable pub symbolPlace : Symbol → List Symbol → ℕ
+symbolPlace k [] = 0
+symbolPlace k (l ∷ ls) = cond (sameSymbol k l) 0 (suc (symbolPlace k ls))
 
 -- no key has this id
 abbrev pub noId : ℕ
@@ -21,11 +21,11 @@ noId = 65535
 
 -- a symbol goes by its place
 unfoldable pub idOf : Symbol → List Symbol → ℕ
-idOf k ls = cond (ltb (place k ls) (length ls)) (place k ls) noId
+idOf k ls = cond (ltb (symbolPlace k ls) (length ls)) (symbolPlace k ls) noId
 
 -- the symbols with one more at the end, unless it is there or there is no room
 unfoldable pub grown : Bool → Symbol → List Symbol → List Symbol
-grown room k ls = cond (ltb (place k ls) (length ls)) ls (cond room (ls ++ k ∷ []) ls)
+grown room k ls = cond (ltb (symbolPlace k ls) (length ls)) ls (cond room (ls ++ k ∷ []) ls)
 
 abbrev key : (space word : ℕ) → Symbol
 key space word = record { space = space; a = word; b = 0; c = 0 }
@@ -39,5 +39,5 @@ pub record Examples : Type 0 where
   pub full : grown false (key 1 7) (key 0 7 ∷ []) ≡ key 0 7 ∷ []
 
 pub examples : Examples
-unfolding grown idOf place sameSymbol
+unfolding grown idOf symbolPlace sameSymbol
 examples = record { second = refl; none = refl; new = refl; there = refl; full = refl }

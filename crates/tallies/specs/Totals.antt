@@ -15,10 +15,10 @@ unfoldable pub plus : ℕ → ℕ → ℕ
 plus a b = cond (leb a (18446744073709551615 - b)) (a + b) 18446744073709551615
 
 -- a question that is asked is counted among those of its kind; one that can't be read is a line that can't
-unfoldable pub counted : Tally → ℕ → Verdict → Tally
-counted t k Same = record { asked = set (t .asked) k (plus (getD (t .asked) k 0) 1); differ = t .differ; unread = t .unread }
-counted t k Differs = record { asked = set (t .asked) k (plus (getD (t .asked) k 0) 1); differ = plus (t .differ) 1; unread = t .unread }
-counted t k Unread = record { asked = t .asked; differ = t .differ; unread = plus (t .unread) 1 }
+unfoldable pub tallyAfter : Tally → ℕ → Verdict → Tally
+tallyAfter t k Same = record { asked = set (t .asked) k (plus (getD (t .asked) k 0) 1); differ = t .differ; unread = t .unread }
+tallyAfter t k Differs = record { asked = set (t .asked) k (plus (getD (t .asked) k 0) 1); differ = plus (t .differ) 1; unread = t .unread }
+tallyAfter t k Unread = record { asked = t .asked; differ = t .differ; unread = plus (t .unread) 1 }
 
 -- the tallies of two files
 unfoldable pub together : Tally → Tally → Tally
@@ -36,10 +36,10 @@ noTally = record { asked = 0 ∷ 0 ∷ 0 ∷ 0 ∷ 0 ∷ 0 ∷ 0 ∷ 0 ∷ 0 ∷
 pub record Examples : Type 0 where
   pub few : plus 3 4 ≡ 7
   pub many : plus 18446744073709551615 4 ≡ 18446744073709551615
-  pub differs : counted noTally 1 Differs
+  pub differs : tallyAfter noTally 1 Differs
       ≡ record { asked = 0 ∷ 1 ∷ 0 ∷ 0 ∷ 0 ∷ 0 ∷ 0 ∷ 0 ∷ 0 ∷ 0 ∷ 0 ∷ 0 ∷ []; differ = 1; unread = 0 }
-  pub twice : together (counted noTally 0 Unread) (counted noTally 0 Unread) .unread ≡ 2
+  pub twice : together (tallyAfter noTally 0 Unread) (tallyAfter noTally 0 Unread) .unread ≡ 2
 
 pub examples : Examples
-unfolding plus counted together noTally tabulate
+unfolding plus tallyAfter together noTally tabulate
 examples = record { few = refl; many = refl; differs = refl; twice = refl }

@@ -4,7 +4,7 @@ use areas::number_at;
 use lines::columns::keep_at;
 ghost use mathlib.Core.Path.{_≡_};
 ghost use lib.ListN.{getD};
-ghost use Rattle.tallies.specs.Totals.{counted, together};
+ghost use Rattle.tallies.specs.Totals.{tallyAfter, together};
 ghost use Rattle.tallies.specs.Totals.{plus as plusOf};
 
 // How many questions of each kind were asked, how many answers differ, and how many lines can't be read.
@@ -28,7 +28,7 @@ fn plus(a: usize, b: usize) -> usize
 
 // One more question of a kind, or one more line that can't be read.
 pub fn count(tally: Tally, k: usize, verdict: Verdict) -> Tally
-    ensures { λ r. ⌜ r ≡ counted tally k verdict ⌝ }
+    ensures { λ r. ⌜ r ≡ tallyAfter tally k verdict ⌝ }
 {
     let mut asked = tally.asked;
     match verdict {

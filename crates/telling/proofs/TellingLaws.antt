@@ -7,7 +7,7 @@ use native.Mathlib.Omega.{arith}
 use lib.IntN.{ℤ, pos}
 use lib.ListN.{length, take, getD, set}
 use Rattle.outcomes.specs.Outcome.{Outcome, answer}
-use Rattle.outcomes.specs.Refusals.{numberOf, placeOf, refusedBy}
+use Rattle.outcomes.specs.Refusals.{refusalNumber, refusalPlace, refusedBy}
 use Rattle.outcomes.specs.declared.Refusal.{Refusal}
 use Rattle.telling.specs.Answers.{Plain, refusedWith, withValues, plainOf, code, written}
 
@@ -30,7 +30,7 @@ pub written-next : (i : ℕ) (xs vs : List ℤ) {ys : List ℤ} → ys ≡ writt
 written-next i xs vs e h = rw (e, add-one) (next i xs vs h)
 
 module _ {A : Type 0} (valuesOf : A → List ℤ) {o : Outcome A} {p : Plain} where
-  pub plain-refused : (refusal : Refusal) → o ≡ refusedBy refusal → p ≡ refusedWith (numberOf refusal) (placeOf refusal) → p ≡ plainOf valuesOf o
+  pub plain-refused : (refusal : Refusal) → o ≡ refusedBy refusal → p ≡ refusedWith (refusalNumber refusal) (refusalPlace refusal) → p ≡ plainOf valuesOf o
   unfolding plainOf refusedBy
   plain-refused refusal e q = rw e q
 

@@ -23,8 +23,8 @@ unfoldable pub plainOf : {A : Type 0} → (valuesOf : A → List ℤ) → Outcom
 plainOf valuesOf (refused number place) = refusedWith number place
 plainOf valuesOf (answer a) = withValues (valuesOf a)
 
-unfoldable pub said : Telling → Plain
-said t = record { number = t .number; place = t .place; values = take (t .count) (t .values) }
+unfoldable pub toldPlainly : Telling → Plain
+toldPlainly t = record { number = t .number; place = t .place; values = take (t .count) (t .values) }
 
 -- number and place as one number: 0 with values. Every place is below 2 ^ 32 (crate refusal_places), so both are read back from it (`read-back`)
 unfoldable pub code : (number place : ℕ) → ℕ

@@ -19,9 +19,9 @@ use Rattle.limit_state.specs.declared.state.LimitState.{LimitState}
 unfoldable pub word : ℕ → ℤ
 word n = cond (ltb n (2 ^ 63)) (pos n) (negsuc (2 ^ 64 - 1 - n))
 
-unfoldable pub flag : Bool → ℤ
-flag false = pos 0
-flag true = pos 1
+unfoldable pub flagNumber : Bool → ℤ
+flagNumber false = pos 0
+flagNumber true = pos 1
 
 -- 01: "returns the counts of rows and of good rows"
 pub record Counts : Type 0 where
@@ -48,7 +48,7 @@ ofValue (values.part start bytes) = pos 1 ∷ word start ∷ word bytes ∷ []
 
 -- and whether the reading is valid
 unfoldable pub ofReading : Reading → List ℤ
-ofReading r = ofValue (r .value) ++ flag (r .valid) ∷ []
+ofReading r = ofValue (r .value) ++ flagNumber (r .valid) ∷ []
 
 -- or 2 and a text, the txp row's number and ALTXT's first byte in txp and its length
 unfoldable pub ofEngineered : Engineered → List ℤ
@@ -57,7 +57,7 @@ ofEngineered (text t) = pos 2 ∷ word (t .row) ∷ word (t .start) ∷ word (t 
 
 -- 01: "The state is: fresh or not, APID, sequence count, run, announced": the state after the packet
 unfoldable pub ofState : LimitState → List ℤ
-ofState s = flag (s .fresh) ∷ word (s .apid) ∷ word (s .count) ∷ word (s .run) ∷ word (s .announced) ∷ []
+ofState s = flagNumber (s .fresh) ∷ word (s .apid) ∷ word (s .count) ∷ word (s .run) ∷ word (s .announced) ∷ []
 
 pub record Examples : Type 0 where
   -- a valid -1
@@ -71,5 +71,5 @@ pub record Examples : Type 0 where
       ≡ pos 9223372036854775807 ∷ negsuc 9223372036854775807 ∷ negsuc 0 ∷ []
 
 pub examples : Examples
-unfolding word flag ofValue ofReading ofEngineered ofState
+unfolding word flagNumber ofValue ofReading ofEngineered ofState
 examples = record { integer = refl; altxt = refl; state = refl; words = refl }

@@ -15,18 +15,18 @@ use readings::Reading;
 ghost use mathlib.Core.Path.{_≡_};
 ghost use lib.ListN.{take};
 ghost use Rattle.import.specs.Judged as import;
-ghost use Rattle.outcomes.specs.Refusals.{numberOf, placeOf};
+ghost use Rattle.outcomes.specs.Refusals.{refusalNumber, refusalPlace};
 ghost use Rattle.outcomes.specs.Values.{valueOf};
 ghost use Rattle.identification.specs.Identification.{saidIdentified};
 ghost use Rattle.readings.specs.Readings.{saidReading};
 ghost use Rattle.engineering.specs.Engineering.{saidEngineered};
 ghost use Rattle.accepting.specs.Answer.{saidStep};
 ghost use Rattle.telling.specs.Values.{countsOf, ofCounts, ofIdentity, ofValue, ofReading, ofEngineered, ofState};
-ghost use Rattle.telling.specs.Answers.{said, withValues, refusedWith, plainOf};
+ghost use Rattle.telling.specs.Answers.{toldPlainly, withValues, refusedWith, plainOf};
 
 // The first `count` of these values.
 fn tell(values: [i64; 8], count: usize) -> Telling
-    ensures { λ r. ⌜ said r ≡ withValues (take count values) ⌝ }
+    ensures { λ r. ⌜ toldPlainly r ≡ withValues (take count values) ⌝ }
 {
     Telling {
         number: 0,
@@ -37,7 +37,7 @@ fn tell(values: [i64; 8], count: usize) -> Telling
 }
 
 fn tell_refusal(refusal: Refusal) -> Telling
-    ensures { λ r. ⌜ said r ≡ refusedWith (numberOf refusal) (placeOf refusal) ⌝ }
+    ensures { λ r. ⌜ toldPlainly r ≡ refusedWith (refusalNumber refusal) (refusalPlace refusal) ⌝ }
 {
     let number = number_of(refusal);
     let place = place_of(refusal);
@@ -50,7 +50,7 @@ fn tell_refusal(refusal: Refusal) -> Telling
 }
 
 pub fn tell_imported(imported: Imported) -> Telling
-    ensures { λ r. ⌜ said r ≡ plainOf ofCounts (countsOf (import.said imported)) ⌝ }
+    ensures { λ r. ⌜ toldPlainly r ≡ plainOf ofCounts (countsOf (import.saidImported imported)) ⌝ }
 {
     match imported {
         Imported::Done(rows, good) => {
@@ -65,7 +65,7 @@ pub fn tell_imported(imported: Imported) -> Telling
 }
 
 pub fn tell_identified(identified: Identified) -> Telling
-    ensures { λ r. ⌜ said r ≡ plainOf ofIdentity (saidIdentified identified) ⌝ }
+    ensures { λ r. ⌜ toldPlainly r ≡ plainOf ofIdentity (saidIdentified identified) ⌝ }
 {
     match identified {
         Identified::Is(row, spid, n) => {
@@ -83,7 +83,7 @@ pub fn tell_identified(identified: Identified) -> Telling
 }
 
 fn tell_read(value: Value, valid: bool) -> Telling
-    ensures { λ r. ⌜ said r ≡ withValues (ofReading (record { value = valueOf value; valid = valid })) ⌝ }
+    ensures { λ r. ⌜ toldPlainly r ≡ withValues (ofReading (record { value = valueOf value; valid = valid })) ⌝ }
 {
     match value {
         Value::Number(v) => tell([0, v, as_flag(valid), 0, 0, 0, 0, 0], 3),
@@ -96,7 +96,7 @@ fn tell_read(value: Value, valid: bool) -> Telling
 }
 
 pub fn tell_extracted(reading: Reading) -> Telling
-    ensures { λ r. ⌜ said r ≡ plainOf ofReading (saidReading reading) ⌝ }
+    ensures { λ r. ⌜ toldPlainly r ≡ plainOf ofReading (saidReading reading) ⌝ }
 {
     match reading {
         Reading::Is(value, valid) => tell_read(value, valid),
@@ -105,7 +105,7 @@ pub fn tell_extracted(reading: Reading) -> Telling
 }
 
 fn tell_value(value: Value) -> Telling
-    ensures { λ r. ⌜ said r ≡ withValues (ofValue (valueOf value)) ⌝ }
+    ensures { λ r. ⌜ toldPlainly r ≡ withValues (ofValue (valueOf value)) ⌝ }
 {
     match value {
         Value::Number(v) => tell([0, v, 0, 0, 0, 0, 0, 0], 2),
@@ -118,7 +118,7 @@ fn tell_value(value: Value) -> Telling
 }
 
 pub fn tell_engineered(engineered: Engineered) -> Telling
-    ensures { λ r. ⌜ said r ≡ plainOf ofEngineered (saidEngineered engineered) ⌝ }
+    ensures { λ r. ⌜ toldPlainly r ≡ plainOf ofEngineered (saidEngineered engineered) ⌝ }
 {
     match engineered {
         Engineered::Is(value) => tell_value(value),
@@ -133,7 +133,7 @@ pub fn tell_engineered(engineered: Engineered) -> Telling
 }
 
 pub fn tell_stepped(stepped: Stepped) -> Telling
-    ensures { λ r. ⌜ said r ≡ plainOf ofState (saidStep (stepped .answer) (stepped .state)) ⌝ }
+    ensures { λ r. ⌜ toldPlainly r ≡ plainOf ofState (saidStep (stepped .answer) (stepped .state)) ⌝ }
 {
     let state = stepped.state;
     let taken = stepped.answer;

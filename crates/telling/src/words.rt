@@ -1,6 +1,6 @@
 // Numbers and flags as values.
 ghost use mathlib.Core.Path.{_≡_};
-ghost use Rattle.telling.specs.Values.{word, flag};
+ghost use Rattle.telling.specs.Values.{word, flagNumber};
 
 // A number of 64 bits as the i64 of the same bits.
 pub(crate) fn as_word(n: u64) -> i64
@@ -14,7 +14,7 @@ pub(crate) fn as_word(n: u64) -> i64
 }
 
 pub(crate) fn as_flag(yes: bool) -> i64
-    ensures { λ r. ⌜ r ≡ flag yes ⌝ }
+    ensures { λ r. ⌜ r ≡ flagNumber yes ⌝ }
 {
     if yes { 1 } else { 0 }
 }

@@ -18,7 +18,7 @@ use Rattle.calibration.specs.declared.nearest.Found.{Found}
 use Rattle.calibration.specs.declared.nearest.Found.the-variants.{At, Nothing}
 use Rattle.outcomes.specs.Outcome.{Outcome, answer, refused}
 use Rattle.database.specs.Rows.{Row, Rows}
-use Rattle.database.specs.Arrays.{Database, rowAt, keyedBy, firstColumn, placesFrom, answers}
+use Rattle.database.specs.Arrays.{Database, rowAt, keyedBy, firstColumn, groupPlaces, answers}
 use Rattle.texts.specs.Texts.{Text, fromOf, toOf, altxtOf, foundIn, textIn, textFor}
 use Rattle.texts.proofs.AltxtLaws.{altxt-bytes}
 
@@ -68,5 +68,5 @@ pub text-bytes : (d : Database) (name : CurveName) (raw : ℤ) {t : Text} → te
     → Names (d .texts) (answers d .members (texts name)) t
 unfolding textFor answers
 text-bytes d name raw e =
-    let places : List ℕ = placesFrom (d .columns) (keyedBy (d .words) (d .links) (d .columns) firstColumn (texts name)) in
+    let places : List ℕ = groupPlaces (d .columns) (keyedBy (d .words) (d .links) (d .columns) firstColumn (texts name)) in
     of-found (d .texts) (d .columns) places raw (notAbove (map fromOf (map (rowAt (d .texts) (d .columns)) places)) raw) e

@@ -4,12 +4,12 @@ use mathlib.Core.List.{List}
 use Prim.Native.Nat.{ℕ}
 use Rattle.answers.specs.declared.compare.Verdict.the-variants.{Unread}
 use Rattle.tallies.specs.declared.Tally.{Tally}
-use Rattle.tallies.specs.Totals.{plus, counted, noTally}
+use Rattle.tallies.specs.Totals.{plus, tallyAfter, noTally}
 use Rattle.running.specs.Script.{tallyOf}
 
 -- a file that can't be read whole counts as a line that can't
 unfoldable pub unreadFile : Tally
-unreadFile = counted noTally 0 Unread
+unreadFile = tallyAfter noTally 0 Unread
 
 -- the tally of a file: of some text that was read, or of none
 pub data OfFile (tally : Tally) : Type 0 where
@@ -17,5 +17,5 @@ pub data OfFile (tally : Tally) : Type 0 where
   notRead : tally ≡ unreadFile → OfFile tally
 
 pub example : unreadFile .unread ≡ 1
-unfolding unreadFile counted noTally plus
+unfolding unreadFile tallyAfter noTally plus
 example = refl

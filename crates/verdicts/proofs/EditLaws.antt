@@ -13,7 +13,7 @@ use Rattle.lines.proofs.LineLaws.{lines-around}
 use Rattle.schemas.specs.declared.Table.{Table}
 use Rattle.schemas.specs.declared.Table.the-variants.{Ocp}
 use Rattle.verdicts.specs.Entries.{Entry, entry, carried, entriesOf, entriesFrom, allRows, carriedAt}
-use Rattle.verdicts.specs.Places.{textAt, noLine, IsRow, entryAt, rowsBefore, place, Edit, number, edited}
+use Rattle.verdicts.specs.Places.{textAt, noLine, IsRow, entryAt, rowsBefore, place, Edit, lineNumber, edited}
 use Rattle.verdicts.proofs.Isolation.{Like, none, like, here, like-self, like-append}
 
 module _ {Out In : Entry → Type 0} (ls ms : List Line) (l l′ : Line) where
@@ -84,18 +84,18 @@ module _ (texts : List (List ℕ)) (edit : Edit texts) where
 
   -- the line itself, before and after
   abbrev lineEntry : List ℕ → Entry
-  lineEntry bytes = entry (carriedAt (edit .table)) (edit .table) (number edit) (lineOf bytes)
+  lineEntry bytes = entry (carriedAt (edit .table)) (edit .table) (lineNumber edit) (lineOf bytes)
 
-  line-old : entryAt texts (edit .table) (number edit) ≡ lineEntry (edit .old)
+  line-old : entryAt texts (edit .table) (lineNumber edit) ≡ lineEntry (edit .old)
   unfolding entryAt
-  line-old = let q : number edit - 1 ≡ length (linesOf (edit .before)) = omega arith in rw (q, lines-old, getD-append-seam)
+  line-old = let q : lineNumber edit - 1 ≡ length (linesOf (edit .before)) = omega arith in rw (q, lines-old, getD-append-seam)
 
-  line-new : entryAt (edited texts edit) (edit .table) (number edit) ≡ lineEntry (edit .new)
+  line-new : entryAt (edited texts edit) (edit .table) (lineNumber edit) ≡ lineEntry (edit .new)
   unfolding entryAt
-  line-new = let q : number edit - 1 ≡ length (linesOf (edit .before)) = omega arith in rw (q, lines-new, getD-append-seam)
+  line-new = let q : lineNumber edit - 1 ≡ length (linesOf (edit .before)) = omega arith in rw (q, lines-new, getD-append-seam)
 
   -- all rows are the same in the same order, but for the line
-  pub rows-alike : Like (λ x. x ≡ entryAt texts (edit .table) (number edit)) (λ x. x ≡ entryAt (edited texts edit) (edit .table) (number edit))
+  pub rows-alike : Like (λ x. x ≡ entryAt texts (edit .table) (lineNumber edit)) (λ x. x ≡ entryAt (edited texts edit) (edit .table) (lineNumber edit))
       (allRows texts) (allRows (edited texts edit))
   unfolding allRows
   rows-alike =
@@ -118,7 +118,7 @@ module _ (texts : List (List ℕ)) (edit : Edit texts) where
   place-kept u r = rw (before-same texts (edit .table) u put (rw (lines-old, lines-put) (simp length-append)))
 
   -- a row that isn't the line, by whether it is of the line's table
-  other-line : (u r : ℕ) → 0 < r → (u ≡ edit .table → r ≡ number edit → ⊥) → Dec (u ≡ edit .table)
+  other-line : (u r : ℕ) → 0 < r → (u ≡ edit .table → r ≡ lineNumber edit → ⊥) → Dec (u ≡ edit .table)
       → entryAt texts u r ≡ entryAt (edited texts edit) u r
   unfolding entryAt
   other-line u r h n (yes e) = rw (e, lines-old, lines-new) (ap (entry _ (edit .table) r)
@@ -126,5 +126,5 @@ module _ (texts : List (List ℕ)) (edit : Edit texts) where
   other-line u r h n (no ne) = rw (text-other u ne)
 
   -- and says the same, unless it is the line
-  pub other-kept : (u r : ℕ) → IsRow texts u r → (u ≡ edit .table → r ≡ number edit → ⊥) → entryAt texts u r ≡ entryAt (edited texts edit) u r
+  pub other-kept : (u r : ℕ) → IsRow texts u r → (u ≡ edit .table → r ≡ lineNumber edit → ⊥) → entryAt texts u r ≡ entryAt (edited texts edit) u r
   other-kept u r is n = other-line u r (is .above) n (ℕ-discrete u (edit .table))

@@ -16,14 +16,14 @@ use Rattle.lines.specs.Lines.{Line, linesOf}
 use Rattle.schemas.specs.declared.Table.{Table}
 use Rattle.schemas.specs.declared.Table.the-variants.{Ocp}
 use Rattle.formed.specs.Formed.{formed}
-use Rattle.verdicts.specs.Entries.{Reading, readingOf, own, Entry, entry, carried, entriesOf, entriesFrom, allRows, tableCount, carriedAt}
+use Rattle.verdicts.specs.Entries.{RowReading, readingOf, own, Entry, entry, carried, entriesOf, entriesFrom, allRows, tableCount, carriedAt}
 use Rattle.verdicts.specs.Steps.{twin}
 use Rattle.verdicts.specs.Places.{textAt, noLine, IsRow, entryAt, rowsBefore, place}
 
 -- a row's own verdict is that of reasons 1 to 8
 pub own-reading : (table : Table) (line : Line) → own (readingOf table line) ≡ formed table line
 unfolding readingOf
-own-reading table line = cond-cases (λ (r : Reading). own r ≡ formed table line) (eqb (formed table line) 0) (λ t. sym (eqb-true _ 0 t)) (λ _. refl)
+own-reading table line = cond-cases (λ (r : RowReading). own r ≡ formed table line) (eqb (formed table line) 0) (λ t. sym (eqb-true _ 0 t)) (λ _. refl)
 
 -- One table
 

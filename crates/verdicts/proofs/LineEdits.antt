@@ -9,7 +9,7 @@ use lib.ListN.{length, getD}
 use borrow.Author.Tests.{eqb-true}
 use Rattle.laws.proofs.Cases.{cond-cases, false≢true}
 use Rattle.lines.specs.Lines.{Line, lineFeed, onFirst, lead, linesOf, free, whole}
-use Rattle.verdicts.specs.Places.{textAt, noLine, IsRow, Edit, number}
+use Rattle.verdicts.specs.Places.{textAt, noLine, IsRow, Edit, lineNumber}
 
 -- a text cut around line i, from 0, and its line feed
 record Cut (text : List ℕ) (i : ℕ) : Type 0 where
@@ -103,7 +103,7 @@ cut (b ∷ bs) i h = cut-lead b bs i (eqb b 10) refl (cut bs) h
 pub record LineEdit (texts : List (List ℕ)) (u r : ℕ) (bytes : List ℕ) : Type 0 where
   pub edit : Edit texts
   pub table : edit .table ≡ u
-  pub row : number edit ≡ r
+  pub row : lineNumber edit ≡ r
   pub new : edit .new ≡ bytes
 
 pub line-edit : (texts : List (List ℕ)) (u r : ℕ) (bytes : List ℕ) → IsRow texts u r → getD (linesOf (textAt texts u)) (r - 1) noLine .ended ≡ true

@@ -11,31 +11,31 @@ use Rattle.formed.specs.Formed.{formed}
 use Rattle.verdicts.specs.Facts.{Facts, factsOf}
 
 -- a row's own columns give a verdict of reasons 1 to 8, or else facts
-pub data Reading : Type 0 where
-  bad : (verdict : ℕ) → Reading
-  fine : Facts → Reading
+pub data RowReading : Type 0 where
+  bad : (verdict : ℕ) → RowReading
+  fine : Facts → RowReading
 
-unfoldable pub readingOf : Table → Line → Reading
+unfoldable pub readingOf : Table → Line → RowReading
 readingOf table line = cond (eqb (formed table line) 0) (fine (factsOf table (line .bytes))) (bad (formed table line))
 
 -- a row, known by the number of its table, from 0, and its own number, from 1
 pub record Entry : Type 0 where
   pub table : ℕ
   pub row : ℕ
-  pub reading : Reading
+  pub reading : RowReading
 
 -- the verdict of reasons 1 to 8, 0 where there is none
-abbrev pub own : Reading → ℕ
+abbrev pub own : RowReading → ℕ
 own (bad verdict) = verdict
 own (fine facts) = 0
 
 -- a row with one of reasons 1 to 8 holds, names and counts nothing
-abbrev pub said : Reading → Facts
-said (bad verdict) = record { keys = []; names = []; counts = []; groups = []; meets = λ c. false }
-said (fine facts) = facts
+abbrev pub factsIn : RowReading → Facts
+factsIn (bad verdict) = record { keys = []; names = []; counts = []; groups = []; meets = λ c. false }
+factsIn (fine facts) = facts
 
 abbrev pub facts : Entry → Facts
-facts e = said (e .reading)
+facts e = factsIn (e .reading)
 
 -- 01: "tables pid, pic, plf, pcf, caf, cap, txf, txp, ocf, ocp, in that order"
 abbrev pub carried : List Table

@@ -51,8 +51,10 @@ pub record FromBytes : Type 0 where
 pub fromBytes : FromBytes
 unfolding
     digitOf digitOn after spelt meaning numberOf columnsFrom columnsOf onFirst lead linesOf nameOf curveNameOf sameBytes
-    caf cap schema printable allowed foreignIn isIn listed numberReason kindReason columnReason firstReason shape naturalFrom naturalOr integerFrom integerOr letterOf formatOf offEndsOf
-    column cafRow capRow isReal cafContradiction contradiction orContradiction formed keyWords sameKey factsOf cafFacts capFacts readingOf entriesOf entriesFrom allRows
+    caf cap schema printable allowed foreignIn isIn listed numberReason kindReason columnReason firstReason shape naturalFrom naturalOr integerFrom
+    integerOr letterOf formatOf offEndsOf
+    column cafRow capRow isReal cafContradiction contradiction orContradiction formed keyWords sameKey factsOf cafFacts capFacts readingOf entriesOf
+    entriesFrom allRows
     twin holds belongs rivals shared sound tally countCell follows next leads circle namesAt ofKind asked nameCell judge within verdict verdicts
     firstTable tooLong tooManyRows zeros importOf
 fromBytes = record { miscounted = refl; answered = refl; counted = refl; noRoom = refl }

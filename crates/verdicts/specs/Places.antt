@@ -62,8 +62,8 @@ pub record Edit (texts : List (List ℕ)) : Type 0 where
   pub newLine : free new ≡ true
 
 -- the number of the line, from 1
-abbrev pub number : {texts : List (List ℕ)} → Edit texts → ℕ
-number edit = suc (length (linesOf (edit .before)))
+abbrev pub lineNumber : {texts : List (List ℕ)} → Edit texts → ℕ
+lineNumber edit = suc (length (linesOf (edit .before)))
 
 -- the tables with the line replaced
 abbrev pub edited : (texts : List (List ℕ)) → Edit texts → List (List ℕ)
@@ -71,9 +71,9 @@ edited texts edit = set texts (edit .table) (edit .before ++ (edit .new ++ lineF
 
 -- row r of table u isn't the line, and doesn't lean on it: it reaches the line neither in the old tables nor in the new
 pub record Apart (texts : List (List ℕ)) (edit : Edit texts) (u r : ℕ) : Type 0 where
-  pub other : u ≡ edit .table → r ≡ number edit → ⊥
-  pub notInOld : Reaches texts u r (edit .table) (number edit) → ⊥
-  pub notInNew : Reaches (edited texts edit) u r (edit .table) (number edit) → ⊥
+  pub other : u ≡ edit .table → r ≡ lineNumber edit → ⊥
+  pub notInOld : Reaches texts u r (edit .table) (lineNumber edit) → ⊥
+  pub notInNew : Reaches (edited texts edit) u r (edit .table) (lineNumber edit) → ⊥
 
 -- 01: "Import takes the tables that it doesn't refuse", with these cells lent
 pub record Takes (texts : List (List ℕ)) (cells : List ℕ) : Type 0 where

@@ -5,7 +5,7 @@ use mathlib.Core.List.{List, map}
 use lib.Dec.{eqb}
 use lib.ListN.{length}
 use Rattle.laws.specs.Lists.{any, keep, nonempty, orElse, first}
-use Rattle.schemas.specs.Reasons.{verdict as verdictOf}
+use Rattle.schemas.specs.Reasons.{reasonAt as verdictOf}
 use Rattle.verdicts.specs.Key.{Key}
 use Rattle.verdicts.specs.Facts.{Kind, itself, through, Naming, Count}
 use Rattle.verdicts.specs.Entries.{Entry, own, facts, allRows}

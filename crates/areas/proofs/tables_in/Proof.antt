@@ -1,5 +1,5 @@
 -- The tables' parts come first.
-use Rattle.areas.specs.Memory.{tablesIn}
+use Rattle.areas.specs.Memory.{areaTables}
 use borrow.Author.Needs.{needs}
 use Rattle.areas.proofs.tables_in.Statement.{statement}
 use Rattle.areas.proofs.tables_in.Tie as tie
@@ -8,7 +8,7 @@ tables-in-requires : tie.Need-tables-in-requires
 tables-in-requires c κs = search needs
 
 returns : tie.Need-returns
-unfolding tablesIn
+unfolding areaTables
 returns c = c .tables-in .ensures
 
 pub tables-in-spec : {M : Type 1} → statement M

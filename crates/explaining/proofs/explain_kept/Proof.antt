@@ -28,7 +28,8 @@ same-length-2 c = search needs
 returns : tie.Need-returns
 returns c =
     let put = c .before .before .before .before in
-    kept-at _ _ _ _ _ _ _ (c .before .before .before .before .before .before .before .before .before .before .before .before .judge-kept .ensures) _ (c .before .before .before .before .before .before .before .before .cell .given .1) _ _ (c .half-at .ensures)
+    kept-at _ _ _ _ _ _ _ (c .before .before .before .before .before .before .before .before .before .before .before .before .judge-kept .ensures) _
+    (c .before .before .before .before .before .before .before .before .cell .given .1) _ _ (c .half-at .ensures)
     (put .put-causes .ensures .0) _ (put .put-causes .ensures .1)
 
 same-length-3 : tie.Need-same-length-3

@@ -5,13 +5,13 @@ use native.Mathlib.Omega.{arith}
 use lib.ListN.{getD}
 use Rattle.laws.proofs.Values.{Writing, write-start, write-put, write-end}
 use Rattle.passes.specs.Marked.{under}
-use Rattle.findings.specs.Found.{countOf}
+use Rattle.findings.specs.Found.{countFinding}
 use Rattle.findings.proofs.count_rows.Statement.{statement}
 use Rattle.findings.proofs.count_rows.Tie as tie
 
 abbrev Inv-loop : tie.InvT-loop
 Inv-loop columns keys numbers tallies counts₀ n i₀ counts i = Writing
-    (λ k. countOf (getD columns k 0) (getD numbers k 0) (under tallies keys k)) n counts₀ counts i
+    (λ k. countFinding (getD columns k 0) (getD numbers k 0) (under tallies keys k)) n counts₀ counts i
 
 abbrev μ-loop : tie.MeasureT-loop
 μ-loop columns keys numbers tallies counts₀ n i₀ counts i = n - i
@@ -51,7 +51,13 @@ loop-again c =
     let made = c .before .before .before .before in
     let l = made .before .before .before .before .before in
     write-put _ _ _ _ _ (l .before .loop .inv) _ _ (l .loop-test .taken) (c .before .before .put-half .ensures)
-    (rw (made .count-of .ensures, made .before .half-at3 .ensures, made .before .before .byte-at .ensures, made .before .before .before .half-at2 .ensures, made .before .before .before .before .half-at .ensures))
+    (rw (
+      made .count-of .ensures,
+      made .before .half-at3 .ensures,
+      made .before .before .byte-at .ensures,
+      made .before .before .before .half-at2 .ensures,
+      made .before .before .before .before .half-at .ensures,
+    ))
 
 same-length : tie.Need-same-length Inv-loop μ-loop
 same-length c = c .before .loop .inv .size

@@ -5,12 +5,12 @@ use native.Mathlib.Omega.{arith}
 use lib.ListN.{getD}
 use Rattle.laws.proofs.Values.{Writing, write-start, write-put, write-end}
 use Rattle.passes.specs.Marked.{under}
-use Rattle.findings.specs.Found.{rowOf}
+use Rattle.findings.specs.Found.{rowLinked}
 use Rattle.findings.proofs.find_rows.Statement.{statement}
 use Rattle.findings.proofs.find_rows.Tie as tie
 
 abbrev Inv-loop : tie.InvT-loop
-Inv-loop names holders found₀ n i₀ found i = Writing (λ k. rowOf (under holders names k)) n found₀ found i
+Inv-loop names holders found₀ n i₀ found i = Writing (λ k. rowLinked (under holders names k)) n found₀ found i
 
 abbrev μ-loop : tie.MeasureT-loop
 μ-loop names holders found₀ n i₀ found i = n - i

@@ -5,25 +5,25 @@ use Prim.Native.Nat.{_+_}
 use native.Mathlib.Omega.{arith}
 use lib.Dec.{eqb}
 use borrow.Author.Needs.{needs}
-use Rattle.outcomes.specs.Refusals.{refusedBy, numberOf, placeOf}
+use Rattle.outcomes.specs.Refusals.{refusedBy, refusalNumber, refusalPlace}
 use Rattle.headers.specs.Header.{saidHead, lengthField, flagged, apid, sequenceCount}
 use Rattle.headers.proofs.HeaderLaws.{refused-short, refused-long, refused-version, refused-field, refused-data, heading-is}
 use Rattle.headers.proofs.read_header.Statement.{statement}
 use Rattle.headers.proofs.read_header.Tie as tie
 
 returns : tie.Need-returns
-unfolding saidHead refusedBy numberOf placeOf
+unfolding saidHead refusedBy refusalNumber refusalPlace
 returns c = refused-short _ (c .if1 .taken)
 
 returns-2 : tie.Need-returns-2
-unfolding saidHead refusedBy numberOf placeOf
+unfolding saidHead refusedBy refusalNumber refusalPlace
 returns-2 c = refused-long _ (c .before .if1 .left) (c .if2 .taken)
 
 bits-requires : tie.Need-bits-requires
 bits-requires c κs = search needs
 
 returns-3 : tie.Need-returns-3
-unfolding saidHead refusedBy numberOf placeOf
+unfolding saidHead refusedBy refusalNumber refusalPlace
 returns-3 c = refused-version _ (c .before .before .before .if1 .left) (c .before .before .if2 .left) (λ z. c .if3 .taken (c .before .bits .ensures .0 ∙ z))
 
 bits-requires-2 : tie.Need-bits-requires-2
@@ -33,7 +33,7 @@ add-if4 : tie.Need-add-if4
 add-if4 c = let h = c .bits2 .ensures .1 in omega arith
 
 returns-4 : tie.Need-returns-4
-unfolding saidHead refusedBy numberOf placeOf lengthField
+unfolding saidHead refusedBy refusalNumber refusalPlace lengthField
 returns-4 c = refused-field _ (c .before .before .before .before .before .if1 .left) (c .before .before .before .before .if2 .left)
     (sym (c .before .before .before .bits .ensures .0) ∙ c .before .before .if3 .left) (λ z. c .if4 .taken (ap (λ x. x + 7) (c .before .bits2 .ensures .0) ∙ z))
 
@@ -41,7 +41,7 @@ bits-requires-3 : tie.Need-bits-requires-3
 bits-requires-3 c κs = search needs
 
 returns-5 : tie.Need-returns-5
-unfolding saidHead refusedBy numberOf placeOf lengthField flagged
+unfolding saidHead refusedBy refusalNumber refusalPlace lengthField flagged
 returns-5 c = refused-data _ (c .before .before .before .before .before .before .before .before .if1 .left)
     (c .before .before .before .before .before .before .before .if2 .left)
     (sym (c .before .before .before .before .before .before .bits .ensures .0) ∙ c .before .before .before .before .before .if3 .left)

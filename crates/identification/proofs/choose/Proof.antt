@@ -4,8 +4,8 @@ use borrow.Author.Tests.{not-true, not-false}
 use mathlib.Core.Path.{_≡_, sym, _∙_}
 use mathlib.Core.Bool.{true}
 use Rattle.key_symbols.specs.Keyed.{symbolOf}
-use Rattle.key_symbols.specs.Bounded.{fits, packetOf}
-use Rattle.outcomes.specs.Refusals.{refusedBy, numberOf, placeOf}
+use Rattle.key_symbols.specs.Bounded.{keyFits, packetOf}
+use Rattle.outcomes.specs.Refusals.{refusedBy, refusalNumber, refusalPlace}
 use Rattle.database.proofs.FindLaws.{holder-none, holder-some}
 use Rattle.identification.specs.Identification.{saidIdentified}
 use Rattle.identification.proofs.PidLaws.{holder-unfit, number-alone, choice-none, choice-some}
@@ -14,14 +14,14 @@ use Rattle.identification.proofs.choose.Tie as tie
 
 -- the key fits, and its symbol is asked for
 fit : (c : tie.Else1) → (let k = c .before .before .packet-key .result in let n = c .before .before .before .before .before .before .args .numbers in
-    (k .key ≡ symbolOf (packetOf n)) × (fits (packetOf n) ≡ true))
+    (k .key ≡ symbolOf (packetOf n)) × (keyFits (packetOf n) ≡ true))
 fit c = let e = c .before .before .packet-key .ensures in let t = not-false _ (c .if1 .left) in (e .1 t, sym (e .0) ∙ t)
 
 packet-key-requires : tie.Need-packet-key-requires
 packet-key-requires c κs = search needs
 
 returns : tie.Need-returns
-unfolding saidIdentified refusedBy numberOf placeOf
+unfolding saidIdentified refusedBy refusalNumber refusalPlace
 returns c =
     let k = c .before .before in
     choice-none _ _ (holder-unfit _ _ (sym (k .packet-key .ensures .0) ∙ not-true _ (c .if1 .taken)))
@@ -30,7 +30,7 @@ holder-of-requires : tie.Need-holder-of-requires
 holder-of-requires c κs = search needs
 
 returns-2 : tie.Need-returns-2
-unfolding saidIdentified refusedBy numberOf placeOf
+unfolding saidIdentified refusedBy refusalNumber refusalPlace
 returns-2 c =
     let h = c .before in
     choice-none _ _ (holder-none _ _ _ _ _ _ (fit (h .before) .0) (fit (h .before) .1) _ (h .holder-of .ensures .0) (c .if2 .taken))

@@ -1,7 +1,7 @@
 -- What is read in the bytes from the field on.
 use borrow.Author.Needs.{needs}
 use Rattle.fields.specs.Field.{saidUnsigned}
-use Rattle.outcomes.specs.Refusals.{refusedBy, numberOf, placeOf}
+use Rattle.outcomes.specs.Refusals.{refusedBy, refusalNumber, refusalPlace}
 use Rattle.identifiers.specs.Identifiers.{readIdentifier, saidField}
 use Rattle.identifiers.proofs.IdentifierLaws.{read-from}
 use Rattle.identifiers.proofs.field_at.Statement.{statement}
@@ -27,7 +27,7 @@ unfolding saidField saidUnsigned readIdentifier
 returns c = let u = c .before .before .before in read-from _ _ _ (u .before .bytes-from .ensures) (u .read-unsigned .ensures) (c .before .v .given .1)
 
 returns-2 : tie.Need-returns-2
-unfolding saidField saidUnsigned readIdentifier refusedBy numberOf placeOf
+unfolding saidField saidUnsigned readIdentifier refusedBy refusalNumber refusalPlace
 returns-2 c = let u = c .before .before in read-from _ _ _ (u .before .bytes-from .ensures) (u .read-unsigned .ensures) (c .enum-told .given .1)
 
 returns-3 : tie.Need-returns-3

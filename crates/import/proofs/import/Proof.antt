@@ -3,7 +3,7 @@ use mathlib.Core.Path.{refl, sym, _∙_}
 use Rattle.verdicts.specs.Answer.{cellsAfter}
 use Rattle.kept.proofs.AnswerLaws.{kept-long, kept-many, kept-short, kept-done}
 use Rattle.laws.proofs.Cases.{false≢true}
-use Rattle.import.specs.Judged.{said}
+use Rattle.import.specs.Judged.{saidImported}
 use Rattle.import.proofs.AnswerLaws.{answer-long, answer-many}
 use Rattle.import.proofs.ImportLaws.{answer-by, has-places}
 use borrow.Author.Needs.{needs}
@@ -47,13 +47,13 @@ import-kept-requires : tie.Need-import-kept-requires
 import-kept-requires c κs = search needs
 
 returns : tie.Need-returns
-unfolding said cellsAfter
+unfolding saidImported cellsAfter
 returns c =
     let kept = c .before .before .before .before .before .before .before in
     (sym (answer-long _ _ (kept-long _ _ _ _ (kept .keep .ensures) _ (c .before .table .given .1) .0)), refl)
 
 returns-2 : tie.Need-returns-2
-unfolding said cellsAfter
+unfolding saidImported cellsAfter
 returns-2 c =
     let kept = c .before .before .before .before .before .before .before in
     (sym (answer-many _ _ (kept-many _ _ _ _ (kept .keep .ensures) _ (c .before .table2 .given .1) .0)), refl)

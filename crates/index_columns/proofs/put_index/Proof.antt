@@ -33,7 +33,8 @@ returns c =
     let a = firsts .before .before .before .before .before .before .before .before .before .before .before .args in
     rw (← rows .ensures)
     (all-put (a .columns .now) (a .tables .now) (a .holders .now) (a .firsts .now) (a .nexts .now) (rows .result) _ _ _ _ _
-    (firsts .before .before .before .before .before .put-halves .ensures) (firsts .put-halves2 .ensures) (numbers .before .before .before .before .put-halves3 .ensures)
+    (firsts .before .before .before .before .before .put-halves .ensures) (firsts .put-halves2 .ensures)
+    (numbers .before .before .before .before .put-halves3 .ensures)
     (numbers .put-numbers .ensures) (c .before .before .put-tables .ensures))
 
 pub put-index-spec : {M : Type 1} → statement M

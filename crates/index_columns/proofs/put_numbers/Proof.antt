@@ -1,7 +1,7 @@
 -- The invariant: the first i places are put, and the number is that of the next row.
 use Rattle.index_columns.proofs.PutLaws.{Putting, put-start, put-next, put-end}
 use Rattle.index_columns.proofs.NumberLaws.{number-next, number-most}
-use Rattle.index_columns.specs.Columns.{numberOf}
+use Rattle.index_columns.specs.Columns.{rowNumberAt}
 use Rattle.database.specs.Arrays.{numberColumn}
 use native.Mathlib.Omega.{arith}
 use Prim.Native.Nat.{_+_, _-_, _≤_}
@@ -11,13 +11,13 @@ use Rattle.index_columns.proofs.put_numbers.Tie as tie
 
 abbrev Inv-loop : tie.InvT-loop
 Inv-loop tables columns₀ n number₀ i₀ columns number i =
-    Putting (numberOf tables) numberColumn n columns₀ columns i × (number ≡ numberOf tables i) × (number ≤ i + 1)
+    Putting (rowNumberAt tables) numberColumn n columns₀ columns i × (number ≡ rowNumberAt tables i) × (number ≤ i + 1)
 
 abbrev μ-loop : tie.MeasureT-loop
 μ-loop tables columns₀ n number₀ i₀ columns number i = n - i
 
 loop-holds : tie.Need-loop-holds Inv-loop μ-loop
-unfolding numberOf
+unfolding rowNumberAt
 loop-holds c = (put-start _ _ _ _, refl, omega arith)
 
 add-put-half : tie.Need-add-put-half Inv-loop μ-loop

@@ -32,7 +32,8 @@ returns : tie.Need-returns
 returns c =
     let a = c .before .before .before .before .before .before .before .before .before .before .before .before .before .args in
     counts-by (a .halves .now) (a .bytes .now) (a .n) _ _ _ _ (c .before .before .before .before .before .before .before .before .before .half-column .ensures)
-    (c .before .before .before .before .before .byte-column .ensures) (c .before .before .before .before .half-column2 .ensures) (c .before .before .before .half-column3 .ensures)
+    (c .before .before .before .before .before .byte-column .ensures) (c .before .before .before .before .half-column2 .ensures)
+    (c .before .before .before .half-column3 .ensures)
     (a .sound .now) (a .counts .now) _ _ (c .before .before .before .before .before .before .before .count-ids .ensures) (c .count-rows .ensures)
 
 pub count-cells-spec : {M : Type 1} → statement M

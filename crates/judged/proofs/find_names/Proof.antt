@@ -21,7 +21,8 @@ returns : tie.Need-returns
 returns c =
     let a = c .before .before .before .before .before .before .before .before .before .args in
     let found = found-by (a .halves .now) (a .holders .now) in (
-      found name1Column (a .n) _ (a .found1 .now) _ (c .before .before .before .before .before .before .before .half-column .ensures) (c .before .before .before .before .find-rows .ensures),
+      found name1Column (a .n) _ (a .found1 .now) _ (c .before .before .before .before .before .before .before .half-column .ensures)
+          (c .before .before .before .before .find-rows .ensures),
       found name2Column (a .n) _ (a .found2 .now) _ (c .before .before .before .half-column2 .ensures) (c .find-rows2 .ensures),
     )
 

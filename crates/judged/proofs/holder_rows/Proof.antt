@@ -19,7 +19,8 @@ note-holders-requires c κs = search needs
 returns : tie.Need-returns
 returns c =
     let a = c .before .before .before .before .before .before .before .before .args in
-    let formed = formed-is (a .halves .now) (a .n) _ _ (c .before .before .before .before .before .before .half-column .ensures) (c .before .before .before .before .mark-formed .ensures) in
+    let formed = formed-is (a .halves .now) (a .n) _ _ (c .before .before .before .before .before .before .half-column .ensures)
+    (c .before .before .before .before .mark-formed .ensures) in
     holders-same _ _ (a .halves .now) (a .holders .now) _ (a .n) formed (c .note-holders .ensures)
 
 pub holder-rows-spec : {M : Type 1} → statement M

@@ -28,7 +28,8 @@ returns c =
     let own = marks .before .before .before .before .before .before .before in
     let a = own .before .before .before .before .args in
     judged-by (a .halves .now) (a .bytes .now) (a .sound .now) (a .counts .now) (a .found1 .now) (a .found2 .now) (a .cells .now) _ (a .n) _ _ _ _
-    (own .half-column .ensures) (marks .before .before .before .before .byte-column .ensures) (marks .before .before .byte-column2 .ensures) (marks .byte-column3 .ensures)
+    (own .half-column .ensures) (marks .before .before .before .before .byte-column .ensures) (marks .before .before .byte-column2 .ensures)
+    (marks .byte-column3 .ensures)
     (c .before .before .judge-rows .ensures)
 
 pub judge-found-spec : {M : Type 1} → statement M

@@ -19,7 +19,8 @@ note-rows-requires-2 c κs = search needs
 returns : tie.Need-returns
 returns c =
     let a = c .before .before .before .before .before .before .before .before .before .args in
-    holders-noted (a .marks .now) (a .halves .now) (a .n) _ _ (c .before .before .before .before .before .before .half-column .ensures) (c .before .before .half-column2 .ensures)
+    holders-noted (a .marks .now) (a .halves .now) (a .n) _ _ (c .before .before .before .before .before .before .half-column .ensures)
+    (c .before .before .half-column2 .ensures)
     (a .holders .now) _ _ (c .before .before .before .before .note-rows .ensures) (c .note-rows2 .ensures)
 
 pub note-holders-spec : {M : Type 1} → statement M

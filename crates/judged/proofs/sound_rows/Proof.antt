@@ -54,7 +54,8 @@ returns c =
     let a = marked .before .before .before .before .args in
     let formed = formed-is (a .halves .now) (a .n) _ _ (marked .before .before .half-column .ensures) (marked .mark-formed .ensures) in
     sound-by (a .halves .now) (a .n) _ _ _ formed (columns .before .half-column2 .ensures) (columns .half-column3 .ensures)
-    (a .sound .now) _ _ _ (c .before .before .before .before .before .before .before .before .before .count-ids .ensures) (c .before .before .before .before .before .count-ids2 .ensures) (c .mark-sound .ensures)
+    (a .sound .now) _ _ _ (c .before .before .before .before .before .before .before .before .before .count-ids .ensures)
+    (c .before .before .before .before .before .count-ids2 .ensures) (c .mark-sound .ensures)
 
 pub sound-rows-spec : {M : Type 1} → statement M
 sound-rows-spec =

@@ -16,7 +16,8 @@ base-rows-requires c κs = search needs
 returns : tie.Need-returns
 returns c =
     let a = c .before .before .before .before .before .before .before .before .before .before .args in
-    bases-law (a .own .now) (a .sound .now) (a .counts .now) (a .next .now) (a .base .now) (a .n) _ _ (c .before .before .before .before .mark-circles .ensures) (c .base-rows .ensures)
+    bases-law (a .own .now) (a .sound .now) (a .counts .now) (a .next .now) (a .base .now) (a .n) _ _
+    (c .before .before .before .before .mark-circles .ensures) (c .base-rows .ensures)
 
 pub judge-bases-spec : {M : Type 1} → statement M
 judge-bases-spec =

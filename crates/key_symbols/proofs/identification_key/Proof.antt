@@ -3,7 +3,7 @@ use Prim.Native.Nat.{_^_}
 use borrow.Author.Tests.{lt-ltb}
 use borrow.Author.Needs.{needs}
 use Rattle.key_symbols.specs.Keyed.{symbolOf}
-use Rattle.key_symbols.specs.Bounded.{fits}
+use Rattle.key_symbols.specs.Bounded.{keyFits}
 use Rattle.key_symbols.proofs.identification_key.Statement.{statement}
 use Rattle.key_symbols.proofs.identification_key.Tie as tie
 
@@ -14,7 +14,7 @@ apid-word-requires : tie.Need-apid-word-requires
 apid-word-requires c κs = search needs
 
 returns : tie.Need-returns
-unfolding symbolOf fits
+unfolding symbolOf keyFits
 returns c =
     let s = c .before .before in
     (rw (c .before .two-halves .ensures, c .apid-word .ensures), lt-ltb (s .args .stype) (2 ^ 32) (search needs))

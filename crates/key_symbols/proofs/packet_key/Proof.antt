@@ -5,7 +5,7 @@ use lib.Dec.{ltb}
 use borrow.Author.Tests.{le-ltb}
 use borrow.Author.Needs.{needs}
 use Rattle.laws.proofs.Cases.{false≢true, and-false}
-use Rattle.key_symbols.specs.Bounded.{fits}
+use Rattle.key_symbols.specs.Bounded.{keyFits}
 use Rattle.key_symbols.proofs.packet_key.Statement.{statement}
 use Rattle.key_symbols.proofs.packet_key.Tie as tie
 
@@ -19,7 +19,7 @@ returns : tie.Need-returns
 returns c = (sym (c .pid-key .ensures .1), (λ _. c .pid-key .ensures .0), λ e. absurd (false≢true (sym e)))
 
 returns-2 : tie.Need-returns-2
-unfolding fits
+unfolding keyFits
 returns-2 c =
     let n = c .before .before .args .n in
     (rw (le-ltb (n .pi1) (2 ^ 32) (c .if1 .left)) (sym (and-false (ltb (n .stype) (2 ^ 32)))), (λ e. absurd (false≢true e)), λ _. refl)

@@ -4,7 +4,7 @@ use borrow.Author.Tests.{lt-ltb}
 use borrow.Author.Needs.{needs}
 use Rattle.laws.proofs.Cases.{and-both}
 use Rattle.key_symbols.specs.Keyed.{symbolOf}
-use Rattle.key_symbols.specs.Bounded.{fits}
+use Rattle.key_symbols.specs.Bounded.{keyFits}
 use Rattle.key_symbols.proofs.pid_key.Statement.{statement}
 use Rattle.key_symbols.proofs.pid_key.Tie as tie
 
@@ -15,7 +15,7 @@ two-halves-requires-2 : tie.Need-two-halves-requires-2
 two-halves-requires-2 c κs = search needs
 
 returns : tie.Need-returns
-unfolding symbolOf fits
+unfolding symbolOf keyFits
 returns c =
     let s = c .before .before in (
       rw (c .before .two-halves .ensures, c .two-halves2 .ensures),

@@ -1,6 +1,6 @@
 -- By the rows of the parameter.
 use mathlib.Core.Path.{_∙_}
-use Rattle.outcomes.specs.Refusals.{refusedBy, numberOf, placeOf}
+use Rattle.outcomes.specs.Refusals.{refusedBy, refusalNumber, refusalPlace}
 use Rattle.readings.specs.Readings.{saidReading, reading}
 use Rattle.readings.proofs.ReadingLaws.{not-true, not-false, read-unlocated, read-located}
 use borrow.Author.Needs.{needs}
@@ -11,7 +11,7 @@ locate-requires : tie.Need-locate-requires
 locate-requires c κs = search needs
 
 returns : tie.Need-returns
-unfolding reading saidReading refusedBy numberOf placeOf
+unfolding reading saidReading refusedBy refusalNumber refusalPlace
 returns c = read-unlocated _ _ _ _ _ _ _ _ _ (c .before .before .locate .ensures _) (not-true _ (c .if1 .taken))
 
 line-of-requires : tie.Need-line-of-requires

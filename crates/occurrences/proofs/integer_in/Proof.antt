@@ -4,7 +4,7 @@ use mir.Facts.{toZ-ofZ}
 use mir.Val.{SFits}
 use mir.Syntax.{w64}
 use Rattle.outcomes.specs.Outcome.{answer}
-use Rattle.outcomes.specs.Refusals.{refusedBy, numberOf, placeOf}
+use Rattle.outcomes.specs.Refusals.{refusedBy, refusalNumber, refusalPlace}
 use Rattle.outcomes.specs.Values.{valueOf}
 use Rattle.occurrences.specs.Values.{integerIn}
 use Rattle.occurrences.specs.Pass.{saidNumber}
@@ -25,7 +25,7 @@ returns c =
     ap answer (toZ-ofZ f) ∙ rw (c .before .value .given .1)
 
 returns-2 : tie.Need-returns-2
-unfolding saidNumber integerIn valueOf refusedBy numberOf placeOf
+unfolding saidNumber integerIn valueOf refusedBy refusalNumber refusalPlace
 returns-2 c = rw (c .before .value2 .given .1)
 
 pub integer-in-spec : {M : Type 1} → statement M

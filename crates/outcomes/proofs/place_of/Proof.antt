@@ -1,7 +1,7 @@
 -- Case by case.
 use mathlib.Core.Path.{sym, ap}
 use borrow.Author.Needs.{needs}
-use Rattle.outcomes.specs.Refusals.{placeOf}
+use Rattle.outcomes.specs.Refusals.{refusalPlace}
 use Rattle.outcomes.proofs.place_of.Statement.{statement}
 use Rattle.outcomes.proofs.place_of.Tie as tie
 
@@ -66,84 +66,84 @@ enum-told-15 : tie.Need-enum-told-15
 enum-told-15 c = search needs
 
 returns : tie.Need-returns
-unfolding placeOf
-returns c = sym (ap placeOf (c .before .refusal .given .1))
+unfolding refusalPlace
+returns c = sym (ap refusalPlace (c .before .refusal .given .1))
 
 returns-2 : tie.Need-returns-2
-unfolding placeOf
-returns-2 c = sym (ap placeOf (c .before .refusal2 .given .1))
+unfolding refusalPlace
+returns-2 c = sym (ap refusalPlace (c .before .refusal2 .given .1))
 
 returns-3 : tie.Need-returns-3
-unfolding placeOf
-returns-3 c = sym (ap placeOf (c .enum-told .given .1))
+unfolding refusalPlace
+returns-3 c = sym (ap refusalPlace (c .enum-told .given .1))
 
 returns-4 : tie.Need-returns-4
-unfolding placeOf
-returns-4 c = sym (ap placeOf (c .enum-told2 .given .1))
+unfolding refusalPlace
+returns-4 c = sym (ap refusalPlace (c .enum-told2 .given .1))
 
 returns-5 : tie.Need-returns-5
-unfolding placeOf
-returns-5 c = sym (ap placeOf (c .enum-told3 .given .1))
+unfolding refusalPlace
+returns-5 c = sym (ap refusalPlace (c .enum-told3 .given .1))
 
 returns-6 : tie.Need-returns-6
-unfolding placeOf
-returns-6 c = sym (ap placeOf (c .enum-told4 .given .1))
+unfolding refusalPlace
+returns-6 c = sym (ap refusalPlace (c .enum-told4 .given .1))
 
 returns-7 : tie.Need-returns-7
-unfolding placeOf
-returns-7 c = sym (ap placeOf (c .enum-told5 .given .1))
+unfolding refusalPlace
+returns-7 c = sym (ap refusalPlace (c .enum-told5 .given .1))
 
 returns-8 : tie.Need-returns-8
-unfolding placeOf
-returns-8 c = sym (ap placeOf (c .before .refusal3 .given .1))
+unfolding refusalPlace
+returns-8 c = sym (ap refusalPlace (c .before .refusal3 .given .1))
 
 returns-9 : tie.Need-returns-9
-unfolding placeOf
-returns-9 c = sym (ap placeOf (c .enum-told6 .given .1))
+unfolding refusalPlace
+returns-9 c = sym (ap refusalPlace (c .enum-told6 .given .1))
 
 returns-10 : tie.Need-returns-10
-unfolding placeOf
-returns-10 c = sym (ap placeOf (c .enum-told7 .given .1))
+unfolding refusalPlace
+returns-10 c = sym (ap refusalPlace (c .enum-told7 .given .1))
 
 returns-11 : tie.Need-returns-11
-unfolding placeOf
-returns-11 c = sym (ap placeOf (c .enum-told8 .given .1))
+unfolding refusalPlace
+returns-11 c = sym (ap refusalPlace (c .enum-told8 .given .1))
 
 returns-12 : tie.Need-returns-12
-unfolding placeOf
-returns-12 c = sym (ap placeOf (c .before .refusal4 .given .1))
+unfolding refusalPlace
+returns-12 c = sym (ap refusalPlace (c .before .refusal4 .given .1))
 
 returns-13 : tie.Need-returns-13
-unfolding placeOf
-returns-13 c = sym (ap placeOf (c .before .refusal5 .given .1))
+unfolding refusalPlace
+returns-13 c = sym (ap refusalPlace (c .before .refusal5 .given .1))
 
 returns-14 : tie.Need-returns-14
-unfolding placeOf
-returns-14 c = sym (ap placeOf (c .enum-told9 .given .1))
+unfolding refusalPlace
+returns-14 c = sym (ap refusalPlace (c .enum-told9 .given .1))
 
 returns-15 : tie.Need-returns-15
-unfolding placeOf
-returns-15 c = sym (ap placeOf (c .enum-told10 .given .1))
+unfolding refusalPlace
+returns-15 c = sym (ap refusalPlace (c .enum-told10 .given .1))
 
 returns-16 : tie.Need-returns-16
-unfolding placeOf
-returns-16 c = sym (ap placeOf (c .enum-told11 .given .1))
+unfolding refusalPlace
+returns-16 c = sym (ap refusalPlace (c .enum-told11 .given .1))
 
 returns-17 : tie.Need-returns-17
-unfolding placeOf
-returns-17 c = sym (ap placeOf (c .enum-told12 .given .1))
+unfolding refusalPlace
+returns-17 c = sym (ap refusalPlace (c .enum-told12 .given .1))
 
 returns-18 : tie.Need-returns-18
-unfolding placeOf
-returns-18 c = sym (ap placeOf (c .enum-told13 .given .1))
+unfolding refusalPlace
+returns-18 c = sym (ap refusalPlace (c .enum-told13 .given .1))
 
 returns-19 : tie.Need-returns-19
-unfolding placeOf
-returns-19 c = sym (ap placeOf (c .enum-told14 .given .1))
+unfolding refusalPlace
+returns-19 c = sym (ap refusalPlace (c .enum-told14 .given .1))
 
 returns-20 : tie.Need-returns-20
-unfolding placeOf
-returns-20 c = sym (ap placeOf (c .enum-told15 .given .1))
+unfolding refusalPlace
+returns-20 c = sym (ap refusalPlace (c .enum-told15 .given .1))
 
 pub place-of-spec : {M : Type 1} → statement M
 place-of-spec =

@@ -1,6 +1,6 @@
 -- A byte past the packet's end is outside whatever the field; else by its kind.
 use mathlib.Core.Path.{sym, _∙_}
-use Rattle.outcomes.specs.Refusals.{refusedBy, numberOf, placeOf}
+use Rattle.outcomes.specs.Refusals.{refusedBy, refusalNumber, refusalPlace}
 use Rattle.raw_values.specs.RawValues.{saidRaw}
 use Rattle.raw_values.proofs.RawLaws.{field-past, field-string, field-signed, field-unsigned}
 use borrow.Author.Needs.{needs}
@@ -8,7 +8,7 @@ use Rattle.raw_values.proofs.field_raw.Statement.{statement}
 use Rattle.raw_values.proofs.field_raw.Tie as tie
 
 returns : tie.Need-returns
-unfolding saidRaw refusedBy numberOf placeOf
+unfolding saidRaw refusedBy refusalNumber refusalPlace
 returns c = let s = c .before .before in field-past _ _ _ _ _ (c .if1 .taken) (s .pre .1) (s .pre .2)
 
 mul-at : tie.Need-mul-at

@@ -1,7 +1,7 @@
 -- By the numbers of the plf row, which a line holds in 32 bits.
 use mathlib.Core.Path.{_∙_}
 use native.Mathlib.Omega.{arith}
-use Rattle.outcomes.specs.Refusals.{refusedBy, numberOf, placeOf}
+use Rattle.outcomes.specs.Refusals.{refusedBy, refusalNumber, refusalPlace}
 use Rattle.raw_values.specs.RawValues.{saidRaw}
 use Rattle.raw_values.proofs.RawLaws.{start-bounded, no-occurrence, occurrence-is}
 use borrow.Author.Needs.{needs}
@@ -15,7 +15,7 @@ cast-if1 : tie.Need-cast-if1
 cast-if1 c = search needs
 
 returns : tie.Need-returns
-unfolding saidRaw refusedBy numberOf placeOf
+unfolding saidRaw refusedBy refusalNumber refusalPlace
 returns c = no-occurrence _ _ _ _ _ _ (c .before .before .plf-of .ensures) (c .if1 .taken)
 
 start-of-requires : tie.Need-start-of-requires

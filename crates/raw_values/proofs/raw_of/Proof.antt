@@ -1,6 +1,6 @@
 -- By the packet's length and the width of the pcf row's type.
 use mathlib.Core.Path.{ap, sym, _∙_}
-use Rattle.outcomes.specs.Refusals.{refusedBy, numberOf, placeOf}
+use Rattle.outcomes.specs.Refusals.{refusedBy, refusalNumber, refusalPlace}
 use Rattle.raw_values.specs.RawValues.{saidRaw}
 use Rattle.raw_values.proofs.RawLaws.{packet-too-long, raw-in-bits, raw-refused, width-wide}
 use Rattle.fields.specs.Width.{bitsOf}
@@ -9,7 +9,7 @@ use Rattle.raw_values.proofs.raw_of.Statement.{statement}
 use Rattle.raw_values.proofs.raw_of.Tie as tie
 
 returns : tie.Need-returns
-unfolding saidRaw refusedBy numberOf placeOf
+unfolding saidRaw refusedBy refusalNumber refusalPlace
 returns c = packet-too-long _ _ _ _ (c .if1 .taken)
 
 pcf-of-requires : tie.Need-pcf-of-requires
@@ -35,7 +35,7 @@ returns-2 c = let w = c .before .before .before .before in
     ∙ raw-in-bits _ _ _ _ _ _ (w .before .before .if1 .left) (w .before .pcf-of .ensures) (w .width-of .ensures) _ (c .before .before .width .given .1)
 
 returns-3 : tie.Need-returns-3
-unfolding saidRaw refusedBy numberOf placeOf
+unfolding saidRaw refusedBy refusalNumber refusalPlace
 returns-3 c = let w = c .before .before in
     raw-refused _ _ _ _ _ _ (w .before .before .if1 .left) (w .before .pcf-of .ensures) (w .width-of .ensures) (c .enum-told .given .1)
 

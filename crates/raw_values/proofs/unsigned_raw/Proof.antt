@@ -1,7 +1,7 @@
 -- Each answer about an unsigned field, with the byte in which it starts.
 use Rattle.fields.specs.Field.{saidUnsigned}
 use Rattle.outcomes.specs.Values.{valueOf}
-use Rattle.outcomes.specs.Refusals.{refusedBy, numberOf, placeOf}
+use Rattle.outcomes.specs.Refusals.{refusedBy, refusalNumber, refusalPlace}
 use Rattle.raw_values.specs.RawValues.{saidRaw, valueAt}
 use Rattle.raw_values.proofs.RawLaws.{told, unsigned-fits, unsigned-number}
 use borrow.Author.Needs.{needs}
@@ -25,16 +25,16 @@ enum-told-2 : tie.Need-enum-told-2
 enum-told-2 c = search needs
 
 returns : tie.Need-returns
-unfolding saidRaw refusedBy numberOf placeOf valueOf valueAt saidUnsigned
+unfolding saidRaw refusedBy refusalNumber refusalPlace valueOf valueAt saidUnsigned
 returns c =
     unsigned-number _ _ _ _ (c .before .before .before .read-unsigned .ensures) _ (c .before .before .before .before .before .pre) (c .before .v .given .1)
 
 returns-2 : tie.Need-returns-2
-unfolding saidRaw refusedBy numberOf placeOf valueOf valueAt saidUnsigned
+unfolding saidRaw refusedBy refusalNumber refusalPlace valueOf valueAt saidUnsigned
 returns-2 c = told saidUnsigned _ _ _ _ (c .before .before .before .read-unsigned .ensures) (c .before .enum-told .given .1)
 
 returns-3 : tie.Need-returns-3
-unfolding saidRaw refusedBy numberOf placeOf valueOf valueAt saidUnsigned
+unfolding saidRaw refusedBy refusalNumber refusalPlace valueOf valueAt saidUnsigned
 returns-3 c = told saidUnsigned _ _ _ _ (c .before .before .read-unsigned .ensures) (c .enum-told2 .given .1)
 
 pub unsigned-raw-spec : {M : Type 1} → statement M

@@ -37,7 +37,8 @@ loop-again c =
     let t = c .before .before .before .before in
     let l = t .before .before .before in
     turning-here _ _ _ _ _ _ _ (l .before .loop .inv) (l .loop-test .taken)
-    (in-turn (l .before .before .before .before .args .cells .now) (l .before .loop .i) _ _ (t .before .before .half-at .ensures) _ (t .before .turn-of .ensures) (t .if1 .taken))
+    (in-turn (l .before .before .before .before .args .cells .now) (l .before .loop .i) _ _ (t .before .before .half-at .ensures) _
+    (t .before .turn-of .ensures) (t .if1 .taken))
     _ (c .before .before .put-row .ensures .1) _ (c .before .before .put-row .ensures .0)
 
 add-i-2 : tie.Need-add-i-2 Inv-loop μ-loop
@@ -50,7 +51,8 @@ loop-again-2 : tie.Need-loop-again-2 Inv-loop μ-loop
 loop-again-2 c =
     let l = c .before .before .before in
     turning-more _ _ _ _ _ _ _ (l .before .loop .inv) (l .loop-test .taken)
-    (not-in-turn (l .before .before .before .before .args .cells .now) (l .before .loop .i) _ _ (c .before .before .half-at .ensures) _ (c .before .turn-of .ensures) (c .if1 .left))
+    (not-in-turn (l .before .before .before .before .args .cells .now) (l .before .loop .i) _ _ (c .before .before .half-at .ensures) _
+    (c .before .turn-of .ensures) (c .if1 .left))
 
 same-length : tie.Need-same-length Inv-loop μ-loop
 same-length c = c .before .loop .inv .long

@@ -24,7 +24,8 @@ same-length-3 : tie.Need-same-length-3
 same-length-3 c = search needs
 
 returns-2 : tie.Need-returns-2
-returns-2 c = c .before .before .before .before .set-in .ensures ∙ line-read _ _ _ _ (c .before .before .before .before .before .before .before .before .if1 .left)
+returns-2 c = c .before .before .before .before .set-in .ensures
+    ∙ line-read _ _ _ _ (c .before .before .before .before .before .before .before .before .if1 .left)
 
 pub set-line-spec : {M : Type 1} → statement M
 set-line-spec =

@@ -3,7 +3,7 @@ use mathlib.Core.Path.{sym, _∙_}
 use native.Mathlib.Omega.{arith}
 use borrow.Author.Tests.{eq-eqb, ne-eqb}
 use Rattle.scripts.proofs.NumeralLaws.{most-is}
-use Rattle.settings.specs.Settings.{stateIn, stateOf}
+use Rattle.settings.specs.Settings.{stateText, stateOf}
 use borrow.Author.Needs.{needs}
 use Rattle.settings.proofs.state_in.Statement.{statement}
 use Rattle.settings.proofs.state_in.Tie as tie
@@ -12,7 +12,7 @@ column-count-requires : tie.Need-column-count-requires
 column-count-requires c κs = search needs
 
 returns : tie.Need-returns
-unfolding stateIn
+unfolding stateText
 returns c = rw (ne-eqb _ 5 (λ p. c .if1 .taken (c .before .column-count .ensures ∙ p)))
 
 natural-at-requires : tie.Need-natural-at-requires
@@ -25,7 +25,7 @@ enum-told : tie.Need-enum-told
 enum-told c = search needs
 
 returns-2 : tie.Need-returns-2
-unfolding stateIn stateOf
+unfolding stateText stateOf
 returns-2 c =
     let k0 = c .before .before .before .before in
     rw (
@@ -43,7 +43,7 @@ enum-told-2 : tie.Need-enum-told-2
 enum-told-2 c = search needs
 
 returns-3 : tie.Need-returns-3
-unfolding stateIn stateOf
+unfolding stateText stateOf
 returns-3 c =
     let k1 = c .before .before .before .before in
     let k0 = k1 .before .before .before .before in
@@ -63,7 +63,7 @@ enum-told-3 : tie.Need-enum-told-3
 enum-told-3 c = search needs
 
 returns-4 : tie.Need-returns-4
-unfolding stateIn stateOf
+unfolding stateText stateOf
 returns-4 c =
     let k2 = c .before .before .before .before in
     let k1 = k2 .before .before .before .before in
@@ -85,7 +85,7 @@ enum-told-4 : tie.Need-enum-told-4
 enum-told-4 c = search needs
 
 returns-5 : tie.Need-returns-5
-unfolding stateIn stateOf
+unfolding stateText stateOf
 returns-5 c =
     let k3 = c .before .before .before .before in
     let k2 = k3 .before .before .before .before in
@@ -109,7 +109,7 @@ enum-told-5 : tie.Need-enum-told-5
 enum-told-5 c = search needs
 
 returns-6 : tie.Need-returns-6
-unfolding stateIn stateOf
+unfolding stateText stateOf
 returns-6 c =
     let k4 = c .before .before .before .before in
     let k3 = k4 .before .before .before .before in
@@ -147,7 +147,7 @@ cast-t19 : tie.Need-cast-t19
 cast-t19 c = omega (arith, most-is 255 _ _ (sym (c .before .before .before .natural-at5 .ensures) ∙ c .before .announced .given .1))
 
 returns-7 : tie.Need-returns-7
-unfolding stateIn stateOf
+unfolding stateText stateOf
 returns-7 c =
     let k5 = c .before in
     let k4 = k5 .before .before .before .before in

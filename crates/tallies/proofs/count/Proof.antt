@@ -3,7 +3,7 @@ use mathlib.Core.Path.{refl, ap, _∙_}
 use Rattle.tallies.proofs.TotalLaws.{tally-parts}
 use lib.ListN.{set}
 use Prim.Native.Nat.{ℕ}
-use Rattle.tallies.specs.Totals.{plus, counted}
+use Rattle.tallies.specs.Totals.{plus, tallyAfter}
 use borrow.Author.Needs.{needs}
 use Rattle.tallies.proofs.count.Statement.{statement}
 use Rattle.tallies.proofs.count.Tie as tie
@@ -57,11 +57,11 @@ plus-requires-4 : tie.Need-plus-requires-4
 plus-requires-4 c κs = search needs
 
 returns : tie.Need-returns
-unfolding counted
+unfolding tallyAfter
 returns c = rw (c .before .enum-told .given .1) (tally-parts refl refl (c .plus .ensures))
 
 returns-2 : tie.Need-returns-2
-unfolding counted
+unfolding tallyAfter
 returns-2 c = let number = c .before .before .before .before .number-at .ensures in
     let told = c .before .before .before .before .before .before .enum-told2 .given .1 in
     let a = c .before .before .before .before .before .before .before .before .before .args in
@@ -69,7 +69,7 @@ returns-2 c = let number = c .before .before .before .before .number-at .ensures
     rw told (tally-parts (c .before .keep-at .ensures ∙ ap (set (a .tally .asked) (a .k)) sum) refl refl)
 
 returns-3 : tie.Need-returns-3
-unfolding counted
+unfolding tallyAfter
 returns-3 c = let number = c .before .before .before .before .before .number-at2 .ensures in
     let told = c .before .before .before .before .before .before .before .enum-told3 .given .1 in
     let a = c .before .before .before .before .before .before .before .before .before .before .args in

@@ -7,7 +7,7 @@ use denote.Ref.{now}
 use mir.Facts.{toZ-ofZ}
 use mir.Val.{SFits}
 use mir.Syntax.{w64}
-use Rattle.outcomes.specs.Refusals.{numberOf, placeOf, refusedBy}
+use Rattle.outcomes.specs.Refusals.{refusalNumber, refusalPlace, refusedBy}
 use Rattle.database.specs.Arrays.{rowAt}
 use Rattle.texts.specs.Texts.{toOf, saidText}
 use Rattle.texts.proofs.AltxtLaws.{altxt-first, altxt-inside}
@@ -35,7 +35,7 @@ below c =
     sym (c .less .ensures ∙ ap₂ ltZ (toZ-ofZ f ∙ to-is _ (t .txp-of .ensures) (t .before .line-of .ensures)) (toZ-ofZ (s .fits .raw)))
 
 returns : tie.Need-returns
-unfolding saidText refusedBy numberOf placeOf
+unfolding saidText refusedBy refusalNumber refusalPlace
 returns c =
     let t = c .before .before .before in
     text-below _ (t .txp-of .ensures) (t .before .line-of .ensures) _ (below (c .before) ∙ c .if1 .taken)

@@ -10,7 +10,7 @@ use denote.Ref.{now}
 use mir.Facts.{toZ-ofZ}
 use Rattle.verdicts.specs.Key.{texts}
 use Rattle.calibration.specs.Nearest.{notAbove}
-use Rattle.outcomes.specs.Refusals.{numberOf, placeOf, refusedBy}
+use Rattle.outcomes.specs.Refusals.{refusalNumber, refusalPlace, refusedBy}
 use Rattle.database.specs.Arrays.{database, answers}
 use Rattle.texts.specs.Texts.{fromOf, saidText}
 use Rattle.database.proofs.GatherLaws.{Listed, listed, listed-room, listed-part, part-long, member-at, filled-front}
@@ -95,7 +95,7 @@ returns c =
     c .text-of .ensures ∙ text-some _ _ _ (found n ∙ k .before .i .given .1) (member-at (ranges m) _ (place k)) (toZ-ofZ (start m .fits .raw))
 
 returns-2 : tie.Need-returns-2
-unfolding saidText refusedBy numberOf placeOf
+unfolding saidText refusedBy refusalNumber refusalPlace
 returns-2 c = text-none _ _ _ (found (c .before .before) ∙ c .enum-told .given .1)
 
 pub text-value-spec : {M : Type 1} → statement M

@@ -1,12 +1,12 @@
 -- As it stands.
 use mathlib.Core.Path.{refl}
-use Rattle.tallies.specs.Totals.{plus, counted, noTally}
+use Rattle.tallies.specs.Totals.{plus, tallyAfter, noTally}
 use Rattle.vectors.specs.Files.{unreadFile}
 use Rattle.vectors.proofs.unread_file.Statement.{statement}
 use Rattle.vectors.proofs.unread_file.Tie as tie
 
 returns : tie.Need-returns
-unfolding unreadFile counted noTally plus
+unfolding unreadFile tallyAfter noTally plus
 returns c = refl
 
 pub unread-file-spec : {M : Type 1} → statement M

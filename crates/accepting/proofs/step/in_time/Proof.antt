@@ -1,6 +1,6 @@
 -- Test by test.
 use mathlib.Core.Path.{sym, _∙_}
-use Rattle.outcomes.specs.Refusals.{refusedBy, numberOf, placeOf}
+use Rattle.outcomes.specs.Refusals.{refusedBy, refusalNumber, refusalPlace}
 use Rattle.accepting.specs.Answer.{saidStep}
 use Rattle.accepting.proofs.TimeLaws.{time-fresh, time-other, time-newer, time-old}
 use borrow.Author.Needs.{needs}
@@ -12,7 +12,7 @@ unfolding saidStep
 returns c = time-fresh _ _ (c .if1 .taken)
 
 returns-2 : tie.Need-returns-2
-unfolding saidStep refusedBy numberOf placeOf
+unfolding saidStep refusedBy refusalNumber refusalPlace
 returns-2 c = time-other _ _ (c .before .before .before .if1 .left) (c .if2 .taken)
 
 is-newer-requires : tie.Need-is-newer-requires
@@ -25,7 +25,7 @@ returns-3 c =
     time-newer _ _ (e .before .before .before .if1 .left) (e .if2 .left) (sym (c .before .is-newer .ensures) ∙ c .if3 .taken)
 
 returns-4 : tie.Need-returns-4
-unfolding saidStep refusedBy numberOf placeOf
+unfolding saidStep refusedBy refusalNumber refusalPlace
 returns-4 c =
     let e = c .before .before in
     time-old _ _ (e .before .before .before .if1 .left) (e .if2 .left) (sym (c .before .is-newer .ensures) ∙ c .if3 .left)

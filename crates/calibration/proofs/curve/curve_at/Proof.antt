@@ -1,7 +1,7 @@
 -- `calibration::curve::curve_at` meets its contract, by the two points next to the raw value.
 use mathlib.Core.Path.{_≡_, sym, _∙_}
 use Rattle.calibration.specs.Nearest.{notAbove, above}
-use Rattle.calibration.specs.Curve.{through, fromLast, beforeFirst, placed, curveAt, said}
+use Rattle.calibration.specs.Curve.{through, fromLast, beforeFirst, placed, curveAt, saidCurve}
 use Rattle.calibration.specs.declared.nearest.Found.{Found}
 use Rattle.calibration.specs.declared.nearest.Found.the-variants.{At}
 use Rattle.calibration.proofs.WordLaws.{of-word}
@@ -87,7 +87,7 @@ returns-3 c =
     ∙ placed-is p (l .enum-told2 .given .1) (h .high2 .given .1)
 
 returns-4 : tie.Need-returns-4
-unfolding placed said
+unfolding placed saidCurve
 returns-4 c = let l = c .before .before in placed-is (l .before .before) (l .enum-told2 .given .1) (c .enum-told3 .given .1)
 
 pub curve-at-spec : {M : Type 1} → statement M

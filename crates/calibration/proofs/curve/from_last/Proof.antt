@@ -6,7 +6,7 @@ use lib.Signed.{ltZ}
 use Rattle.laws.specs.Said.{value}
 use Rattle.laws.proofs.Words.{through-word, kept}
 use Rattle.calibration.specs.Nearest.{below}
-use Rattle.calibration.specs.Curve.{said}
+use Rattle.calibration.specs.Curve.{saidCurve}
 use Rattle.calibration.proofs.CurveLaws.{past-last, at-last}
 use borrow.Author.Needs.{needs}
 use Rattle.calibration.proofs.curve.from_last.Statement.{statement}
@@ -45,7 +45,7 @@ item-requires-2 : tie.Need-item-requires-2
 item-requires-2 c κs = search needs
 
 returns-2 : tie.Need-returns-2
-unfolding said
+unfolding saidCurve
 returns-2 c =
     let l = c .before .before in
     let a = l .before .before .args in

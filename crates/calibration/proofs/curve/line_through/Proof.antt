@@ -1,7 +1,7 @@
 -- `calibration::curve::line_through` meets its contract.
 use mathlib.Core.Path.{_∙_}
 use Rattle.laws.proofs.Words.{through-word}
-use Rattle.calibration.specs.Curve.{said}
+use Rattle.calibration.specs.Curve.{saidCurve}
 use Rattle.calibration.proofs.CurveLaws.{through-two, through-one, through-none}
 use borrow.Author.Needs.{needs}
 use Rattle.calibration.proofs.curve.line_through.Statement.{statement}
@@ -14,7 +14,7 @@ enum-told : tie.Need-enum-told
 enum-told c = search needs
 
 returns : tie.Need-returns
-unfolding said
+unfolding saidCurve
 returns c = through-none _ _ _ _ (c .enum-told .given .1)
 
 enum-known-to : tie.Need-enum-known-to
@@ -24,7 +24,7 @@ enum-told-2 : tie.Need-enum-told-2
 enum-told-2 c = search needs
 
 returns-2 : tie.Need-returns-2
-unfolding said
+unfolding saidCurve
 returns-2 c = through-one _ _ _ (c .before .before .before .from .given .1) (c .enum-told2 .given .1)
 
 point-requires : tie.Need-point-requires

@@ -1,5 +1,5 @@
 -- `calibration::curve::off_end` meets its contract.
-use Rattle.calibration.specs.Curve.{through, offEnd, said}
+use Rattle.calibration.specs.Curve.{through, offEnd, saidCurve}
 use Rattle.calibration.proofs.WordLaws.{of-word}
 use borrow.Author.Needs.{needs}
 use Rattle.calibration.proofs.curve.off_end.Statement.{statement}
@@ -22,7 +22,7 @@ returns c =
     rw (c .before .enum-told .given .1) (of-word (through (a .xs .now) (a .ys .now) (a .from) (a .to)) (a .x) (s .fits .x .sfits) (c .line-through .ensures))
 
 returns-2 : tie.Need-returns-2
-unfolding offEnd said
+unfolding offEnd saidCurve
 returns-2 c = rw (c .enum-told2 .given .1)
 
 pub off-end-spec : {M : Type 1} → statement M

@@ -5,7 +5,7 @@ use mir.Val.{SFits, toZ, ofZ}
 use mir.Syntax.{w64}
 use Rattle.calibration.specs.Curve as calibration
 use Rattle.outcomes.specs.Outcome.{answer}
-use Rattle.outcomes.specs.Refusals.{numberOf, placeOf, refusedBy}
+use Rattle.outcomes.specs.Refusals.{refusalNumber, refusalPlace, refusedBy}
 use Rattle.curve_values.specs.Along.{outcomeOf}
 use Rattle.curve_values.specs.Along.{saidResult}
 use borrow.Author.Needs.{needs}
@@ -31,20 +31,20 @@ word k =
     toZ-ofZ f
 
 returns : tie.Need-returns
-unfolding saidResult outcomeOf calibration.said
-returns c = ap answer (word c) ∙ sym (ap (λ x. outcomeOf (calibration.said x)) (c .before .value .given .1))
+unfolding saidResult outcomeOf calibration.saidCurve
+returns c = ap answer (word c) ∙ sym (ap (λ x. outcomeOf (calibration.saidCurve x)) (c .before .value .given .1))
 
 returns-2 : tie.Need-returns-2
-unfolding saidResult outcomeOf calibration.said refusedBy numberOf placeOf
-returns-2 c = sym (ap (λ x. outcomeOf (calibration.said x)) (c .enum-told .given .1))
+unfolding saidResult outcomeOf calibration.saidCurve refusedBy refusalNumber refusalPlace
+returns-2 c = sym (ap (λ x. outcomeOf (calibration.saidCurve x)) (c .enum-told .given .1))
 
 returns-3 : tie.Need-returns-3
-unfolding saidResult outcomeOf calibration.said refusedBy numberOf placeOf
-returns-3 c = sym (ap (λ x. outcomeOf (calibration.said x)) (c .enum-told2 .given .1))
+unfolding saidResult outcomeOf calibration.saidCurve refusedBy refusalNumber refusalPlace
+returns-3 c = sym (ap (λ x. outcomeOf (calibration.saidCurve x)) (c .enum-told2 .given .1))
 
 returns-4 : tie.Need-returns-4
-unfolding saidResult outcomeOf calibration.said refusedBy numberOf placeOf
-returns-4 c = sym (ap (λ x. outcomeOf (calibration.said x)) (c .enum-told3 .given .1))
+unfolding saidResult outcomeOf calibration.saidCurve refusedBy refusalNumber refusalPlace
+returns-4 c = sym (ap (λ x. outcomeOf (calibration.saidCurve x)) (c .enum-told3 .given .1))
 
 pub result-of-spec : {M : Type 1} → statement M
 result-of-spec =

@@ -1,7 +1,7 @@
 -- By the ends of the curve, where there is one.
 use mathlib.Core.Path.{ap, _∙_}
 use mir.Facts.{toZ-ofZ}
-use Rattle.outcomes.specs.Refusals.{numberOf, placeOf, refusedBy}
+use Rattle.outcomes.specs.Refusals.{refusalNumber, refusalPlace, refusedBy}
 use Rattle.curve_values.specs.Along.{outcomeOf}
 use Rattle.curve_values.specs.Along.{saidResult}
 use Rattle.curve_values.proofs.AlongLaws.{along-points, along-none}
@@ -37,7 +37,7 @@ returns c =
     ∙ along-points _ _ _ _ (k .ends .given .1) (a .before .before .front .ensures) (a .before .front2 .ensures) (toZ-ofZ (s .fits .raw))
 
 returns-2 : tie.Need-returns-2
-unfolding saidResult refusedBy numberOf placeOf
+unfolding saidResult refusedBy refusalNumber refusalPlace
 returns-2 c = along-none _ _ _ _ (c .enum-told .given .1)
 
 pub value-along-spec : {M : Type 1} → statement M

@@ -3,13 +3,13 @@ use mathlib.Core.Path.{_≡_, sym, _∙_}
 use lib.IntN.{pos, negsuc}
 use mir.Syntax.{w64}
 use mir.ValLaws.{toZ-ofZ}
-use Rattle.curves.specs.Line.{within, resultOf, saidOnLine}
+use Rattle.curves.specs.Line.{isBetween, resultOf, saidOnLine}
 use borrow.Author.Needs.{needs}
 use Rattle.curves.proofs.line.answer.Statement.{statement}
 use Rattle.curves.proofs.line.answer.Tie as tie
 
 -- the test, of the integer
-in-range : (c : tie.After-lies-within) → within (negsuc 2147483647) (pos 2147483647) (c .before .args .y) ≡ c .lies-within .result
+in-range : (c : tie.After-lies-within) → isBetween (negsuc 2147483647) (pos 2147483647) (c .before .args .y) ≡ c .lies-within .result
 in-range c = sym (c .lies-within .ensures ∙ rw (toZ-ofZ w64 (c .before .args .y) (c .before .fits .y)))
 
 lies-within-requires : tie.Need-lies-within-requires

@@ -2,7 +2,7 @@
 use mathlib.Core.Path.{_≡_}
 use native.Mathlib.Omega.{arith}
 use borrow.Author.Tests.{ne-eqb, le-leb, lt-leb}
-use Rattle.fields.specs.Width.{bitsOf, integerWidth, within}
+use Rattle.fields.specs.Width.{bitsOf, integerWidth, bitsWithin}
 use borrow.Author.Needs.{needs}
 use Rattle.fields.proofs.width.integer_width.Statement.{statement}
 use Rattle.fields.proofs.width.integer_width.Tie as tie
@@ -27,7 +27,7 @@ returns-3 c = let n = c .before .before .before .before .args .pfc in
     rw (ne-eqb n 13 (omega arith), ne-eqb n 14 (omega arith)) (c .bits-within .ensures)
 
 returns-4 : tie.Need-returns-4
-unfolding bitsOf integerWidth within
+unfolding bitsOf integerWidth bitsWithin
 returns-4 c = let n = c .before .before .before .args .pfc in
     rw (ne-eqb n 13 (omega arith), ne-eqb n 14 (omega arith), le-leb 0 n (omega arith), lt-leb n 12 (omega arith))
 

@@ -24,12 +24,26 @@ curve-clash-requires c κs = search needs
 returns-3 : tie.Need-returns-3
 unfolding pcfContradiction
 returns-3 c = let k = c .before .before in
-    rw (← k .before .before .before .has-no-width .ensures, k .before .before .if1 .left, ← k .before .category-clash .ensures, k .if2 .left, ← c .before .curve-clash .ensures, c .if3 .taken)
+    rw (
+      ← k .before .before .before .has-no-width .ensures,
+      k .before .before .if1 .left,
+      ← k .before .category-clash .ensures,
+      k .if2 .left,
+      ← c .before .curve-clash .ensures,
+      c .if3 .taken,
+    )
 
 returns-4 : tie.Need-returns-4
 unfolding pcfContradiction
 returns-4 c = let k = c .before .before in
-    rw (← k .before .before .before .has-no-width .ensures, k .before .before .if1 .left, ← k .before .category-clash .ensures, k .if2 .left, ← c .before .curve-clash .ensures, c .if3 .left)
+    rw (
+      ← k .before .before .before .has-no-width .ensures,
+      k .before .before .if1 .left,
+      ← k .before .category-clash .ensures,
+      k .if2 .left,
+      ← c .before .curve-clash .ensures,
+      c .if3 .left,
+    )
 
 pub pcf-contradiction-spec : {M : Type 1} → statement M
 pcf-contradiction-spec =

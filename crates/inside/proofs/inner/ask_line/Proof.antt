@@ -5,7 +5,7 @@ use mir.Facts.{toZ-ofZ}
 use mir.Val.{SFits, toZ, ofZ}
 use mir.Syntax.{w64}
 use Rattle.inside.specs.Inside.{lineAnswer}
-use Rattle.inside.specs.Inside.{lineReply, lineOf}
+use Rattle.inside.specs.Inside.{lineReply, lineAsked}
 use borrow.Author.Needs.{needs}
 use Rattle.inside.proofs.inner.ask_line.Statement.{statement}
 use Rattle.inside.proofs.inner.ask_line.Tie as tie
@@ -59,7 +59,7 @@ unread-requires-2 : tie.Need-unread-requires-2
 unread-requires-2 c κs = search needs
 
 returns-2 : tie.Need-returns-2
-unfolding lineReply lineOf
+unfolding lineReply lineAsked
 returns-2 c =
     let k0 = c .before .before .before .before .before in
     c .unread2 .ensures ∙ rw (
@@ -80,7 +80,7 @@ unread-requires-3 : tie.Need-unread-requires-3
 unread-requires-3 c κs = search needs
 
 returns-3 : tie.Need-returns-3
-unfolding lineReply lineOf
+unfolding lineReply lineAsked
 returns-3 c =
     let k1 = c .before .before .before .before .before in
     let k0 = k1 .before .before .before .before in
@@ -103,7 +103,7 @@ unread-requires-4 : tie.Need-unread-requires-4
 unread-requires-4 c κs = search needs
 
 returns-4 : tie.Need-returns-4
-unfolding lineReply lineOf
+unfolding lineReply lineAsked
 returns-4 c =
     let k2 = c .before .before .before .before .before in
     let k1 = k2 .before .before .before .before in
@@ -128,7 +128,7 @@ unread-requires-5 : tie.Need-unread-requires-5
 unread-requires-5 c κs = search needs
 
 returns-5 : tie.Need-returns-5
-unfolding lineReply lineOf
+unfolding lineReply lineAsked
 returns-5 c =
     let k3 = c .before .before .before .before .before in
     let k2 = k3 .before .before .before .before in
@@ -155,7 +155,7 @@ unread-requires-6 : tie.Need-unread-requires-6
 unread-requires-6 c κs = search needs
 
 returns-6 : tie.Need-returns-6
-unfolding lineReply lineOf
+unfolding lineReply lineAsked
 returns-6 c =
     let k4 = c .before .before .before .before .before in
     let k3 = k4 .before .before .before .before in
@@ -178,7 +178,7 @@ say-line-requires : tie.Need-say-line-requires
 say-line-requires c κs = search needs
 
 returns-7 : tie.Need-returns-7
-unfolding lineReply lineOf
+unfolding lineReply lineAsked
 returns-7 c =
     let w5 = c .before .before in
     let w4 = w5 .before .before .before .before in

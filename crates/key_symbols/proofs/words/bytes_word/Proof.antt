@@ -3,13 +3,13 @@ use mathlib.Core.Path.{_≡_, refl, sym, _∙_}
 use Prim.Native.Nat.{_≤_, _<_, _^_, _-_}
 use native.Mathlib.Omega.{arith}
 use lib.ListN.{length, drop}
-use Rattle.key_symbols.specs.Keyed.{numberFrom, number}
+use Rattle.key_symbols.specs.Keyed.{numberFrom, digitsNumber}
 use Rattle.key_symbols.proofs.NumberLaws.{bytes-room, number-more, number-end, number-room}
 use Rattle.key_symbols.proofs.words.bytes_word.Statement.{statement}
 use Rattle.key_symbols.proofs.words.bytes_word.Tie as tie
 
 abbrev Inv-loop : tie.InvT-loop
-Inv-loop bytes n₀ i₀ n i = (i ≤ length bytes) × (n < 256 ^ i) × (numberFrom 256 n (drop i bytes) ≡ number 256 bytes)
+Inv-loop bytes n₀ i₀ n i = (i ≤ length bytes) × (n < 256 ^ i) × (numberFrom 256 n (drop i bytes) ≡ digitsNumber 256 bytes)
 
 abbrev μ-loop : tie.MeasureT-loop
 μ-loop bytes n₀ i₀ n i = length bytes - i
@@ -19,7 +19,7 @@ byte : (c : tie.After-wide Inv-loop μ-loop) → c .wide .result < 256
 byte c = omega (arith, c .wide .ensures, c .before .before .before .before .shared-slice-known .given (c .before .before .before .loop .i))
 
 loop-holds : tie.Need-loop-holds Inv-loop μ-loop
-unfolding number
+unfolding digitsNumber
 loop-holds c = (omega arith, omega arith, refl)
 
 mul-n : tie.Need-mul-n Inv-loop μ-loop

@@ -1,5 +1,5 @@
 -- Case by case.
-use Rattle.import.specs.Judged.{said}
+use Rattle.import.specs.Judged.{saidImported}
 use Rattle.replies.specs.Replies.{onlyAnswer}
 use borrow.Author.Needs.{needs}
 use Rattle.replies.proofs.import_replies.say_only.Statement.{statement}
@@ -30,19 +30,19 @@ refused-requires-3 : tie.Need-refused-requires-3
 refused-requires-3 c κs = search needs
 
 returns : tie.Need-returns
-unfolding onlyAnswer said
+unfolding onlyAnswer saidImported
 returns c = rw (c .before .enum-told .given .1) (c .say-cell .ensures)
 
 returns-2 : tie.Need-returns-2
-unfolding onlyAnswer said
+unfolding onlyAnswer saidImported
 returns-2 c = rw (c .before .before .imported .given .1) (c .refused .ensures)
 
 returns-3 : tie.Need-returns-3
-unfolding onlyAnswer said
+unfolding onlyAnswer saidImported
 returns-3 c = rw (c .before .before .imported2 .given .1) (c .refused2 .ensures)
 
 returns-4 : tie.Need-returns-4
-unfolding onlyAnswer said
+unfolding onlyAnswer saidImported
 returns-4 c = rw (c .before .enum-told2 .given .1) (c .refused3 .ensures)
 
 pub say-only-spec : {M : Type 1} → statement M

@@ -3,7 +3,7 @@ use mathlib.Core.Path.{ap}
 use mathlib.Core.Option.{some}
 use native.Mathlib.Numerals.{add-one}
 use lib.Seq.{take-suc-set}
-use Rattle.scripts.specs.Escapes.{readIn, ended}
+use Rattle.scripts.specs.Escapes.{readIn, endedRow}
 use borrow.Author.Needs.{needs}
 use Rattle.scripts.proofs.bytes_of.end_row.Statement.{statement}
 use Rattle.scripts.proofs.bytes_of.end_row.Tie as tie
@@ -18,7 +18,7 @@ same-length : tie.Need-same-length
 same-length c = search needs
 
 returns : tie.Need-returns
-unfolding readIn ended
+unfolding readIn endedRow
 returns c = rw (add-one) (ap some (take-suc-set (c .args .out .now) (c .args .n) 10 (c .pre)))
 
 pub end-row-spec : {M : Type 1} → statement M

@@ -2,7 +2,7 @@
 use mathlib.Core.List.{List}
 use Prim.Native.Nat.{ℕ}
 use lib.ListN.{length}
-use Rattle.scripts.specs.Escapes.{unescaped, within, Counted, ended}
+use Rattle.scripts.specs.Escapes.{unescaped, whereRoom, NoMoreThan, endedRow}
 use Rattle.scripts.specs.declared.bytes_of.Bytes.the-variants.{Are}
 use Rattle.scripts.proofs.EscapeLaws.{open-some, open-read, ended-read}
 use mathlib.Core.Path.{sym, _∙_, ap}
@@ -38,7 +38,7 @@ returns-2 c = let unescape-is = c .before .before .unescape .ensures .0 in
     let part-is = c .before .before .before .before .part .ensures in
     let t = c .before .before .before .before .before in
     let a = t .before .before .before .before .before .args in
-    unescape-is ∙ ap (λ (l : List ℕ). within (length (a .out .now)) l (unescaped l)) part-is
+    unescape-is ∙ ap (λ (l : List ℕ). whereRoom (length (a .out .now)) l (unescaped l)) part-is
     ∙ open-read (length (a .out .now)) (a .raw .now) (omega arith) (sym (t .before .is-open .ensures) ∙ t .if2 .taken)
 
 unescape-requires-2 : tie.Need-unescape-requires-2
@@ -50,7 +50,7 @@ enum-known-n c = search needs
 end-row-requires : tie.Need-end-row-requires
 end-row-requires c κs = let q = c .before .before .before .before .before .before .unescape2 in
     let raw = c .before .before .before .before .before .before .before .before .before .before .before .before .before .args .raw .now in
-    let g : Counted (Are (c .before .before .n .given .0 .0)) (length raw) = rw (c .before .before .n .given .1) at (q .ensures .1) in
+    let g : NoMoreThan (Are (c .before .before .n .given .0 .0)) (length raw) = rw (c .before .before .n .given .1) at (q .ensures .1) in
     omega (arith, g, q .kept .1 .0)
 
 enum-told : tie.Need-enum-told
@@ -73,7 +73,7 @@ same-length-3 : tie.Need-same-length-3
 same-length-3 c = search needs
 
 returns-4 : tie.Need-returns-4
-unfolding readIn ended
+unfolding readIn endedRow
 returns-4 c = let t = c .before .before .before .before .before .before in
     let a = t .before .before .before .before .before .args in
     let e = rw (c .enum-told .given .1) at (c .before .before .before .before .unescape2 .ensures .0) in

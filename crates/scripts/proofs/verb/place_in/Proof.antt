@@ -6,13 +6,13 @@ use native.Mathlib.Omega.{arith}
 use lib.ListN.{length, getD, drop}
 use Rattle.lines.specs.Names.{nameOf, sameName}
 use Rattle.lines.specs.Columns.{columnsOf}
-use Rattle.scripts.specs.Words.{placeOf}
+use Rattle.scripts.specs.Words.{wordPlace}
 use Rattle.scripts.proofs.WordLaws.{place-here, place-more, place-none}
 use Rattle.scripts.proofs.verb.place_in.Statement.{statement}
 use Rattle.scripts.proofs.verb.place_in.Tie as tie
 
 abbrev Inv-loop : tie.InvT-loop
-Inv-loop list word count name k₀ k = (k ≤ length (columnsOf list)) × (k + placeOf word (drop k (columnsOf list)) ≡ placeOf word (columnsOf list))
+Inv-loop list word count name k₀ k = (k ≤ length (columnsOf list)) × (k + wordPlace word (drop k (columnsOf list)) ≡ wordPlace word (columnsOf list))
 
 abbrev μ-loop : tie.MeasureT-loop
 μ-loop list word count name k₀ k = length (columnsOf list) - k

@@ -4,14 +4,14 @@ use mathlib.Core.Path.{_≡_, sym, ap, _∙_}
 use mathlib.Core.List.{List}
 use Rattle.fields.specs.Field.{saidUnsigned, unsignedAt}
 use Rattle.fields.specs.declared.field.Unsigned.{Unsigned}
-use Rattle.showing.specs.Count.{counted, countIn}
+use Rattle.showing.specs.Count.{fieldNumber, sequenceCountIn}
 use borrow.Author.Needs.{needs}
 use Rattle.showing.proofs.lines.count_of.Statement.{statement}
 use Rattle.showing.proofs.lines.count_of.Tie as tie
 
-by : (p : List ℕ) {r answer : Unsigned} → saidUnsigned r ≡ unsignedAt p 18 14 → r ≡ answer → counted (saidUnsigned answer) ≡ countIn p
-unfolding countIn
-by p is e = sym (ap (λ x. counted (saidUnsigned x)) e) ∙ ap counted is
+by : (p : List ℕ) {r answer : Unsigned} → saidUnsigned r ≡ unsignedAt p 18 14 → r ≡ answer → fieldNumber (saidUnsigned answer) ≡ sequenceCountIn p
+unfolding sequenceCountIn
+by p is e = sym (ap (λ x. fieldNumber (saidUnsigned x)) e) ∙ ap fieldNumber is
 
 read-unsigned-requires : tie.Need-read-unsigned-requires
 read-unsigned-requires c κs = search needs
@@ -26,15 +26,15 @@ enum-told-2 : tie.Need-enum-told-2
 enum-told-2 c = search needs
 
 returns : tie.Need-returns
-unfolding counted saidUnsigned
+unfolding fieldNumber saidUnsigned
 returns c = by _ (c .before .before .before .read-unsigned .ensures) (c .before .count .given .1)
 
 returns-2 : tie.Need-returns-2
-unfolding counted saidUnsigned
+unfolding fieldNumber saidUnsigned
 returns-2 c = by _ (c .before .before .read-unsigned .ensures) (c .enum-told .given .1)
 
 returns-3 : tie.Need-returns-3
-unfolding counted saidUnsigned
+unfolding fieldNumber saidUnsigned
 returns-3 c = by _ (c .before .before .read-unsigned .ensures) (c .enum-told2 .given .1)
 
 pub count-of-spec : {M : Type 1} → statement M

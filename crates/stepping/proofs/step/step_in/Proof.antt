@@ -1,6 +1,6 @@
 -- By the state, and then by the header.
 use mathlib.Core.Path.{sym, _∙_}
-use Rattle.outcomes.specs.Refusals.{refusedBy, numberOf, placeOf}
+use Rattle.outcomes.specs.Refusals.{refusedBy, refusalNumber, refusalPlace}
 use Rattle.headers.specs.Header.{saidHead}
 use Rattle.outcomes.proofs.OutcomeLaws.{told, then-refused}
 use Rattle.accepting.proofs.TimeLaws.{answers-as}
@@ -17,7 +17,7 @@ refuse-requires : tie.Need-refuse-requires
 refuse-requires c κs = search needs
 
 returns : tie.Need-returns
-unfolding refusedBy numberOf placeOf
+unfolding refusedBy refusalNumber refusalPlace
 returns c = answers-as (c .refuse .ensures) (no-state _ _ _ _ (sym (c .before .before .is-state .ensures) ∙ not-true _ (c .before .if1 .taken)))
 
 read-header-requires : tie.Need-read-header-requires

@@ -5,7 +5,7 @@ use mathlib.Core.Option.{some}
 use native.Mathlib.Omega.{arith}
 use Prim.Native.Nat.{_-_}
 use denote.Ref.{now}
-use Rattle.outcomes.specs.Refusals.{refusedBy, numberOf, placeOf}
+use Rattle.outcomes.specs.Refusals.{refusedBy, refusalNumber, refusalPlace}
 use Rattle.verdicts.specs.Key.{limits}
 use Rattle.database.specs.Arrays.{database, rowAt, answers}
 use Rattle.database.proofs.FindLaws.{holder-none, holder-some}
@@ -36,7 +36,7 @@ refuse-requires : tie.Need-refuse-requires
 refuse-requires c κs = search needs
 
 returns : tie.Need-returns
-unfolding refusedBy numberOf placeOf
+unfolding refusedBy refusalNumber refusalPlace
 returns c =
     let h = c .before .before in
     let k = h .before .limits-key .ensures in
@@ -49,7 +49,7 @@ refuse-requires-2 : tie.Need-refuse-requires-2
 refuse-requires-2 c κs = search needs
 
 returns-2 : tie.Need-returns-2
-unfolding refusedBy numberOf placeOf
+unfolding refusedBy refusalNumber refusalPlace
 returns-2 c =
     let l = c .before .before .before in
     answers-as (c .refuse2 .ensures)

@@ -53,7 +53,11 @@ same-length c = search needs
 -- src/places.rt:53:1
 returns : tie.Need-returns
 unfolding putLink
-returns c = rw (c .before .before .put-half3 .ensures, c .before .before .before .before .before .before .put-half2 .ensures, c .before .before .before .before .before .before .before .before .before .before .put-half .ensures)
+returns c = rw (
+  c .before .before .put-half3 .ensures,
+  c .before .before .before .before .before .before .put-half2 .ensures,
+  c .before .before .before .before .before .before .before .before .before .before .put-half .ensures,
+)
 
 pub link-spec : {M : Type 1} → statement M
 link-spec =

@@ -57,7 +57,12 @@ same-length c = search needs
 -- src/places.rt:44:1
 returns : tie.Need-returns
 unfolding putSymbol
-returns c = rw (c .before .before .put-word4 .ensures, c .before .before .before .before .before .before .put-word3 .ensures, c .before .before .before .before .before .before .before .before .before .before .put-word2 .ensures, c .before .before .before .before .before .before .before .before .before .before .before .before .before .before .put-word .ensures)
+returns c = rw (
+  c .before .before .put-word4 .ensures,
+  c .before .before .before .before .before .before .put-word3 .ensures,
+  c .before .before .before .before .before .before .before .before .before .before .put-word2 .ensures,
+  c .before .before .before .before .before .before .before .before .before .before .before .before .before .before .put-word .ensures,
+)
 
 pub put-spec : {M : Type 1} → statement M
 put-spec =

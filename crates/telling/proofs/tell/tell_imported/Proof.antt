@@ -1,6 +1,6 @@
 -- Case by case.
 use mathlib.Core.Path.{refl, ap}
-use Rattle.outcomes.specs.Refusals.{numberOf, placeOf, refusedBy}
+use Rattle.outcomes.specs.Refusals.{refusalNumber, refusalPlace, refusedBy}
 use Rattle.outcomes.specs.declared.Refusal.the-variants.{TableTooLong, TooManyRows, TooFewCells}
 use Rattle.import.specs.Judged as import
 use Rattle.import.specs.declared.Imported.{Imported}
@@ -42,29 +42,29 @@ tell-refusal-requires-3 : tie.Need-tell-refusal-requires-3
 tell-refusal-requires-3 c κs = search needs
 
 returns : tie.Need-returns
-unfolding countsOf ofCounts import.said
+unfolding countsOf ofCounts import.saidImported
 returns c =
-    plain-values ofCounts _ (ap (λ (x : Imported). countsOf (import.said x)) (c .before .before .before .before .imported .given .1)) (c .tell .ensures)
+    plain-values ofCounts _ (ap (λ (x : Imported). countsOf (import.saidImported x)) (c .before .before .before .before .imported .given .1)) (c .tell .ensures)
     (kept (c .before .before .as-word .ensures) (search needs) (kept (c .before .as-word2 .ensures) (search needs) refl))
 
 returns-2 : tie.Need-returns-2
-unfolding countsOf import.said refusedBy numberOf placeOf
+unfolding countsOf import.saidImported refusedBy refusalNumber refusalPlace
 returns-2 c =
     plain-refused ofCounts (TableTooLong (c .before .before .imported2 .given .0 .0))
-    (ap (λ (x : Imported). countsOf (import.said x)) (c .before .before .imported2 .given .1))
+    (ap (λ (x : Imported). countsOf (import.saidImported x)) (c .before .before .imported2 .given .1))
     (c .tell-refusal .ensures)
 
 returns-3 : tie.Need-returns-3
-unfolding countsOf import.said refusedBy numberOf placeOf
+unfolding countsOf import.saidImported refusedBy refusalNumber refusalPlace
 returns-3 c =
     plain-refused ofCounts (TooManyRows (c .before .before .imported3 .given .0 .0))
-    (ap (λ (x : Imported). countsOf (import.said x)) (c .before .before .imported3 .given .1))
+    (ap (λ (x : Imported). countsOf (import.saidImported x)) (c .before .before .imported3 .given .1))
     (c .tell-refusal2 .ensures)
 
 returns-4 : tie.Need-returns-4
-unfolding countsOf import.said refusedBy numberOf placeOf
+unfolding countsOf import.saidImported refusedBy refusalNumber refusalPlace
 returns-4 c =
-    plain-refused ofCounts TooFewCells (ap (λ (x : Imported). countsOf (import.said x)) (c .before .enum-told .given .1)) (c .tell-refusal3 .ensures)
+    plain-refused ofCounts TooFewCells (ap (λ (x : Imported). countsOf (import.saidImported x)) (c .before .enum-told .given .1)) (c .tell-refusal3 .ensures)
 
 pub tell-imported-spec : {M : Type 1} → statement M
 tell-imported-spec =

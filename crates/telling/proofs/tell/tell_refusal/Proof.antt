@@ -1,6 +1,6 @@
 -- What its two parts say; of eight values none is taken.
 use mathlib.Core.Path.{ap₂}
-use Rattle.telling.specs.Answers.{said, refusedWith}
+use Rattle.telling.specs.Answers.{toldPlainly, refusedWith}
 use borrow.Author.Needs.{needs}
 use Rattle.telling.proofs.tell.tell_refusal.Statement.{statement}
 use Rattle.telling.proofs.tell.tell_refusal.Tie as tie
@@ -12,7 +12,7 @@ place-of-requires : tie.Need-place-of-requires
 place-of-requires c κs = search needs
 
 returns : tie.Need-returns
-unfolding said
+unfolding toldPlainly
 returns c = ap₂ refusedWith (c .before .number-of .ensures) (c .place-of .ensures)
 
 pub tell-refusal-spec : {M : Type 1} → statement M
