@@ -1,5 +1,5 @@
 # Where a gate's seconds go, by what rt says: proofs, edits (crate by crate, the dearest first) and programs.
-# Four run at a time on two processors, so that their sum is more than the time that passes.
+# More run at a time than there are processors, so that their sum is more than the time that passes.
 function seconds(  text) {
     text = $0
     sub(/ s\)$/, "", text)
