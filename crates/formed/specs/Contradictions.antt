@@ -1,5 +1,6 @@
 -- Reason 8: columns that contradict each other. Each answer is the lowest such column, from 1, or 0 where there is none.
 use Prim.Native.Nat.{ℕ}
+use mathlib.Core.Path.{_≡_, refl}
 use mathlib.Core.List.{List}
 use mathlib.Core.Bool.{Bool, true, false, not, cond, _||_, _&&_}
 use mathlib.Core.Option.{Option, some, none}
@@ -7,7 +8,11 @@ use lib.Dec.{leb, ltb, eqb}
 use lib.Signed.{ltZ}
 use Rattle.schemas.specs.declared.Table.{Table}
 use Rattle.schemas.specs.declared.Table.the-variants.{Pid, Pic, Plf, Pcf, Caf, Cap, Txf, Txp, Ocf, Ocp}
-use Rattle.rows.specs.Records.{picRow, plfRow, pcfRow, cafRow, txfRow, txpRow, ocfRow, ocpRow}
+use Rattle.laws.specs.Text.{ascii}
+use Rattle.numbers.specs.Number.{digitOf, digitOn, after, spelt, meaning, numberOf}
+use Rattle.lines.specs.Columns.{columnsOf, columnsFrom}
+use Rattle.rows.specs.Values.{integerFrom, integerOr, letterOf, checkTypeOf}
+use Rattle.rows.specs.Records.{column, picRow, plfRow, pcfRow, cafRow, txfRow, txpRow, ocfRow, ocpRow}
 use Rattle.fields.specs.Width.{widthOf}
 use Rattle.rows.specs.declared.records.IdentificationField.{IdentificationField}
 use Rattle.rows.specs.declared.records.IdentificationField.the-variants.{Unused, At}
@@ -115,3 +120,17 @@ contradiction Txf line = txfContradiction (txfRow line)
 contradiction Txp line = txpContradiction (txpRow line)
 contradiction Ocf line = ocfContradiction (ocfRow line)
 contradiction Ocp line = ocpContradiction (ocpRow line)
+
+pub record Examples : Type 0 where
+  -- FROM 5 is over TO 3
+  pub turned : contradiction Txp (ascii "T1\t5\t3\tWARM") ≡ 3
+  -- a delta check isn't carried, whatever its limits are
+  pub delta : contradiction Ocp (ascii "P\t1\tD\t9\t1\t\t") ≡ 3
+  -- T without PTC 8
+  pub textual : categoryClash Text 3 ≡ true
+
+pub examples : Examples
+unfolding
+    contradiction txpContradiction ocpContradiction isCarriedCheck categoryClash txpRow ocpRow column columnsOf columnsFrom letterOf checkTypeOf
+    integerOr integerFrom numberOf meaning spelt after digitOn digitOf
+examples = record { turned = refl; delta = refl; textual = refl }

@@ -1,12 +1,16 @@
 -- What a line of each table says, by its columns: `at k` is the text of column k, counted from 0, so that 01's column k is `at (k - 1)`.
 use Prim.Native.Nat.{ℕ}
 use mathlib.Core.List.{List}
-use lib.IntN.{ℤ, pos}
+use mathlib.Core.Path.{_≡_, refl}
+use lib.IntN.{ℤ, pos, negsuc}
 use lib.ListN.{getD}
-use Rattle.lines.specs.Columns.{columnsOf, columnAt, Place, placesOf}
+use Rattle.laws.specs.Text.{ascii}
+use Rattle.numbers.specs.Number.{digitOf, digitOn, after, spelt, meaning, numberOf}
+use Rattle.lines.specs.Columns.{columnsOf, columnsFrom, columnAt, Place, placesOf, placesFrom}
 use Rattle.lines.specs.Names.{nameOf, curveNameOf}
 use Rattle.rows.specs.Values.{
   naturalOr,
+  integerFrom,
   integerOr,
   letterOf,
   optionalName,
@@ -177,3 +181,13 @@ ocpRowBy at =
 
 unfoldable pub ocpRow : List ℕ → OcpRow
 ocpRow line = ocpRowBy (column line)
+
+pub record Examples : Type 0 where
+  -- txp: a range of texts, and where ALTXT stands in the line
+  pub range : txpRow (ascii "T1\t-2\t5\tWARM") ≡ record { numbr = curveNameOf (ascii "T1"); from = negsuc 1; to = pos 5; start = 8; end = 12 }
+  -- ocp: 01 "VALPAR 5 as in pcf": 1 where it is empty
+  pub valpar : ocpRow (ascii "P\t1\tS\t-10\t40\t\t") .valpar ≡ pos 1
+
+pub examples : Examples
+unfolding txpRow ocpRow column columnsOf columnsFrom placesOf placesFrom curveNameOf integerOr integerFrom numberOf meaning spelt after digitOn digitOf
+examples = record { range = refl; valpar = refl }
