@@ -1,12 +1,12 @@
 -- The order in which rows that aren't good are told: a cause before what leans on it. Rows go by their place among all rows, from 0.
-use Prim.Native.Nat.{ℕ, zero, suc, _/_}
+use Prim.Native.Nat.{ℕ, zero, suc, _+_, _/_}
 use mathlib.Core.Path.{_≡_, refl}
 use mathlib.Core.Bool.{Bool, true, not, cond, _&&_}
 use mathlib.Core.List.{List, [], _∷_, _++_, map}
 use lib.Dec.{eqb, ltb}
 use lib.ListN.{getD}
 use Rattle.laws.specs.Lists.{any}
-use Rattle.laws.specs.Prefix.{allFrom}
+use Rattle.laws.specs.Prefix.{allFrom, flag}
 use Rattle.pointing.specs.Pointing.{pointsTo, firstOf}
 use Rattle.pointing.specs.declared.Cause.{Cause}
 use Rattle.pointing.specs.declared.Cause.the-variants.{Row, NoMore}
@@ -53,6 +53,11 @@ orderOf halves bytes cells n =
     ++ (allFrom (inTurn cells 2) 0 n
     ++ toldBefore (firstCause halves bytes cells n) (inTurn cells 3) n n)
 
+-- how often a row is told
+abbrev pub timesIn : ℕ → List ℕ → ℕ
+timesIn x [] = 0
+timesIn x (y ∷ rows) = flag (eqb x y) + timesIn x rows
+
 abbrev nextRow : ℕ → Cause
 nextRow i = Row (suc i)
 
@@ -65,7 +70,8 @@ pub record Examples : Type 0 where
   pub chain : toldBefore nextRow (below 3) 4 4 ≡ 2 ∷ 1 ∷ 0 ∷ []
   -- two rows that both name row 1, which names itself
   pub circle : toldBefore (λ i. Row 1) (below 2) 2 2 ≡ 1 ∷ 0 ∷ []
+  pub times : timesIn 4 (4 ∷ 2 ∷ 4 ∷ []) ≡ 2
 
 pub examples : Examples
 unfolding turnOf toldBefore wayTo
-examples = record { turns = refl; chain = refl; circle = refl }
+examples = record { turns = refl; chain = refl; circle = refl; times = refl }
