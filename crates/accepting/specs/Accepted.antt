@@ -20,16 +20,16 @@ stateAfter s (refused number place) = s
 stateAfter s (answer t) = t
 
 -- a fresh state after a packet of APID 10 and count 5 whose readings left this run; and the same state, where the packet is refused
-abbrev new : LimitState
-new = record { fresh = true; apid = 0; count = 0; run = 0; announced = 0 }
+abbrev begun : LimitState
+begun = record { fresh = true; apid = 0; count = 0; run = 0; announced = 0 }
 
 abbrev left : LimitState
 left = accepted (record { flagged = true; apid = 10; count = 5 }) (record { run = 3; announced = 2 })
 
 pub record Examples : Type 0 where
-  pub taken : stateAfter new (answer left) ≡ record { fresh = false; apid = 10; count = 5; run = 3; announced = 2 }
+  pub taken : stateAfter begun (answer left) ≡ record { fresh = false; apid = 10; count = 5; run = 3; announced = 2 }
   pub again : progressOf left ≡ record { run = 3; announced = 2 }
-  pub untouched : stateAfter new (refused 35 0) ≡ new
+  pub untouched : stateAfter begun (refused 35 0) ≡ begun
 
 pub examples : Examples
 unfolding stateAfter accepted progressOf

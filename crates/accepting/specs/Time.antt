@@ -22,14 +22,14 @@ inTime s head =
 abbrev used : LimitState
 used = record { fresh = false; apid = 10; count = 5; run = 0; announced = 0 }
 
-abbrev new : LimitState
-new = record { fresh = true; apid = 0; count = 0; run = 0; announced = 0 }
+abbrev unused : LimitState
+unused = record { fresh = true; apid = 0; count = 0; run = 0; announced = 0 }
 
 pub record Examples : Type 0 where
   pub next : inTime used (record { flagged = true; apid = 10; count = 6 }) ≡ answer used
   pub same : inTime used (record { flagged = true; apid = 10; count = 5 }) ≡ refused 35 0
   pub other : inTime used (record { flagged = true; apid = 11; count = 5 }) ≡ refused 36 0
-  pub first : inTime new (record { flagged = true; apid = 11; count = 5 }) ≡ answer new
+  pub first : inTime unused (record { flagged = true; apid = 11; count = 5 }) ≡ answer unused
   pub long-run : stateIn (record { fresh = false; apid = 10; count = 5; run = 100; announced = 0 }) ≡ refused 34 0
 
 pub examples : Examples

@@ -28,17 +28,17 @@ unfoldable pub afterReadings : (nbchck : ℕ) → List Severity → Progress →
 afterReadings nbchck [] progress = progress
 afterReadings nbchck (s ∷ later) progress = afterReadings nbchck later (afterReading nbchck s progress)
 
-abbrev at : (run announced : ℕ) → Progress
-at first second = record { run = first; announced = second }
+abbrev progressAt : (run announced : ℕ) → Progress
+progressAt first second = record { run = first; announced = second }
 
 pub record Examples : Type 0 where
   -- with NBCHCK 2 the first violation isn't announced, and the second is
-  pub first : afterReadings 2 (Soft ∷ []) (at 0 0) ≡ at 1 0
-  pub second : afterReadings 2 (Soft ∷ Hard ∷ []) (at 0 0) ≡ at 2 2
+  pub first : afterReadings 2 (Soft ∷ []) (progressAt 0 0) ≡ progressAt 1 0
+  pub second : afterReadings 2 (Soft ∷ Hard ∷ []) (progressAt 0 0) ≡ progressAt 2 2
   -- hard may become soft
-  pub softer : afterReadings 2 (Soft ∷ []) (at 99 2) ≡ at 99 1
+  pub softer : afterReadings 2 (Soft ∷ []) (progressAt 99 2) ≡ progressAt 99 1
   -- one within ends the run
-  pub ended : afterReadings 2 (Hard ∷ Within ∷ Hard ∷ []) (at 7 1) ≡ at 1 0
+  pub ended : afterReadings 2 (Hard ∷ Within ∷ Hard ∷ []) (progressAt 7 1) ≡ progressAt 1 0
 
 pub examples : Examples
 unfolding afterReadings afterReading violation raised

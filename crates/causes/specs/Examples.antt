@@ -28,11 +28,11 @@ pub record RowPlace : Type 0 where
   pub table : ℕ
   pub row : ℕ
 
-abbrev at : ℕ → ℕ → RowPlace
-at t r = record { table = t; row = r }
+abbrev rowPlace : ℕ → ℕ → RowPlace
+rowPlace t r = record { table = t; row = r }
 
 abbrev placeOf : Entry → RowPlace
-placeOf e = at (e .table) (e .row)
+placeOf e = rowPlace (e .table) (e .row)
 
 -- for each row the places of those that its verdict speaks of
 abbrev causesIn : List Entry → List (List RowPlace)
@@ -52,7 +52,7 @@ figure ncurve =
 
 pub record FromBytes : Type 0 where
   -- 01: "A caf row with NCURVE 3, two sound cap rows of it and nothing else": its verdict speaks of both, and theirs of it
-  pub miscounted : causesIn (allRows (figure "3")) ≡ (at 5 1 ∷ at 5 2 ∷ []) ∷ (at 4 1 ∷ []) ∷ (at 4 1 ∷ []) ∷ []
+  pub miscounted : causesIn (allRows (figure "3")) ≡ (rowPlace 5 1 ∷ rowPlace 5 2 ∷ []) ∷ (rowPlace 4 1 ∷ []) ∷ (rowPlace 4 1 ∷ []) ∷ []
   -- with the right count all are good, and lean on nothing
   pub counted : causesIn (allRows (figure "2")) ≡ [] ∷ [] ∷ [] ∷ []
 
@@ -69,8 +69,8 @@ fromBytes = record { miscounted = refl; counted = refl }
 abbrev pcfSays : String → List Naming → Bool → Facts
 pcfSays name named met = record { keys = parameter (nameOf (ascii name)) ∷ []; names = named; counts = []; groups = []; meets = λ c. met }
 
-abbrev pcfRow : ℕ → String → List Naming → Entry
-pcfRow r name named = record { table = 3; row = r; reading = fine (pcfSays name named true) }
+abbrev pcfEntry : ℕ → String → List Naming → Entry
+pcfEntry r name named = record { table = 3; row = r; reading = fine (pcfSays name named true) }
 
 abbrev odd : ℕ → String → Entry
 odd r name = record { table = 3; row = r; reading = fine (pcfSays name [] false) }
@@ -79,21 +79,21 @@ abbrev valid : String → Naming
 valid name = record { column = 8; key = parameter (nameOf (ascii name)); kind = itself whole; chained = true }
 
 abbrev pcf : ℕ → RowPlace
-pcf r = at 3 r
+pcf r = rowPlace 3 r
 
 pub record FromFacts : Type 0 where
   -- reason 9: each of three holders speaks of the other two; reason 11: one that names them, of all three
-  pub threeHolders : causesIn (pcfRow 1 "B" [] ∷ pcfRow 2 "B" [] ∷ pcfRow 3 "B" [] ∷ pcfRow 4 "A" (valid "B" ∷ []) ∷ [])
+  pub threeHolders : causesIn (pcfEntry 1 "B" [] ∷ pcfEntry 2 "B" [] ∷ pcfEntry 3 "B" [] ∷ pcfEntry 4 "A" (valid "B" ∷ []) ∷ [])
       ≡ (pcf 2 ∷ pcf 3 ∷ []) ∷ (pcf 1 ∷ pcf 3 ∷ []) ∷ (pcf 1 ∷ pcf 2 ∷ []) ∷ (pcf 1 ∷ pcf 2 ∷ pcf 3 ∷ []) ∷ []
   -- reason 12: round a circle of two; reason 11: from a row that leads into it
-  pub circleOfTwo : causesIn (pcfRow 1 "A" (valid "B" ∷ []) ∷ pcfRow 2 "B" (valid "A" ∷ []) ∷ pcfRow 3 "C" (valid "A" ∷ []) ∷ [])
+  pub circleOfTwo : causesIn (pcfEntry 1 "A" (valid "B" ∷ []) ∷ pcfEntry 2 "B" (valid "A" ∷ []) ∷ pcfEntry 3 "C" (valid "A" ∷ []) ∷ [])
       ≡ (pcf 2 ∷ []) ∷ (pcf 1 ∷ []) ∷ (pcf 1 ∷ []) ∷ []
   -- one that names itself is told to be its own next
-  pub onItself : causesIn (pcfRow 1 "A" (valid "A" ∷ []) ∷ []) ≡ (pcf 1 ∷ []) ∷ []
+  pub onItself : causesIn (pcfEntry 1 "A" (valid "A" ∷ []) ∷ []) ≡ (pcf 1 ∷ []) ∷ []
   -- reason 11: the named row is good, and of another kind; it isn't there; it has one of reasons 1 to 8 and so no name
-  pub otherKind : causesIn (pcfRow 1 "A" (valid "B" ∷ []) ∷ odd 2 "B" ∷ []) ≡ (pcf 2 ∷ []) ∷ [] ∷ []
-  pub noRow : causesIn (pcfRow 1 "A" (valid "B" ∷ []) ∷ []) ≡ [] ∷ []
-  pub badRow : causesIn (pcfRow 1 "A" (valid "B" ∷ []) ∷ record { table = 3; row = 2; reading = bad 1286 } ∷ []) ≡ [] ∷ [] ∷ []
+  pub otherKind : causesIn (pcfEntry 1 "A" (valid "B" ∷ []) ∷ odd 2 "B" ∷ []) ≡ (pcf 2 ∷ []) ∷ [] ∷ []
+  pub noRow : causesIn (pcfEntry 1 "A" (valid "B" ∷ []) ∷ []) ≡ [] ∷ []
+  pub badRow : causesIn (pcfEntry 1 "A" (valid "B" ∷ []) ∷ record { table = 3; row = 2; reading = bad 1286 } ∷ []) ≡ [] ∷ [] ∷ []
 
 pub fromFacts : FromFacts
 unfolding

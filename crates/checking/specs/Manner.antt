@@ -31,8 +31,8 @@ pub record MannerOf (rows : Rows) (p : List ℕ) (spid : ℕ) (ocf : OcfRow) (pc
 abbrev limits : OcfRow
 limits = record { name = nameOf []; nbchck = 2; nbool = 1; inter = Raw; codin = Integer }
 
-abbrev plain : PcfRow
-plain =
+abbrev plainRow : PcfRow
+plainRow =
     record {
       name = nameOf [];
       ptc = 3;
@@ -44,6 +44,6 @@ plain =
       valpar = pos 1;
     }
 
-pub example : MannerOf (among []) [] 7 limits plain (record { nbchck = 2; valid = true; scale = AsRead }) (replicate 1024 (pos 0)) (replicate 1024 (pos 0))
+pub example : MannerOf (among []) [] 7 limits plainRow (record { nbchck = 2; valid = true; scale = AsRead }) (replicate 1024 (pos 0)) (replicate 1024 (pos 0))
 unfolding validity validWithin scaleIn scaleUnder
 example = record { nbchck = refl; valid = refl; scale = refl; long = (refl, refl) }

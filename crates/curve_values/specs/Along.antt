@@ -43,16 +43,16 @@ saidResult (Is v) = answer v
 saidResult (Refused refusal) = refusedBy refusal
 
 -- a curve C through (0,0) and (10,-5), with this INTER
-abbrev at : (inter : List ℕ) → (name : List ℕ) → ℤ → Outcome ℤ
-at inter name raw = along (curveOf (of-two inter) (curveNameOf name)) raw
+abbrev alongAt : (inter : List ℕ) → (name : List ℕ) → ℤ → Outcome ℤ
+alongAt inter name raw = along (curveOf (of-two inter) (curveNameOf name)) raw
 
 -- 3 gives -3/2 and so -2; off the ends F refuses, as an empty INTER does
 pub record Examples : Type 0 where
-  pub between : at (ascii "F") (ascii "C") (pos 3) ≡ answer (negsuc 1)
-  pub past-p : at (ascii "P") (ascii "C") (pos 20) ≡ answer (negsuc 9)
-  pub past-f : at (ascii "F") (ascii "C") (pos 20) ≡ refused 30 0
-  pub past-default : at [] (ascii "C") (pos 20) ≡ refused 30 0
-  pub other : at (ascii "P") (ascii "D") (pos 3) ≡ refused 30 0
+  pub between : alongAt (ascii "F") (ascii "C") (pos 3) ≡ answer (negsuc 1)
+  pub past-p : alongAt (ascii "P") (ascii "C") (pos 20) ≡ answer (negsuc 9)
+  pub past-f : alongAt (ascii "F") (ascii "C") (pos 20) ≡ refused 30 0
+  pub past-default : alongAt [] (ascii "C") (pos 20) ≡ refused 30 0
+  pub other : alongAt (ascii "P") (ascii "D") (pos 3) ≡ refused 30 0
   pub range : saidResult (Refused OutOfRange) ≡ refused 31 0
 
 pub examples : Examples

@@ -16,12 +16,12 @@ pub record Manner : Type 0 where
 abbrev pub mannerOf : Naming → Manner
 mannerOf n = record { column = n .column; kind = n .kind; chained = n .chained }
 
-abbrev plain : ℕ → Kind → Manner
-plain column kind = record { column = column; kind = kind; chained = false }
+abbrev asking : ℕ → Kind → Manner
+asking column kind = record { column = column; kind = kind; chained = false }
 
 -- of a row that names nothing
 abbrev pub noManner : Manner
-noManner = plain 0 (itself anyRow)
+noManner = asking 0 (itself anyRow)
 
 -- the second row that is asked about, so far by ocf alone: the column that names it, and the condition on it
 abbrev pub secondColumn : ℕ
@@ -39,18 +39,18 @@ unfoldable pub manners : List Manner
 manners =
     noManner
     -- 1, 2: plf NAME and SPID
-    ∷ plain 1 (itself raw)
-    ∷ plain 2 (itself anyRow)
+    ∷ asking 1 (itself raw)
+    ∷ asking 2 (itself anyRow)
     -- 3, 4: pcf VALID and CURTX
     ∷ record { column = 8; kind = itself whole; chained = true }
-    ∷ plain 12 (itself anyRow)
+    ∷ asking 12 (itself anyRow)
     -- 5: cap NUMBR, txp NUMBR, ocp NAME
-    ∷ plain 1 (itself anyRow)
+    ∷ asking 1 (itself anyRow)
     -- 6, 7: ocf NAME, and the same under INTER C
-    ∷ plain 1 (itself numeric)
-    ∷ plain 4 (through secondColumn secondCondition)
+    ∷ asking 1 (itself numeric)
+    ∷ asking 4 (through secondColumn secondCondition)
     -- 8: ocp RLCHK
-    ∷ plain 6 (itself whole)
+    ∷ asking 6 (itself whole)
     ∷ []
 
 -- a code past the list's end is none
@@ -110,9 +110,9 @@ withSecond marks second = marks % secondWeight + mark second secondWeight
 pub record Examples : Type 0 where
   pub valid : codeOf (mannerAt 3) ≡ 3
   pub last : codeOf (mannerAt 8) ≡ 8
-  pub foreign : codeOf (plain 5 (itself whole)) ≡ 0
-  pub secondRow : codeOf (plain 4 (through secondColumn secondCondition)) ≡ 7
-  pub foreignSecond : codeOf (plain 4 (through 8 anyRow)) ≡ 0
+  pub foreign : codeOf (asking 5 (itself whole)) ≡ 0
+  pub secondRow : codeOf (asking 4 (through secondColumn secondCondition)) ≡ 7
+  pub foreignSecond : codeOf (asking 4 (through 8 anyRow)) ≡ 0
   pub met : metBy 21 (weight whole) ≡ true
   pub unmet : metBy 21 (weight raw) ≡ false
   pub curtx : isSecond 4 1 ≡ true

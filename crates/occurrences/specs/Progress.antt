@@ -39,18 +39,18 @@ checkedOf rows p spid name ocf progress at =
 abbrev hard : List Check
 hard = record { level = 2; low = pos 0; high = pos 9 } ∷ []
 
-abbrev new : Progress
-new = record { run = 0; announced = 0 }
+abbrev atFirst : Progress
+atFirst = record { run = 0; announced = 0 }
 
-abbrev told : List ℤ → Progress
-told values = progressBy hard 2 new values
+abbrev progressOver : List ℤ → Progress
+progressOver values = progressBy hard 2 atFirst values
 
 pub record Examples : Type 0 where
-  pub twice : told (pos 10 ∷ pos 11 ∷ []) ≡ record { run = 2; announced = 2 }
-  pub ended : told (pos 10 ∷ pos 9 ∷ []) ≡ record { run = 0; announced = 0 }
-  pub read : checkedBy (λ k. answer (number (pos 10))) 2 asRead true hard 2 new ≡ answer (record { run = 2; announced = 2 })
-  pub invalid : checkedBy (λ k. answer (number (pos 10))) 2 asRead false hard 2 new ≡ answer new
-  pub leaves : checkedBy (λ k. refused 28 7) 2 asRead false hard 2 new ≡ refused 28 7
+  pub twice : progressOver (pos 10 ∷ pos 11 ∷ []) ≡ record { run = 2; announced = 2 }
+  pub ended : progressOver (pos 10 ∷ pos 9 ∷ []) ≡ record { run = 0; announced = 0 }
+  pub read : checkedBy (λ k. answer (number (pos 10))) 2 asRead true hard 2 atFirst ≡ answer (record { run = 2; announced = 2 })
+  pub invalid : checkedBy (λ k. answer (number (pos 10))) 2 asRead false hard 2 atFirst ≡ answer atFirst
+  pub leaves : checkedBy (λ k. refused 28 7) 2 asRead false hard 2 atFirst ≡ refused 28 7
 
 pub examples : Examples
 unfolding

@@ -248,7 +248,8 @@ module _ (halves bytes cells : List ℕ) (n x : ℕ) where
       third (suc k) e =
           let most = told-once first named n n x in
           bool-cases (named x)
-          (λ t. let least : 1 ≤ timesIn x (toldBefore first named n n) = subst (λ (s : ℕ). 1 ≤ timesIn x (toldBefore first named s n)) (sym e) (told-some first named k n x h t) in
+          (λ t. let least : 1 ≤ timesIn x (toldBefore first named n n) = subst (λ (s : ℕ). 1 ≤ timesIn x (toldBefore first named s n)) (sym e)
+          (told-some first named k n x h t) in
           let q : flag (named x) ≡ 1 = rw t in omega arith)
           (λ t. let q : flag (named x) ≡ 0 = rw t in omega arith)
 

@@ -39,14 +39,14 @@ severityIn checks value = cond (any (violates 2 value) checks) Hard (cond (any (
 
 -- a soft check from 0 to 10, a hard one from -5 to 20, and one of no severity from 10 to 10:
 -- 15 violates the first, 25 the second too, and -5 the first
-abbrev told : ℤ → Severity
-told value = severityIn (checksIn (pos 0 ∷ negsuc 4 ∷ pos 10 ∷ []) (pos 10 ∷ pos 20 ∷ pos 10 ∷ []) (1 ∷ 2 ∷ 0 ∷ [])) value
+abbrev checkedAt : ℤ → Severity
+checkedAt value = severityIn (checksIn (pos 0 ∷ negsuc 4 ∷ pos 10 ∷ []) (pos 10 ∷ pos 20 ∷ pos 10 ∷ []) (1 ∷ 2 ∷ 0 ∷ [])) value
 
 pub record Examples : Type 0 where
-  pub within : told (pos 9) ≡ Within
-  pub soft : told (pos 15) ≡ Soft
-  pub hard : told (pos 25) ≡ Hard
-  pub low : told (negsuc 4) ≡ Soft
+  pub within : checkedAt (pos 9) ≡ Within
+  pub soft : checkedAt (pos 15) ≡ Soft
+  pub hard : checkedAt (pos 25) ≡ Hard
+  pub low : checkedAt (negsuc 4) ≡ Soft
   -- limits that the arrays don't hold are 0
   pub no-limits : severityIn (checksIn [] [] (2 ∷ [])) (pos 1) ≡ Hard
 

@@ -43,14 +43,14 @@ abbrev check : CheckType → (low high : ℤ) → OcpRow
 check type low high =
     record { name = nameOf []; pos = 0; check = type; lvalu = low; hvalu = high; rlchk = record { given = false; name = nameOf [] }; valpar = pos 1 }
 
-abbrev told : ℤ → Severity
-told value = severityOf (check Soft (pos 0) (pos 10) ∷ check Hard (negsuc 4) (pos 20) ∷ []) value
+abbrev violatedAt : ℤ → Severity
+violatedAt value = severityOf (check Soft (pos 0) (pos 10) ∷ check Hard (negsuc 4) (pos 20) ∷ []) value
 
 pub record Examples : Type 0 where
-  pub within : told (pos 10) ≡ is.Within
-  pub soft : told (pos 15) ≡ is.Soft
-  pub hard : told (pos 25) ≡ is.Hard
-  pub low : told (negsuc 4) ≡ is.Soft
+  pub within : violatedAt (pos 10) ≡ is.Within
+  pub soft : violatedAt (pos 15) ≡ is.Soft
+  pub hard : violatedAt (pos 25) ≡ is.Hard
+  pub low : violatedAt (negsuc 4) ≡ is.Soft
 
 pub examples : Examples
 unfolding severityOf isHard isSoft isViolated

@@ -88,36 +88,36 @@ rowsWith place kind limit check =
     ∷ []
     )
 
-abbrev told : (plf pcf ocf ocp : String) → LimitState → Outcome LimitState
-told place kind limit check s = stepIn (rowsWith place kind limit check) packet (ascii "TEMP") s
+abbrev stepTold : (plf pcf ocf ocp : String) → LimitState → Outcome LimitState
+stepTold place kind limit check s = stepIn (rowsWith place kind limit check) packet (ascii "TEMP") s
 
-abbrev new : LimitState
-new = record { fresh = true; apid = 0; count = 0; run = 0; announced = 0 }
+abbrev unstepped : LimitState
+unstepped = record { fresh = true; apid = 0; count = 0; run = 0; announced = 0 }
 
 abbrev used : (apid count run announced : ℕ) → LimitState
 used a c r n = record { fresh = false; apid = a; count = c; run = r; announced = n }
 
 pub record Examples : Type 0 where
   -- with NBCHCK 2 the first violation isn't announced; the second is, as hard where the hard check applies
-  pub first : told "TEMP;7;10;0" "TEMP;;;;4;4;;;;N;R" "TEMP;2;2;U;I" "TEMP;2;H;5;9;ON;5" new ≡ answer (used 10 0 1 0)
-  pub hard : told "TEMP;7;10;0" "TEMP;;;;4;4;;;;N;R" "TEMP;2;2;U;I" "TEMP;2;H;5;9;ON;5" (used 10 16383 1 0) ≡ answer (used 10 0 2 2)
-  pub soft : told "TEMP;7;10;0" "TEMP;;;;4;4;;;;N;R" "TEMP;2;2;U;I" "TEMP;2;H;5;9;ON;4" (used 10 16383 1 0) ≡ answer (used 10 0 2 1)
+  pub first : stepTold "TEMP;7;10;0" "TEMP;;;;4;4;;;;N;R" "TEMP;2;2;U;I" "TEMP;2;H;5;9;ON;5" unstepped ≡ answer (used 10 0 1 0)
+  pub hard : stepTold "TEMP;7;10;0" "TEMP;;;;4;4;;;;N;R" "TEMP;2;2;U;I" "TEMP;2;H;5;9;ON;5" (used 10 16383 1 0) ≡ answer (used 10 0 2 2)
+  pub soft : stepTold "TEMP;7;10;0" "TEMP;;;;4;4;;;;N;R" "TEMP;2;2;U;I" "TEMP;2;H;5;9;ON;4" (used 10 16383 1 0) ≡ answer (used 10 0 2 1)
   -- two occurrences, -1 and -123, raise the run twice; the fifth of five leaves the packet
-  pub twice : told "TEMP;7;10;0;2;8" "TEMP;;;;4;4;;;;N;R" "TEMP;2;2;U;I" "TEMP;2;H;-9;9" new ≡ answer (used 10 0 2 2)
-  pub leaves : told "TEMP;7;10;0;5;8" "TEMP;;;;4;4;;;;N;R" "TEMP;2;2;U;I" "TEMP;2;H;-9;9" new ≡ refused 28 14
+  pub twice : stepTold "TEMP;7;10;0;2;8" "TEMP;;;;4;4;;;;N;R" "TEMP;2;2;U;I" "TEMP;2;H;-9;9" unstepped ≡ answer (used 10 0 2 2)
+  pub leaves : stepTold "TEMP;7;10;0;5;8" "TEMP;;;;4;4;;;;N;R" "TEMP;2;2;U;I" "TEMP;2;H;-9;9" unstepped ≡ refused 28 14
   -- an invalid reading changes nothing, and the packet sets APID and count
-  pub invalid : told "TEMP;7;10;0" "TEMP;;;;4;4;;ON;;N;R;;;;;;;4" "TEMP;2;2;U;I" "TEMP;2;H;5;9" (used 10 16383 7 1) ≡ answer (used 10 0 7 1)
+  pub invalid : stepTold "TEMP;7;10;0" "TEMP;;;;4;4;;ON;;N;R;;;;;;;4" "TEMP;2;2;U;I" "TEMP;2;H;5;9" (used 10 16383 7 1) ≡ answer (used 10 0 7 1)
   -- an invalid field that leaves the packet is refused all the same
-  pub invalid-leaves : told "TEMP;7;10;0;5;8" "TEMP;;;;4;4;;ON;;N;R;;;;;;;4" "TEMP;2;2;U;I" "TEMP;2;H;5;9" (used 10 16383 7 1) ≡ refused 28 14
+  pub invalid-leaves : stepTold "TEMP;7;10;0;5;8" "TEMP;;;;4;4;;ON;;N;R;;;;;;;4" "TEMP;2;2;U;I" "TEMP;2;H;5;9" (used 10 16383 7 1) ≡ refused 28 14
   -- under C the value is -10
-  pub engineered : told "TEMP;7;10;0" "TEMP;;;;4;4;;;;N;R;C1" "TEMP;1;2;C;I" "TEMP;2;H;-9;9" new ≡ answer (used 10 0 1 2)
-  pub raw : told "TEMP;7;10;0" "TEMP;;;;4;4;;;;N;R;C1" "TEMP;1;2;U;I" "TEMP;2;H;-9;9" new ≡ answer (used 10 0 1 1)
+  pub engineered : stepTold "TEMP;7;10;0" "TEMP;;;;4;4;;;;N;R;C1" "TEMP;1;2;C;I" "TEMP;2;H;-9;9" unstepped ≡ answer (used 10 0 1 2)
+  pub raw : stepTold "TEMP;7;10;0" "TEMP;;;;4;4;;;;N;R;C1" "TEMP;1;2;U;I" "TEMP;2;H;-9;9" unstepped ≡ answer (used 10 0 1 1)
   -- the same count again, another APID, a run of 100, no limits of the name, and no place
-  pub again : told "TEMP;7;10;0" "TEMP;;;;4;4;;;;N;R" "TEMP;2;2;U;I" "TEMP;2;H;5;9" (used 10 0 1 0) ≡ refused 35 0
-  pub another : told "TEMP;7;10;0" "TEMP;;;;4;4;;;;N;R" "TEMP;2;2;U;I" "TEMP;2;H;5;9" (used 11 0 1 0) ≡ refused 36 0
-  pub long-run : told "TEMP;7;10;0" "TEMP;;;;4;4;;;;N;R" "TEMP;2;2;U;I" "TEMP;2;H;5;9" (used 10 0 100 0) ≡ refused 34 0
-  pub unlimited : told "TEMP;7;10;0" "TEMP;;;;4;4;;;;N;R" "ON;2;2;U;I" "TEMP;2;H;5;9" (used 11 0 1 0) ≡ refused 33 0
-  pub nowhere : told "TEMP;8;10;0" "TEMP;;;;4;4;;;;N;R" "TEMP;2;2;U;I" "TEMP;2;H;5;9" (used 11 0 1 0) ≡ refused 26 0
+  pub again : stepTold "TEMP;7;10;0" "TEMP;;;;4;4;;;;N;R" "TEMP;2;2;U;I" "TEMP;2;H;5;9" (used 10 0 1 0) ≡ refused 35 0
+  pub another : stepTold "TEMP;7;10;0" "TEMP;;;;4;4;;;;N;R" "TEMP;2;2;U;I" "TEMP;2;H;5;9" (used 11 0 1 0) ≡ refused 36 0
+  pub long-run : stepTold "TEMP;7;10;0" "TEMP;;;;4;4;;;;N;R" "TEMP;2;2;U;I" "TEMP;2;H;5;9" (used 10 0 100 0) ≡ refused 34 0
+  pub unlimited : stepTold "TEMP;7;10;0" "TEMP;;;;4;4;;;;N;R" "ON;2;2;U;I" "TEMP;2;H;5;9" (used 11 0 1 0) ≡ refused 33 0
+  pub nowhere : stepTold "TEMP;8;10;0" "TEMP;;;;4;4;;;;N;R" "TEMP;2;2;U;I" "TEMP;2;H;5;9" (used 11 0 1 0) ≡ refused 26 0
 
 pub examples : Examples
 unfolding

@@ -41,8 +41,8 @@ pub record Table (words links : List ℕ) (n : ℕ) : Type 0 where
   pub later : (i t : ℕ) → i < n → t < 2 → (getD links (heads + 2 * i + t) 0 ≡ 0 → ⊥) → i + 1 < getD links (heads + 2 * i + t) 0
   pub finds : (i : ℕ) → i < n → sought words links (symbolAt words i) ≡ i + 1
 
-abbrev one : Symbol
-one = record { space = 0; a = 1; b = 0; c = 0 }
+abbrev symbolOne : Symbol
+symbolOne = record { space = 0; a = 1; b = 0; c = 0 }
 
 -- of the same bucket
 abbrev other : Symbol
@@ -50,7 +50,7 @@ other = record { space = 0; a = 1022; b = 0; c = 0 }
 
 pub record Examples : Type 0 where
   -- bucket 1 leads to symbol 1, the second in these words
-  pub second : follow (0 ∷ 1022 ∷ 0 ∷ 0 ∷ 0 ∷ 1 ∷ 0 ∷ 0 ∷ []) (0 ∷ 2 ∷ []) one 2 one (bucketOf one) ≡ record { at = 2; place = 1 }
+  pub second : follow (0 ∷ 1022 ∷ 0 ∷ 0 ∷ 0 ∷ 1 ∷ 0 ∷ 0 ∷ []) (0 ∷ 2 ∷ []) symbolOne 2 symbolOne (bucketOf symbolOne) ≡ record { at = 2; place = 1 }
   -- from which link 16,386 leads nowhere
   pub none : follow (0 ∷ 1022 ∷ 0 ∷ 0 ∷ 0 ∷ 1 ∷ 0 ∷ 0 ∷ []) (0 ∷ 2 ∷ []) other 2 other (bucketOf other) ≡ record { at = 0; place = 16386 }
 

@@ -45,16 +45,16 @@ pub record Told (p : Plain) (before after : List ℤ) (r : ℕ) : Type 0 where
 abbrev sevens : List ℤ
 sevens = pos 7 ∷ pos 7 ∷ pos 7 ∷ pos 7 ∷ []
 
-abbrev one : ℤ → List ℤ
-one z = pos 0 ∷ z ∷ []
+abbrev oneValue : ℤ → List ℤ
+oneValue z = pos 0 ∷ z ∷ []
 
 pub record Examples : Type 0 where
   -- refusal 28 at byte 13
-  pub leaves : plainOf one (refused 28 13) ≡ record { number = 28; place = 13; values = [] }
+  pub leaves : plainOf oneValue (refused 28 13) ≡ record { number = 28; place = 13; values = [] }
   pub result : code 28 13 ≡ 120259084301
   pub untouched : written sevens [] ≡ sevens
   -- 0 and -1
-  pub integer : plainOf one (answer (negsuc 0)) ≡ record { number = 0; place = 0; values = pos 0 ∷ negsuc 0 ∷ [] }
+  pub integer : plainOf oneValue (answer (negsuc 0)) ≡ record { number = 0; place = 0; values = pos 0 ∷ negsuc 0 ∷ [] }
   pub none : code 0 0 ≡ 0
   pub stored : written sevens (pos 0 ∷ negsuc 0 ∷ []) ≡ pos 0 ∷ negsuc 0 ∷ pos 7 ∷ pos 7 ∷ []
 

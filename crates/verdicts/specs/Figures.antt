@@ -62,8 +62,8 @@ fromBytes = record { miscounted = refl; answered = refl; counted = refl; noRoom 
 -- Rows by their facts, of parameters with one letter for a name
 
 -- pcf row r, which meets every condition
-abbrev pcfRow : ℕ → String → List Naming → Entry
-pcfRow r name named =
+abbrev pcfEntry : ℕ → String → List Naming → Entry
+pcfEntry r name named =
     record {
       table = 3;
       row = r;
@@ -133,24 +133,24 @@ cellsOf rows = map (verdict rows) rows
 
 pub record FromFacts : Type 0 where
   -- a circle of three: reason 12, which outranks 11, also where CURTX names no row. One that leads into it: 11 at column 8
-  pub circleOfThree : cellsOf (pcfRow 1 "A" (valid "B" ∷ []) ∷ pcfRow 2 "B" (valid "C" ∷ curtx "K" ∷ []) ∷ pcfRow 3 "C" (valid "A" ∷ [])
-      ∷ pcfRow 4 "D" (valid "A" ∷ []) ∷ []) ≡ 3080 ∷ 3080 ∷ 3080 ∷ 2824 ∷ []
+  pub circleOfThree : cellsOf (pcfEntry 1 "A" (valid "B" ∷ []) ∷ pcfEntry 2 "B" (valid "C" ∷ curtx "K" ∷ []) ∷ pcfEntry 3 "C" (valid "A" ∷ [])
+      ∷ pcfEntry 4 "D" (valid "A" ∷ []) ∷ []) ≡ 3080 ∷ 3080 ∷ 3080 ∷ 2824 ∷ []
   -- one that names itself is on a circle
-  pub onItself : cellsOf (pcfRow 1 "A" (valid "A" ∷ []) ∷ []) ≡ 3080 ∷ []
+  pub onItself : cellsOf (pcfEntry 1 "A" (valid "A" ∷ []) ∷ []) ≡ 3080 ∷ []
   -- two that hold a key: both 9, and what would be a circle through them is cut; one that names them: 11
-  pub twoHolders : cellsOf (pcfRow 1 "A" (valid "B" ∷ []) ∷ pcfRow 2 "B" (valid "A" ∷ []) ∷ pcfRow 3 "B" [] ∷ []) ≡ 2824 ∷ 2304 ∷ 2304 ∷ []
+  pub twoHolders : cellsOf (pcfEntry 1 "A" (valid "B" ∷ []) ∷ pcfEntry 2 "B" (valid "A" ∷ []) ∷ pcfEntry 3 "B" [] ∷ []) ≡ 2824 ∷ 2304 ∷ 2304 ∷ []
   -- the named row is there and good, but not of the kind asked
-  pub otherKind : cellsOf (pcfRow 1 "A" (valid "B" ∷ []) ∷ odd 2 "B" ∷ []) ≡ 2824 ∷ 0 ∷ []
+  pub otherKind : cellsOf (pcfEntry 1 "A" (valid "B" ∷ []) ∷ odd 2 "B" ∷ []) ≡ 2824 ∷ 0 ∷ []
   -- 01: "C needs CURTX in that pcf row": it names a row; it names none; and a good VALID is no CURTX
-  pub secondRow : cellsOf (limitOn "A" (through 12 anyRow) ∷ pcfRow 1 "A" (curtx "K" ∷ []) ∷ curveRow "K" ∷ []) ≡ 0 ∷ 0 ∷ 0 ∷ []
-  pub noSecondRow : cellsOf (limitOn "A" (through 12 anyRow) ∷ pcfRow 1 "A" [] ∷ curveRow "K" ∷ []) ≡ 2820 ∷ 0 ∷ 0 ∷ []
-  pub otherColumn : cellsOf (limitOn "A" (through 12 anyRow) ∷ pcfRow 1 "A" (valid "B" ∷ []) ∷ pcfRow 2 "B" [] ∷ []) ≡ 2820 ∷ 0 ∷ 0 ∷ []
+  pub secondRow : cellsOf (limitOn "A" (through 12 anyRow) ∷ pcfEntry 1 "A" (curtx "K" ∷ []) ∷ curveRow "K" ∷ []) ≡ 0 ∷ 0 ∷ 0 ∷ []
+  pub noSecondRow : cellsOf (limitOn "A" (through 12 anyRow) ∷ pcfEntry 1 "A" [] ∷ curveRow "K" ∷ []) ≡ 2820 ∷ 0 ∷ 0 ∷ []
+  pub otherColumn : cellsOf (limitOn "A" (through 12 anyRow) ∷ pcfEntry 1 "A" (valid "B" ∷ []) ∷ pcfEntry 2 "B" [] ∷ []) ≡ 2820 ∷ 0 ∷ 0 ∷ []
   -- the second row is there and good, but doesn't meet the condition, which the first does
-  pub otherSecond : cellsOf (limitOn "A" (through 12 whole) ∷ pcfRow 1 "A" (curtx "K" ∷ []) ∷ curveRow "K" ∷ []) ≡ 2820 ∷ 0 ∷ 0 ∷ []
+  pub otherSecond : cellsOf (limitOn "A" (through 12 whole) ∷ pcfEntry 1 "A" (curtx "K" ∷ []) ∷ curveRow "K" ∷ []) ≡ 2820 ∷ 0 ∷ 0 ∷ []
   -- of two names the lowest column decides
-  pub lowestColumn : cellsOf (pcfRow 1 "A" (valid "B" ∷ curtx "K" ∷ []) ∷ []) ≡ 2824 ∷ []
+  pub lowestColumn : cellsOf (pcfEntry 1 "A" (valid "B" ∷ curtx "K" ∷ []) ∷ []) ≡ 2824 ∷ []
   -- a row with one of reasons 1 to 8 holds nothing
-  pub badHoldsNothing : cellsOf (pcfRow 1 "A" (valid "B" ∷ []) ∷ record { table = 3; row = 2; reading = bad 1286 } ∷ []) ≡ 2824 ∷ 1286 ∷ []
+  pub badHoldsNothing : cellsOf (pcfEntry 1 "A" (valid "B" ∷ []) ∷ record { table = 3; row = 2; reading = bad 1286 } ∷ []) ≡ 2824 ∷ 1286 ∷ []
 
 pub fromFacts : FromFacts
 unfolding
