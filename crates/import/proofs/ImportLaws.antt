@@ -4,8 +4,7 @@ use mathlib.Core.Bool.{true}
 use mathlib.Core.List.{List}
 use Prim.Native.Nat.{ℕ, _≤_}
 use native.Mathlib.Omega.{arith}
-use lib.Dec.{leb}
-use lib.ListN.{length, take, replicate, length-replicate}
+use lib.ListN.{length, take}
 use borrow.Author.Tests.{le-leb}
 use Rattle.symbols.specs.Arrays.{allWords, allLinks}
 use Rattle.verdicts.specs.Entries.{allRows}
@@ -51,10 +50,8 @@ module _ (texts : List (List ℕ)) (s₀ s : Arrays) (rows symbols : ℕ) (k : K
       let f = sizes-taken texts (k .fits) in
       (sym (answer-few texts (length before) (f .0) (f .1) (omega (arith, k .count, a .0))), a .1)
 
--- the length of an array of zeros
-enough : (n : ℕ) → leb n (length (replicate {A = ℕ} n 0)) ≡ true
-enough n = le-leb n _ (omega (arith, length-replicate {A = ℕ} n 0))
-
--- the arrays of an import
-pub has-places : hasPlaces (arrays (replicate allWords 0) (replicate allLinks 0) 0 (replicate allHalves 0) (replicate allBytes 0)) ≡ true
-has-places = rw (enough allWords, enough allLinks, enough allBytes)
+-- arrays of the full size have room
+pub has-room : (words links halves bytes : List ℕ) → allWords ≤ length words → allLinks ≤ length links
+    → allHalves ≤ length halves → allBytes ≤ length bytes → hasPlaces (arrays words links 0 halves bytes) ≡ true
+has-room words links halves bytes w k h b =
+    rw (le-leb allWords (length words) w, le-leb allLinks (length links) k, le-leb allHalves (length halves) h, le-leb allBytes (length bytes) b)

@@ -37,6 +37,26 @@ fn import_kept(halves: &[u16], bytes: &[u8], cells: &mut [u16], n: usize) -> Imp
     Imported::Done(n, good)
 }
 
+// The arrays are lent at their full size.
+fn import_in(
+    tables: [&[u8]; TABLES],
+    words: &mut [u64; WORDS],
+    links: &mut [u16; LINKS],
+    halves: &mut [u16; HALVES],
+    bytes: &mut [u8; BYTES],
+    cells: &mut [u16],
+) -> Imported
+    ensures { λ r. ⌜ saidImported r ≡ importOf (map now (tables .entry)) (length (now (cells .entry))) ⌝ }
+    ensures { λ r. ⌜ now (cells .exit) ≡ cellsAfter (map now (tables .entry)) (now (cells .entry)) (saidImported r) ⌝ }
+{
+    match keep(tables, words, links, halves, bytes) {
+        Keeping::TooLong(table) => Imported::TooLong(table),
+        Keeping::TooManyRows(table) => Imported::TooManyRows(table),
+        Keeping::NoRoom => Imported::TooFewCells,
+        Keeping::Done(rows, _) => import_kept(halves, bytes, cells, rows),
+    }
+}
+
 // Judges all rows of the tables: one cell for each, in table order. A refusal touches no cell.
 pub fn import(tables: [&[u8]; TABLES], cells: &mut [u16]) -> Imported
     ensures { λ r. ⌜ saidImported r ≡ importOf (map now (tables .entry)) (length (now (cells .entry))) ⌝ }
@@ -46,10 +66,12 @@ pub fn import(tables: [&[u8]; TABLES], cells: &mut [u16]) -> Imported
     let mut links = [0u16; LINKS];
     let mut halves = [0u16; HALVES];
     let mut bytes = [0u8; BYTES];
-    match keep(tables, &mut words, &mut links, &mut halves, &mut bytes) {
-        Keeping::TooLong(table) => Imported::TooLong(table),
-        Keeping::TooManyRows(table) => Imported::TooManyRows(table),
-        Keeping::NoRoom => Imported::TooFewCells,
-        Keeping::Done(rows, _) => import_kept(&halves, &bytes, cells, rows),
-    }
+    import_in(
+        tables,
+        &mut words,
+        &mut links,
+        &mut halves,
+        &mut bytes,
+        cells,
+    )
 }

@@ -1,95 +1,16 @@
--- By what keeping the rows answers.
-use mathlib.Core.Path.{refl, sym, _∙_}
-use Rattle.verdicts.specs.Answer.{cellsAfter}
-use Rattle.kept.proofs.AnswerLaws.{kept-long, kept-many, kept-short, kept-done}
-use Rattle.laws.proofs.Cases.{false≢true}
-use Rattle.import.specs.Judged.{saidImported}
-use Rattle.import.proofs.AnswerLaws.{answer-long, answer-many}
-use Rattle.import.proofs.ImportLaws.{answer-by, has-places}
+-- The arrays are its own.
 use borrow.Author.Needs.{needs}
 use Rattle.import.proofs.import.Statement.{statement}
 use Rattle.import.proofs.import.Tie as tie
 
-slice-aggregate-keep : tie.Need-slice-aggregate-keep
-slice-aggregate-keep c = search needs
-
-slice-aggregate-keep-2 : tie.Need-slice-aggregate-keep-2
-slice-aggregate-keep-2 c = search needs
-
-slice-aggregate-keep-3 : tie.Need-slice-aggregate-keep-3
-slice-aggregate-keep-3 c = search needs
-
-slice-aggregate-keep-4 : tie.Need-slice-aggregate-keep-4
-slice-aggregate-keep-4 c = search needs
-
-keep-requires : tie.Need-keep-requires
-keep-requires c κs = search needs
-
-enum-known-table : tie.Need-enum-known-table
-enum-known-table c = search needs
-
-enum-known-table-2 : tie.Need-enum-known-table-2
-enum-known-table-2 c = search needs
-
-enum-told : tie.Need-enum-told
-enum-told c = search needs
-
-enum-known-rows : tie.Need-enum-known-rows
-enum-known-rows c = search needs
-
-slice-aggregate-import-kept : tie.Need-slice-aggregate-import-kept
-slice-aggregate-import-kept c = search needs
-
-slice-aggregate-import-kept-2 : tie.Need-slice-aggregate-import-kept-2
-slice-aggregate-import-kept-2 c = search needs
-
-import-kept-requires : tie.Need-import-kept-requires
-import-kept-requires c κs = search needs
-
-returns : tie.Need-returns
-unfolding saidImported cellsAfter
-returns c =
-    let kept = c .before .before .before .before .before .before .before in
-    (sym (answer-long _ _ (kept-long _ _ _ _ (kept .keep .ensures) _ (c .before .table .given .1) .0)), refl)
-
-returns-2 : tie.Need-returns-2
-unfolding saidImported cellsAfter
-returns-2 c =
-    let kept = c .before .before .before .before .before .before .before in
-    (sym (answer-many _ _ (kept-many _ _ _ _ (kept .keep .ensures) _ (c .before .table2 .given .1) .0)), refl)
-
-returns-3 : tie.Need-returns-3
-returns-3 c =
-    let kept = c .before .before .before .before .before .before in
-    absurd (false≢true (sym (kept-short _ _ _ _ (kept .keep .ensures) (c .enum-told .given .1) .1) ∙ has-places))
+import-in-requires : tie.Need-import-in-requires
+import-in-requires c κs = search needs
 
 same-length : tie.Need-same-length
 same-length c = search needs
 
-returns-4 : tie.Need-returns-4
-returns-4 c =
-    let rows = c .before .before .before .before .before .before .before in
-    answer-by _ _ _ _ _ (kept-done _ _ _ _ (rows .before .before .before .before .before .before .keep .ensures) _ _ (rows .rows .given .1)) _ _ _
-    (c .before .before .import-kept .ensures)
+returns : tie.Need-returns
+returns c = c .before .before .import-in .ensures
 
 pub import-spec : {M : Type 1} → statement M
-import-spec =
-    tie.close
-    (tie.spec
-    slice-aggregate-keep
-    slice-aggregate-keep-2
-    slice-aggregate-keep-3
-    slice-aggregate-keep-4
-    keep-requires
-    enum-known-table
-    enum-known-table-2
-    enum-told
-    enum-known-rows
-    slice-aggregate-import-kept
-    slice-aggregate-import-kept-2
-    import-kept-requires
-    returns
-    returns-2
-    returns-3
-    same-length
-    returns-4)
+import-spec = tie.close (tie.spec import-in-requires same-length returns)
