@@ -1,3 +1,4 @@
 pub mod TurnLaws
 pub mod TellLaws
 pub mod OnceLaws
+pub mod AfterLaws

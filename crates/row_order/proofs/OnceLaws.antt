@@ -20,7 +20,7 @@ times-append : (x : ℕ) (a b : List ℕ) → timesIn x (a ++ b) ≡ timesIn x a
 times-append x [] b = omega arith
 times-append x (y ∷ a) b = let e = times-append x a b in omega arith
 
-not-in : (x : ℕ) (a : List ℕ) → isIn x a ≡ false → timesIn x a ≡ 0
+pub not-in : (x : ℕ) (a : List ℕ) → isIn x a ≡ false → timesIn x a ≡ 0
 not-in x [] e = refl
 not-in x (y ∷ a) e = go (eqb x y) e (λ q. not-in x a q)
   where
@@ -72,7 +72,7 @@ inside-step passes x lo d r = bool-cases (eqb x lo) here there
     there : eqb x lo ≡ false → timesIn x (allFrom passes lo (suc d)) ≡ flag (passes x)
     there e = let z = r e in bool-cases (passes lo) (λ t. rw (t, e) (omega arith)) (λ t. rw (t, z))
 
-times-inside : (passes : ℕ → Bool) (x lo d : ℕ) → lo ≤ x → x < lo + d → timesIn x (allFrom passes lo d) ≡ flag (passes x)
+pub times-inside : (passes : ℕ → Bool) (x lo d : ℕ) → lo ≤ x → x < lo + d → timesIn x (allFrom passes lo d) ≡ flag (passes x)
 times-inside passes x lo zero l h = absurd (omega arith)
 times-inside passes x lo (suc d) l h =
     inside-step passes x lo d (λ e. times-inside passes x (lo + 1) d (let q = eqb-false x lo e in omega arith) (omega arith))
@@ -117,7 +117,7 @@ module _ (first : ℕ → Cause) (naming : ℕ → Bool) where
   way-once (suc steps) told i x = way-step steps told i x (λ j. way-once steps (i ∷ told) j x)
 
   -- the row itself is told, unless it was
-  way-there : (steps : ℕ) (told : List ℕ) (i : ℕ) → naming i ≡ true → isIn i told ≡ false → 1 ≤ timesIn i (wayTo first naming (suc steps) told i)
+  pub way-there : (steps : ℕ) (told : List ℕ) (i : ℕ) → naming i ≡ true → isIn i told ≡ false → 1 ≤ timesIn i (wayTo first naming (suc steps) told i)
   unfolding wayTo
   way-there steps told i e f =
       let d : (naming i && not (isIn i told)) ≡ true = rw (e, f) in

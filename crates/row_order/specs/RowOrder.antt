@@ -3,6 +3,7 @@ use Prim.Native.Nat.{ℕ, zero, suc, _+_, _/_}
 use mathlib.Core.Path.{_≡_, refl}
 use mathlib.Core.Bool.{Bool, true, not, cond, _&&_}
 use mathlib.Core.List.{List, [], _∷_, _++_, map}
+use mathlib.Core.Logic.{_⊎_}
 use lib.Dec.{eqb, ltb}
 use lib.ListN.{getD}
 use Rattle.laws.specs.Lists.{any}
@@ -57,6 +58,17 @@ orderOf halves bytes cells n =
 abbrev pub timesIn : ℕ → List ℕ → ℕ
 timesIn x [] = 0
 timesIn x (y ∷ rows) = flag (eqb x y) + timesIn x rows
+
+-- row i leads to row k, each row on the way to the first row that it points to
+pub data Leads (first : ℕ → Cause) : ℕ → ℕ → Type 0 where
+  here : {i : ℕ} → Leads first i i
+  on : {i j k : ℕ} → first i ≡ Row j → Leads first j k → Leads first i k
+
+-- these rows are told one after the other: of the first row that each points to, if it isn't good, it was told before, or leads back here
+abbrev pub AllAfter : (first : ℕ → Cause) → (bad : ℕ → Bool) → (told rows : List ℕ) → Type 0
+AllAfter first bad told [] = Unit {0}
+AllAfter first bad told (k ∷ rows) =
+    ((j : ℕ) → first k ≡ Row j → bad j ≡ true → (isIn j told ≡ true) ⊎ Leads first j k) × AllAfter first bad (told ++ k ∷ []) rows
 
 abbrev nextRow : ℕ → Cause
 nextRow i = Row (suc i)
