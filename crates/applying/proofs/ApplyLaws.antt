@@ -4,6 +4,7 @@ use mathlib.Core.Bool.{Bool, true, false}
 use mathlib.Core.List.{List}
 use Prim.Native.Nat.{ℕ}
 use Rattle.rows.specs.Records.{plfRow, pcfRow}
+use Rattle.rows.specs.declared.records.PcfRow.{PcfRow}
 use Rattle.rows.specs.declared.records.OcpRow.{OcpRow}
 use Rattle.outcomes.specs.Outcome.{Outcome, andThen}
 use Rattle.outcomes.specs.Values.{Value}
@@ -26,8 +27,8 @@ module _ (rows : Rows) (p : List ℕ) (spid : ℕ) (row : OcpRow) where
     unfolding applies firstRaw hasValue andThen
     applies-nowhere f = rw (t, ← is, at-missing texts columns at f)
 
-    pub applies-located : at .found ≡ true → (raw : Outcome Value) {b : Bool} (plf pcf : List ℕ)
-        → plf ≡ rowAt texts columns (at .plf) .bytes → pcf ≡ rowAt texts columns (at .pcf) .bytes
-        → raw ≡ rawOf p (plfRow plf) (pcfRow pcf) 0 → b ≡ hasValue raw (row .valpar) → b ≡ applies rows p spid row
+    pub applies-located : at .found ≡ true → (raw : Outcome Value) {b : Bool} (plf : List ℕ) (pcf : PcfRow)
+        → plf ≡ rowAt texts columns (at .plf) .bytes → pcf ≡ pcfRow (rowAt texts columns (at .pcf) .bytes)
+        → raw ≡ rawOf p (plfRow plf) pcf 0 → b ≡ hasValue raw (row .valpar) → b ≡ applies rows p spid row
     unfolding applies firstRaw andThen byLines
     applies-located f raw plf pcf el ec er eb = rw (t, ← is, at-found texts columns at f, ← el, ← ec, ← er) eb

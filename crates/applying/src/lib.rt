@@ -4,6 +4,7 @@ use parameters::locate;
 use raw_values::RawValue;
 use raw_values::raw_of;
 use readings::equals;
+use rows::decoded::pcf_of;
 use rows::records::OcpRow;
 use tables::TABLES;
 use units::Spid;
@@ -46,6 +47,6 @@ pub fn applies(
         return false;
     }
     let plf = line_of(tables, columns, at.plf);
-    let pcf = line_of(tables, columns, at.pcf);
+    let pcf = pcf_of(line_of(tables, columns, at.pcf));
     has_value(raw_of(p, plf, pcf, 0), row.valpar)
 }

@@ -9,6 +9,7 @@ use Rattle.rows.specs.declared.letters.LimitValue.{LimitValue}
 use Rattle.rows.specs.declared.letters.LimitValue.the-variants.{Raw, Engineering}
 use Rattle.rows.specs.declared.records.OptionalCurve.{OptionalCurve}
 use Rattle.rows.specs.declared.records.OcfRow.{OcfRow}
+use Rattle.rows.specs.declared.records.PcfRow.{PcfRow}
 use Rattle.outcomes.specs.Outcome.{Outcome, refused, answer, andThen}
 use Rattle.database.specs.Rows.{Rows}
 use Rattle.raw_values.specs.RawValues.{rawOf}
@@ -31,9 +32,9 @@ then-then (answer a) f g = refl
 
 module _ (rows : Rows) (p : List ℕ) (spid : ℕ) (ocf : OcfRow) (progress : Progress) where
   -- by its manner, and any checks
-  pub manner-checked : (checks : List Check) (place kind : List ℕ) {plf pcf : List ℕ} {manner : Manner} {xs ys : List ℤ}
-      → plf ≡ place → pcf ≡ kind → MannerOf rows p spid ocf (pcfRow kind) manner xs ys
-      → checkedBy (rawOf p (plfRow plf) (pcfRow pcf)) (plfRow plf .nbocc) (scaleIn (manner .scale) xs ys) (manner .valid) checks (manner .nbchck) progress
+  pub manner-checked : (checks : List Check) (place kind : List ℕ) {plf : List ℕ} {pcf : PcfRow} {manner : Manner} {xs ys : List ℤ}
+      → plf ≡ place → pcf ≡ pcfRow kind → MannerOf rows p spid ocf pcf manner xs ys
+      → checkedBy (rawOf p (plfRow plf) pcf) (plfRow plf .nbocc) (scaleIn (manner .scale) xs ys) (manner .valid) checks (manner .nbchck) progress
       ≡ andThen (valuesOf rows p spid ocf (byLines place kind)) (λ values. answer (progressBy checks (ocf .nbchck) progress values))
   unfolding checkedBy valuesOf byLines
   manner-checked checks place kind l k m =

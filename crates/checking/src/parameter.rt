@@ -15,14 +15,14 @@ use rows::decoded::pcf_of;
 use rows::letters::LimitValue;
 use rows::records::OcfRow;
 use rows::records::OptionalCurve;
+use rows::records::PcfRow;
 use tables::TABLES;
 use units::Spid;
 ghost use mathlib.Core.Path.{_≡_};
 ghost use mathlib.Core.List.{map};
 ghost use lib.ListN.{length};
-ghost use Rattle.rows.specs.Records.{pcfRow};
 ghost use Rattle.outcomes.specs.Outcome.{andThen, answer};
-ghost use Rattle.database.specs.Arrays.{database, rowAt, answers};
+ghost use Rattle.database.specs.Arrays.{database, answers};
 ghost use Rattle.curve_values.specs.Scale.{scaleIn};
 ghost use Rattle.severity.specs.Checks.{checksIn};
 ghost use Rattle.occurrences.specs.Values.{scaleUnder, valuesOf};
@@ -61,7 +61,7 @@ fn scale_under(
     }
 }
 
-// How the readings of the parameter are checked. The points of its curve are the first of the arrays.
+// How the readings of the parameter with this pcf row are checked. The points of its curve are the first of the arrays.
 fn manner_of(
     tables: [&[u8]; TABLES],
     words: &[u64],
@@ -69,22 +69,20 @@ fn manner_of(
     columns: &[u16],
     p: &[u8],
     subject: Subject,
+    pcf: PcfRow,
     xs: &mut [i64; MOST_MEMBERS],
     ys: &mut [i64; MOST_MEMBERS],
 ) -> Manner
     requires { ⌜ (length (now xs) ≡ 1024) × (length (now ys) ≡ 1024) ⌝ }
     ensures { λ r. ⌜ MannerOf (answers (database (map now (tables .entry)) (now (words .entry)) (now (links .entry)) (now (columns .entry))))
-        (now (p .entry)) (subject .spid .0) (subject .limits) (pcfRow (rowAt (map now (tables .entry)) (now (columns .entry)) (subject .at .pcf) .bytes))
-        r (now (xs .exit)) (now (ys .exit)) ⌝ }
+        (now (p .entry)) (subject .spid .0) (subject .limits) pcf r (now (xs .exit)) (now (ys .exit)) ⌝ }
 {
     let spid = subject.spid;
-    let at = subject.at;
-    let place = at.pcf;
     let limits = subject.limits;
     let inter = limits.inter;
     let nbchck = limits.nbchck;
-    let curtx = pcf_of(line_of(tables, columns, place)).curtx;
-    let valid = validity(tables, words, links, columns, p, spid, place);
+    let curtx = pcf.curtx;
+    let valid = validity(tables, words, links, columns, p, spid, pcf);
     let scale = scale_under(tables, words, links, columns, inter, curtx, xs, ys);
     Manner {
         nbchck,
@@ -113,10 +111,20 @@ fn check_by(
 {
     let mut xs = [0i64; MOST_MEMBERS];
     let mut ys = [0i64; MOST_MEMBERS];
-    let manner = manner_of(tables, words, links, columns, p, subject, &mut xs, &mut ys);
     let at = subject.at;
+    let pcf = pcf_of(line_of(tables, columns, at.pcf));
+    let manner = manner_of(
+        tables,
+        words,
+        links,
+        columns,
+        p,
+        subject,
+        pcf,
+        &mut xs,
+        &mut ys,
+    );
     let plf = line_of(tables, columns, at.plf);
-    let pcf = line_of(tables, columns, at.pcf);
     check_occurrences(p, plf, pcf, &xs, &ys, lows, highs, levels, manner, progress)
 }
 

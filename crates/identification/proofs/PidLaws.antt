@@ -5,7 +5,7 @@ use mathlib.Core.List.{List, []}
 use mathlib.Core.Option.{none, some}
 use Prim.Native.Nat.{ℕ}
 use Rattle.rows.specs.Records.{pidRow}
-use Rattle.rows.specs.declared.records.PidRow.{PidRow}
+use Rattle.units.specs.declared.Spid.{Spid}
 use Rattle.verdicts.specs.Key.{Key}
 use Rattle.key_symbols.specs.Bounded.{keyFits, packetOf}
 use Rattle.key_symbols.specs.declared.FiveNumbers.{FiveNumbers}
@@ -29,7 +29,7 @@ module _ (rows : Rows) (n : FiveNumbers) where
   unfolding chooseBy chosen
   choice-none e = rw e
 
-  pub choice-some : {row : Row} {number : ℕ} {pid : PidRow} {line : List ℕ} → rows .holder (packetOf n) ≡ some row → number ≡ row .number
-      → line ≡ row .bytes → pid ≡ pidRow line → answer (record { row = number; spid = pid .spid .0; numbers = n }) ≡ chooseBy rows n
+  pub choice-some : {row : Row} {number : ℕ} {spid : Spid} {line : List ℕ} → rows .holder (packetOf n) ≡ some row → number ≡ row .number
+      → line ≡ row .bytes → spid ≡ pidRow line .spid → answer (record { row = number; spid = spid .0; numbers = n }) ≡ chooseBy rows n
   unfolding chooseBy chosen
   choice-some e m l p = rw (e, m, p, l)

@@ -10,9 +10,10 @@ use outcomes::number_of;
 use raw_values::RawValue;
 use raw_values::raw_of;
 use rows::decoded::plf_of;
+use rows::records::PcfRow;
 use severity::severity_in;
 ghost use mathlib.Core.Path.{_≡_};
-ghost use Rattle.rows.specs.Records.{plfRow, pcfRow};
+ghost use Rattle.rows.specs.Records.{plfRow};
 ghost use Rattle.outcomes.specs.Outcome.{andThen};
 ghost use Rattle.outcomes.specs.Values.{valueOf};
 ghost use Rattle.raw_values.specs.RawValues.{saidRaw, rawOf};
@@ -128,11 +129,11 @@ fn end_pass(pass: Pass) -> Checked
     Checked::Is(progress)
 }
 
-// By the lines of the parameter's plf and pcf rows. A field that leaves the packet is refused wherever it stands, valid or not.
+// By the line of the parameter's plf row, and its pcf row. A field that leaves the packet is refused wherever it stands, valid or not.
 pub fn check_occurrences(
     p: &[u8],
     plf: &[u8],
-    pcf: &[u8],
+    pcf: PcfRow,
     xs: &[i64],
     ys: &[i64],
     lows: &[i64],
@@ -142,7 +143,7 @@ pub fn check_occurrences(
     progress: Progress,
 ) -> Checked
     ensures { λ r. ⌜ saidChecked r
-        ≡ checkedBy (rawOf (now (p .entry)) (plfRow (now (plf .entry))) (pcfRow (now (pcf .entry)))) (plfRow (now (plf .entry)) .nbocc)
+        ≡ checkedBy (rawOf (now (p .entry)) (plfRow (now (plf .entry))) pcf) (plfRow (now (plf .entry)) .nbocc)
         (scaleIn (manner .scale) (now (xs .entry)) (now (ys .entry))) (manner .valid)
         (checksIn (now (lows .entry)) (now (highs .entry)) (now (levels .entry))) (manner .nbchck) progress ⌝ }
 {

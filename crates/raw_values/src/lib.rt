@@ -1,4 +1,4 @@
-// Raw values: occurrence k of a parameter in a packet, by the lines of its plf and pcf rows.
+// Raw values: occurrence k of a parameter in a packet, by the line of its plf row and its pcf row.
 mod place;
 
 use crate::place::FieldStart;
@@ -13,15 +13,15 @@ use fields::width::Width;
 use fields::width::width_of;
 use outcomes::Refusal;
 use outcomes::Value;
-use rows::decoded::pcf_of;
 use rows::decoded::plf_of;
+use rows::records::PcfRow;
 use units::BitOffset;
 use units::ByteOffset;
 ghost use mathlib.Core.Path.{_≡_};
 ghost use Prim.Native.Nat.{_+_, _*_, _<_, _≤_};
 ghost use lib.ListN.{length};
 ghost use mathlib.Core.Option.{some};
-ghost use Rattle.rows.specs.Records.{plfRow, pcfRow};
+ghost use Rattle.rows.specs.Records.{plfRow};
 ghost use Rattle.fields.specs.Field.{unsignedAt};
 ghost use Rattle.fields.specs.Sign.{signedAt};
 ghost use Rattle.fields.specs.Text.{stringAt};
@@ -112,16 +112,15 @@ fn occurrence_raw(p: &[u8], plf: &[u8], ptc: u32, width: u32, k: usize) -> RawVa
     field_raw(p, ptc, width, start)
 }
 
-// The raw value of occurrence k by the lines of its rows.
-pub fn raw_of(p: &[u8], plf: &[u8], pcf: &[u8], k: usize) -> RawValue
-    ensures { λ r. ⌜ saidRaw r ≡ rawOf (now (p .entry)) (plfRow (now (plf .entry))) (pcfRow (now (pcf .entry))) k ⌝ }
+// The raw value of occurrence k by the line of its plf row, and its pcf row, which is decoded once for all occurrences.
+pub fn raw_of(p: &[u8], plf: &[u8], pcf: PcfRow, k: usize) -> RawValue
+    ensures { λ r. ⌜ saidRaw r ≡ rawOf (now (p .entry)) (plfRow (now (plf .entry))) pcf k ⌝ }
 {
     if PACKET_BYTES < p.len() {
         return RawValue::Refused(Refusal::PacketLength);
     }
-    let what = pcf_of(pcf);
-    match width_of(what.ptc, what.pfc) {
-        Width::Bits(width) => occurrence_raw(p, plf, what.ptc, width, k),
+    match width_of(pcf.ptc, pcf.pfc) {
+        Width::Bits(width) => occurrence_raw(p, plf, pcf.ptc, width, k),
         Width::Refused => RawValue::Refused(Refusal::NoPlfRow),
     }
 }

@@ -1,22 +1,19 @@
 -- Laws of readings: integers as their words hold them, a reading by the rows of its parameter, and one step of its validity.
-use mathlib.Core.Path.{_≡_, refl, sym, ap, _∙_, subst}
+use mathlib.Core.Path.{_≡_, refl, sym, ap, _∙_}
 use mathlib.Core.Bool.{Bool, true, false, not}
 use mathlib.Core.List.{List}
-use mathlib.Core.Option.{Option, some, none}
 use Prim.Native.Nat.{ℕ, zero, suc, _-_, _^_, _<_}
 use native.Mathlib.Omega.{arith}
-use lib.Dec.{eqb, ltb}
-use lib.IntN.{ℤ, pos, negsuc, natAbs}
+use lib.Dec.{eqb}
+use lib.IntN.{ℤ, pos, negsuc}
 use lib.Signed.{mag}
 use mir.Syntax.{w64}
 use mir.Val.{toZ, ofZ}
-use borrow.Author.Tests.{eq-eqb, eqb-true, eqb-false, ltb-true}
-use Rattle.laws.proofs.Cases.{bool-cases, cond-cases, false-of, false≢true}
+use borrow.Author.Tests.{eq-eqb, eqb-true, eqb-false}
+use Rattle.laws.proofs.Cases.{bool-cases, false-of, false≢true}
 use Rattle.laws.proofs.Words.{through-word}
 use Rattle.lines.specs.declared.names.Name.{Name}
-use Rattle.numbers.specs.Number.{numberOf}
-use Rattle.rows.specs.Values.{integerFrom, integerOr}
-use Rattle.rows.specs.Records.{column, plfRow, pcfRow}
+use Rattle.rows.specs.Records.{plfRow, pcfRow}
 use Rattle.rows.specs.declared.records.PcfRow.{PcfRow}
 use Rattle.outcomes.specs.Outcome.{Outcome, refused, andThen}
 use Rattle.outcomes.specs.Values.{Value}
@@ -61,23 +58,6 @@ module _ (a b : ℤ) (h : mag a < 2 ^ 63) (k : mag b < 2 ^ 63) where
       (λ t. t ∙ sym (ap (sameInteger a) (sym (same-of-words t)) ∙ same-integer-self a))
       (λ f. f ∙ sym (false-of (sameInteger a b) (λ t. eqb-false (ofZ w64 a) (ofZ w64 b) f (ap (ofZ w64) (same-integer-is a b t)))))
 
--- an integer of a line passes a word unchanged
-integer-from : (default : ℤ) → natAbs default < 2 ^ 60 → (v : Option ℤ) → natAbs (integerFrom default v) < 2 ^ 60
-unfolding integerFrom
-integer-from default h none = h
-integer-from default h (some v) = cond-cases (λ (z : ℤ). natAbs z < 2 ^ 60) (ltb (natAbs v) (2 ^ 60)) (λ t. ltb-true _ _ t) (λ _. h)
-
-size-mag : (z : ℤ) → natAbs z < 2 ^ 60 → mag z < 2 ^ 63
-size-mag (pos n) h = omega arith
-size-mag (negsuc n) h = omega arith
-
-pub valpar-kept : (row : PcfRow) (line : List ℕ) → row ≡ pcfRow line → toZ w64 (ofZ w64 (row .valpar)) ≡ row .valpar
-unfolding pcfRow integerOr
-valpar-kept row line e =
-    through-word (row .valpar)
-    (subst (λ (r : PcfRow). mag (r .valpar) < 2 ^ 63) (sym e)
-    (size-mag (integerOr (pos 1) (column line 17)) (integer-from (pos 1) (omega arith) (numberOf (column line 17)))))
-
 -- A reading by the rows of its parameter
 
 module _ (rows : Rows) (p : List ℕ) (spid : ℕ) (valid : PcfRow → Bool) (name : Name) (k : ℕ)
@@ -86,9 +66,9 @@ module _ (rows : Rows) (p : List ℕ) (spid : ℕ) (valid : PcfRow → Bool) (na
   unfolding readingWith andThen
   read-unlocated f = rw (← is, at-missing texts columns at f)
 
-  pub read-located : at .found ≡ true → (raw : Outcome Value) (b : Bool) (plf pcf : List ℕ)
-      → plf ≡ rowAt texts columns (at .plf) .bytes → pcf ≡ rowAt texts columns (at .pcf) .bytes
-      → raw ≡ rawOf p (plfRow plf) (pcfRow pcf) k → b ≡ valid (pcfRow (rowAt texts columns (at .pcf) .bytes))
+  pub read-located : at .found ≡ true → (raw : Outcome Value) (b : Bool) (plf : List ℕ) (pcf : PcfRow)
+      → plf ≡ rowAt texts columns (at .plf) .bytes → pcf ≡ pcfRow (rowAt texts columns (at .pcf) .bytes)
+      → raw ≡ rawOf p (plfRow plf) pcf k → b ≡ valid pcf
       → andThen raw (withValidity b) ≡ readingWith rows p spid valid name k
   unfolding readingWith andThen byLines
   read-located f raw b plf pcf el ec er eb = rw (← is, at-found texts columns at f, er, eb, el, ec)
@@ -112,10 +92,6 @@ module _ (rows : Rows) (p : List ℕ) (spid : ℕ) where
   module _ (left : ℕ) (row target : PcfRow) (d : row ≡ target) where
     pub valid-free : row .valid .given ≡ false → true ≡ validWithin rows p spid left target
     valid-free f = free-within left row f ∙ ap (validWithin rows p spid left) d
-
-    pub valid-stop : row .valid .given ≡ true → left ≡ 0 → false ≡ validWithin rows p spid left target
-    unfolding validWithin
-    valid-stop t e = rw (← d, e, t)
 
     pub valid-step : row .valid .given ≡ true → (left ≡ 0 → ⊥) → (read : Outcome Reading)
         → read ≡ readingWith rows p spid (validWithin rows p spid (left - 1)) (row .valid .name) 0

@@ -1,4 +1,4 @@
--- A VALID chain that was read: what the validity parameter of each row says, and the VALPAR that it must equal.
+-- Rows of a VALID chain that were read: what the validity parameter of each row says, and the VALPAR that it must equal.
 use Prim.Native.Nat.{ℕ, zero, suc}
 use mathlib.Core.Path.{_≡_, refl}
 use mathlib.Core.Bool.{Bool, true, false, _&&_}
@@ -7,6 +7,10 @@ use lib.Dec.{eqb}
 use lib.IntN.{ℤ, pos}
 use lib.ListN.{getD}
 use Rattle.readings.specs.Readings.{sameInteger}
+
+-- a block of a chain has at most so many rows
+abbrev pub blockRows : ℕ
+blockRows = 16
 
 -- whether readings of row `at` are valid, with `left` rows that have VALID from it on, and then one that is valid or not.
 -- 01: "is valid and equals the VALPAR of the reading's own pcf row"

@@ -1,8 +1,8 @@
-// Validity along a VALID chain whose rows have been read: validity asks for a reading, and the reading asks for validity.
+// Validity along rows of a VALID chain that have been read: validity asks for a reading, and the reading asks for validity.
+use crate::BLOCK_ROWS;
 use crate::Reading;
 use crate::equals;
 use outcomes::Value;
-use tables::MOST_ROWS;
 ghost use mathlib.Core.Path.{_≡_};
 ghost use Prim.Native.Nat.{_+_, _≤_, _<_};
 ghost use lib.IntN.{pos};
@@ -28,15 +28,15 @@ fn agrees(reading: Reading, valpar: i64) -> bool
     }
 }
 
-// The reading of the validity parameter of row `at`, by the `left` rows of the chain that are left.
+// The reading of the validity parameter of row `at`, by the `left` rows of the block that are left.
 fn read_along(
-    values: &[i64; MOST_ROWS],
-    valpars: &[i64; MOST_ROWS],
+    values: &[i64; BLOCK_ROWS],
+    valpars: &[i64; BLOCK_ROWS],
     free: bool,
     at: usize,
     left: usize,
 ) -> Reading
-    requires { ⌜ at + left < 1024 ⌝ }
+    requires { ⌜ at + left < 16 ⌝ }
     ensures { λ r. ⌜ saidReading r ≡ withValidity (validAlong (now (values .entry)) (now (valpars .entry)) free (at + 1) left)
         (number (getD (now (values .entry)) at (pos 0))) ⌝ }
 {
@@ -45,15 +45,15 @@ fn read_along(
     Reading::Is(Value::Number(value), valid)
 }
 
-// Whether readings of row `at` are valid, by the `left` rows of the chain that are left.
+// Whether readings of row `at` are valid, by the `left` rows of the block that are left.
 pub(crate) fn valid_along(
-    values: &[i64; MOST_ROWS],
-    valpars: &[i64; MOST_ROWS],
+    values: &[i64; BLOCK_ROWS],
+    valpars: &[i64; BLOCK_ROWS],
     free: bool,
     at: usize,
     left: usize,
 ) -> bool
-    requires { ⌜ at + left ≤ 1024 ⌝ }
+    requires { ⌜ at + left ≤ 16 ⌝ }
     ensures { λ r. ⌜ r ≡ validAlong (now (values .entry)) (now (valpars .entry)) free at left ⌝ }
 {
     if left == 0 {

@@ -1,16 +1,17 @@
-// Readings: a raw value in a packet, and whether it is valid; validity along a VALID chain whose rows have been read.
+// Readings: a raw value in a packet, and whether it is valid; validity along rows of a VALID chain that have been read.
 mod along;
 
 use crate::along::valid_along;
 use outcomes::Refusal;
 use outcomes::Value;
-use tables::MOST_ROWS;
 ghost use mathlib.Core.Path.{_≡_};
 ghost use Prim.Native.Nat.{min};
 ghost use Rattle.outcomes.specs.Values.{valueOf};
-ghost use Rattle.verdicts.specs.Answer.{mostRows};
 ghost use Rattle.readings.specs.Readings as spec;
-ghost use Rattle.readings.specs.Chain.{validAlong};
+ghost use Rattle.readings.specs.Chain.{blockRows, validAlong};
+
+// A VALID chain is read in blocks of at most so many rows: most chains are short, and small arrays are soon cleared.
+pub const BLOCK_ROWS: usize = 16;
 
 // A raw value and whether it is valid, or why there is none.
 pub enum Reading {
@@ -28,17 +29,17 @@ pub fn equals(value: Value, valpar: i64) -> bool
     }
 }
 
-// Whether readings of the first row of a chain are valid, by the n rows of it that were read.
+// Whether readings of the first row of a block are valid, by the n rows of it that were read.
 pub fn valid_chain(
-    values: &[i64; MOST_ROWS],
-    valpars: &[i64; MOST_ROWS],
+    values: &[i64; BLOCK_ROWS],
+    valpars: &[i64; BLOCK_ROWS],
     free: bool,
     n: usize,
 ) -> bool
-    ensures { λ r. ⌜ r ≡ validAlong (now (values .entry)) (now (valpars .entry)) free 0 (min n mostRows) ⌝ }
+    ensures { λ r. ⌜ r ≡ validAlong (now (values .entry)) (now (valpars .entry)) free 0 (min n blockRows) ⌝ }
 {
-    if n < MOST_ROWS {
+    if n < BLOCK_ROWS {
         return valid_along(values, valpars, free, 0, n);
     }
-    valid_along(values, valpars, free, 0, MOST_ROWS)
+    valid_along(values, valpars, free, 0, BLOCK_ROWS)
 }

@@ -41,8 +41,8 @@ sub-i c = search needs
 line-of-requires : tie.Need-line-of-requires
 line-of-requires c κs = search needs
 
-pid-of-requires : tie.Need-pid-of-requires
-pid-of-requires c κs = search needs
+spid-of-requires : tie.Need-spid-of-requires
+spid-of-requires c κs = search needs
 
 number-of-requires : tie.Need-number-of-requires
 number-of-requires c κs = search needs
@@ -50,12 +50,12 @@ number-of-requires c κs = search needs
 returns-3 : tie.Need-returns-3
 unfolding saidIdentified
 returns-3 c =
-    let r = c .before .before in
+    let r = c .before in
     let l = r .before in
     let i = l .before in
     let h = i .before in
     choice-some _ _ (holder-some _ _ _ _ _ _ (fit (h .before) .0) (fit (h .before) .1) _ (h .holder-of .ensures .0) (i .if2 .left))
-    (c .number-of .ensures ∙ number-alone _ _ _) (l .line-of .ensures) (r .pid-of .ensures)
+    (c .number-of .ensures ∙ number-alone _ _ _) (l .line-of .ensures) (r .spid-of .ensures)
 
 pub choose-spec : {M : Type 1} → statement M
 choose-spec =
@@ -67,6 +67,6 @@ choose-spec =
     returns-2
     sub-i
     line-of-requires
-    pid-of-requires
+    spid-of-requires
     number-of-requires
     returns-3)

@@ -1,5 +1,6 @@
 -- By the rows of the parameter.
-use mathlib.Core.Path.{_∙_}
+use mathlib.Core.Path.{ap, _∙_}
+use Rattle.rows.specs.Records.{pcfRow}
 use Rattle.outcomes.specs.Refusals.{refusedBy, refusalNumber, refusalPlace}
 use Rattle.readings.specs.Readings.{saidReading, reading}
 use Rattle.readings.proofs.ReadingLaws.{not-true, not-false, read-unlocated, read-located}
@@ -20,6 +21,9 @@ line-of-requires c κs = search needs
 line-of-requires-2 : tie.Need-line-of-requires-2
 line-of-requires-2 c κs = search needs
 
+pcf-of-requires : tie.Need-pcf-of-requires
+pcf-of-requires c κs = search needs
+
 validity-requires : tie.Need-validity-requires
 validity-requires c κs = search needs
 
@@ -33,11 +37,12 @@ returns-2 : tie.Need-returns-2
 unfolding reading
 returns-2 c =
     let v = c .before .before in
-    let l = v .before in
+    let q = v .before in
+    let l = q .before in
     let e = l .before .before in
     c .with-validity .ensures
     ∙ read-located _ _ _ _ _ _ _ _ _ (e .before .before .locate .ensures _) (not-false _ (e .if1 .left)) _ _ _ _
-    (l .before .line-of .ensures) (l .line-of2 .ensures) (c .before .raw-of .ensures) (v .validity .ensures)
+    (l .before .line-of .ensures) (q .pcf-of .ensures ∙ ap pcfRow (l .line-of2 .ensures)) (c .before .raw-of .ensures) (v .validity .ensures)
 
 pub read-spec : {M : Type 1} → statement M
 read-spec =
@@ -47,6 +52,7 @@ read-spec =
     returns
     line-of-requires
     line-of-requires-2
+    pcf-of-requires
     validity-requires
     raw-of-requires
     with-validity-requires

@@ -1,13 +1,13 @@
 -- The invariant: the occurrences left answer what all answer from the start.
 use mathlib.Core.Path.{_≡_, ap, sym, _∙_}
 use mathlib.Core.Logic.{⊎-elim}
-use Prim.Native.Nat.{_-_, _≤_}
+use Prim.Native.Nat.{_+_, _-_, _^_, _≤_, _<_}
 use native.Mathlib.Omega.{arith}
 use mir.Facts.{toZ-ofZ}
 use mir.Val.{SFits, toZ, ofZ}
 use mir.Syntax.{w64}
 use borrow.Author.Needs.{needs}
-use Rattle.rows.specs.Records.{plfRow, pcfRow}
+use Rattle.rows.specs.Records.{plfRow}
 use Rattle.rows.specs.declared.records.PlfRow.{PlfRow}
 use Rattle.outcomes.specs.Outcome.{Outcome, answer, andThen}
 use Rattle.outcomes.specs.Values.{Value}
@@ -25,7 +25,7 @@ use Rattle.occurrences.proofs.check_occurrences.Tie as tie
 abbrev Inv-loop : tie.InvT-loop
 Inv-loop p plf pcf xs ys lows highs levels nbocc nbchck valid scale pass₀ k₀ pass k =
     (k ≤ nbocc)
-    × Passing nbchck (severityIn (checksIn lows highs levels)) (scaleIn scale xs ys) valid (rawOf p (plfRow plf) (pcfRow pcf)) nbocc pass₀ pass k
+    × Passing nbchck (severityIn (checksIn lows highs levels)) (scaleIn scale xs ys) valid (rawOf p (plfRow plf) pcf) nbocc pass₀ pass k
 
 abbrev μ-loop : tie.MeasureT-loop
 μ-loop p plf pcf xs ys lows highs levels nbocc nbchck valid scale pass₀ k₀ pass k =
@@ -35,8 +35,8 @@ abbrev μ-loop : tie.MeasureT-loop
 number-is : (c : tie.After-number-in Inv-loop μ-loop)
     → (
     let l = c .before .before .before in
-    let a = l .before .before .before .before .before .before .args in
-    andThen (rawOf (a .p .now) (plfRow (a .plf .now)) (pcfRow (a .pcf .now)) (l .loop .k)) integerIn ≡ saidNumber (c .number-in .result)
+    let a = l .before .before .before .before .before .args in
+    andThen (rawOf (a .p .now) (plfRow (a .plf .now)) (a .pcf) (l .loop .k)) integerIn ≡ saidNumber (c .number-in .result)
     )
 number-is c = sym (c .number-in .ensures ∙ ap (λ (raw : Outcome Value). andThen raw integerIn) (c .before .raw-of .ensures))
 
@@ -49,8 +49,8 @@ word c =
 integer-is : (c : tie.After-known-told Inv-loop μ-loop)
     → (
     let l = c .before .before .before .before .before .before in
-    let a = l .before .before .before .before .before .before .args in
-    andThen (rawOf (a .p .now) (plfRow (a .plf .now)) (pcfRow (a .pcf .now)) (l .loop .k)) integerIn ≡ answer (toZ w64 (ofZ w64 (c .before .raw .given .0 .0)))
+    let a = l .before .before .before .before .before .args in
+    andThen (rawOf (a .p .now) (plfRow (a .plf .now)) (a .pcf) (l .loop .k)) integerIn ≡ answer (toZ w64 (ofZ w64 (c .before .raw .given .0 .0)))
     )
 unfolding saidNumber
 integer-is c =
@@ -58,7 +58,7 @@ integer-is c =
     number-is (r .before .before) ∙ ap saidNumber (r .raw .given .1) ∙ ap answer (sym (word c))
 
 -- NBOCC is that of the line
-occurrences-are : (c : tie.After-plf-of Inv-loop μ-loop) → c .plf-of .result .nbocc ≡ plfRow (c .before .before .before .before .before .args .plf .now) .nbocc
+occurrences-are : (c : tie.After-plf-of Inv-loop μ-loop) → c .plf-of .result .nbocc ≡ plfRow (c .before .before .before .before .args .plf .now) .nbocc
 occurrences-are c = ap (λ (row : PlfRow). row .nbocc) (c .plf-of .ensures)
 
 plf-of-requires : tie.Need-plf-of-requires Inv-loop μ-loop
@@ -82,8 +82,15 @@ enum-known-raw c = search needs
 check-value-requires : tie.Need-check-value-requires Inv-loop μ-loop
 check-value-requires c κs = tt
 
+-- NBOCC is a number of 32 bits
+few : (c : tie.After-plf-of Inv-loop μ-loop) → c .plf-of .result .nbocc < 2 ^ 32
+few c = search needs
+
 add-k : tie.Need-add-k Inv-loop μ-loop
-add-k c = search needs
+add-k c =
+    let i = c .before .before .before .before .before .before in
+    let h : i .before .loop .k + 1 < 2 ^ 64 = omega (arith, i .loop-test .taken, few (i .before .before)) in
+    search (needs, h)
 
 loop-less : tie.Need-loop-less Inv-loop μ-loop
 loop-less c = omega arith

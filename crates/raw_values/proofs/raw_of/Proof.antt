@@ -1,5 +1,5 @@
 -- By the packet's length and the width of the pcf row's type.
-use mathlib.Core.Path.{ap, sym, _∙_}
+use mathlib.Core.Path.{refl, ap, sym, _∙_}
 use Rattle.outcomes.specs.Refusals.{refusedBy, refusalNumber, refusalPlace}
 use Rattle.raw_values.specs.RawValues.{saidRaw}
 use Rattle.raw_values.proofs.RawLaws.{packet-too-long, raw-in-bits, raw-refused, width-wide}
@@ -12,9 +12,6 @@ returns : tie.Need-returns
 unfolding saidRaw refusedBy refusalNumber refusalPlace
 returns c = packet-too-long _ _ _ _ (c .if1 .taken)
 
-pcf-of-requires : tie.Need-pcf-of-requires
-pcf-of-requires c κs = search needs
-
 width-of-requires : tie.Need-width-of-requires
 width-of-requires c κs = search needs
 
@@ -24,7 +21,7 @@ enum-known-width c = search needs
 occurrence-raw-requires : tie.Need-occurrence-raw-requires
 unfolding bitsOf
 occurrence-raw-requires c κs = let w = c .before .before .before in
-    (w .before .before .if1 .left, width-wide _ _ _ (sym (w .width-of .ensures) ∙ ap bitsOf (c .before .width .given .1)))
+    (w .before .if1 .left, width-wide _ _ _ (sym (w .width-of .ensures) ∙ ap bitsOf (c .before .width .given .1)))
 
 enum-told : tie.Need-enum-told
 enum-told c = search needs
@@ -32,19 +29,18 @@ enum-told c = search needs
 returns-2 : tie.Need-returns-2
 returns-2 c = let w = c .before .before .before .before in
     c .occurrence-raw .ensures
-    ∙ raw-in-bits _ _ _ _ _ _ (w .before .before .if1 .left) (w .before .pcf-of .ensures) (w .width-of .ensures) _ (c .before .before .width .given .1)
+    ∙ raw-in-bits _ _ _ _ _ _ (w .before .if1 .left) refl (w .width-of .ensures) _ (c .before .before .width .given .1)
 
 returns-3 : tie.Need-returns-3
 unfolding saidRaw refusedBy refusalNumber refusalPlace
 returns-3 c = let w = c .before .before in
-    raw-refused _ _ _ _ _ _ (w .before .before .if1 .left) (w .before .pcf-of .ensures) (w .width-of .ensures) (c .enum-told .given .1)
+    raw-refused _ _ _ _ _ _ (w .before .if1 .left) refl (w .width-of .ensures) (c .enum-told .given .1)
 
 pub raw-of-spec : {M : Type 1} → statement M
 raw-of-spec =
     tie.close
     (tie.spec
     returns
-    pcf-of-requires
     width-of-requires
     enum-known-width
     occurrence-raw-requires
