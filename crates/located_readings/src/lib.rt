@@ -99,6 +99,9 @@ pub fn validity(
     ensures { λ r. ⌜ r ≡ spec.validity (answers (database (map now (tables .entry)) (now (words .entry)) (now (links .entry)) (now (columns .entry))))
         (now (p .entry)) (spid .0) row ⌝ }
 {
+    if !row.valid.given {
+        return true;
+    }
     let mut at = row;
     let mut blocks: usize = MOST_BLOCKS;
     while 0 < blocks {
