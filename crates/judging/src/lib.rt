@@ -84,9 +84,8 @@ fn good_rows(
     good: &mut [u8; PLACES],
     n: usize,
 )
-    ensures { λ _. ⌜ now (good .exit) ≡ sets (now (good .entry)) 0
-        (tabulate (goodAt (now (kinds .entry)) (now (base .entry)) (now (codes1 .entry)) (now (found1 .entry)) (now (codes2 .entry)) (now (found2 .entry))
-        (now (next .entry)) n) 0 n) ⌝ }
+    ensures { λ _. ⌜ now (good .exit) ≡ sets (now (good .entry)) 0 (tabulate (goodAt (now (kinds .entry)) (now (base .entry))
+        (now (codes1 .entry)) (now (found1 .entry)) (now (codes2 .entry)) (now (found2 .entry)) (now (next .entry)) n) 0 n) ⌝ }
 {
     let mut chained = [0u8; PLACES];
     let mut cells = [0u16; PLACES];

@@ -51,7 +51,8 @@ returns-3 c =
     let g = a .before .before in
     let s = g .before .before .before .before .before .before in
     applies-located _ _ _ (s .args .row) _ _ _ (not-false _ (g .if1 .left)) (a .locate .ensures _) (not-false _ (e .if2 .left))
-    _ _ _ (r .before .before .before .line-of .ensures) (r .before .pcf-of .ensures ∙ ap pcfRow (r .before .before .line-of2 .ensures)) (r .raw-of .ensures) (c .has-value .ensures ∙ ap (hasValue _) (valpar-word s))
+    _ _ _ (r .before .before .before .line-of .ensures) (r .before .pcf-of .ensures ∙ ap pcfRow (r .before .before .line-of2 .ensures))
+    (r .raw-of .ensures) (c .has-value .ensures ∙ ap (hasValue _) (valpar-word s))
 
 pub applies-spec : {M : Type 1} → statement M
 applies-spec =

@@ -27,7 +27,8 @@ mark-firm-requires c κs = search needs
 
 returns : tie.Need-returns
 returns c =
-    let a = c .before .before .before .before .before .before .before .before .before .before .before .before .before .before .before .before .before .before .before .args in
+    let s = c .before .before .before .before .before .before .before .before .before in
+    let a = s .before .before .before .before .before .before .before .before .before .before .args in
     chained-law (a .kinds .now) (a .base .now) (a .codes1 .now) (a .found1 .now) (a .codes2 .now) (a .found2 .now) (a .next .now) (a .n) (a .chained .now) _ _ _
     (c .before .before .before .before .before .before .before .before .before .before .before .before .mark-zeros .ensures)
     (c .before .before .before .before .before .firm-rows .ensures)

@@ -18,7 +18,8 @@ same-length c = search needs
 
 returns : tie.Need-returns
 returns c =
-    let a = c .before .before .before .before .before .before .before .before .before .before .before .before .before .before .before .before .before .before .before .args in
+    let s = c .before .before .before .before .before .before .before .before .before in
+    let a = s .before .before .before .before .before .before .before .before .before .before .args in
     rows-law (a .own .now) (a .sound .now) (a .counts .now) (a .codes1 .now) (a .found1 .now) (a .codes2 .now) (a .found2 .now) (a .n)
     (a .kinds .now) (a .cells .now) _ _ _
     (c .before .before .before .before .before .before .before .before .before .next-rows .ensures)

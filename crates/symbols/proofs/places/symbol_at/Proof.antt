@@ -53,8 +53,12 @@ word-at-requires-4 c κs = search needs
 -- src/lib.rt:63:1
 returns : tie.Need-returns
 unfolding symbolAt
-returns c = λ z. record
-    { space = c .before .before .before .word-at .ensures z; a = c .before .before .word-at2 .ensures z; b = c .before .word-at3 .ensures z; c = c .word-at4 .ensures z }
+returns c = λ z. record {
+  space = c .before .before .before .word-at .ensures z;
+  a = c .before .before .word-at2 .ensures z;
+  b = c .before .word-at3 .ensures z;
+  c = c .word-at4 .ensures z;
+}
 
 pub symbol-at-spec : {M : Type 1} → statement M
 symbol-at-spec =
