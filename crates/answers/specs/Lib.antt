@@ -1,3 +1,4 @@
 pub mod Answers
+pub mod Hexadecimal
 pub mod Spoken
 pub mod Compared

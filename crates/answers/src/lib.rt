@@ -5,4 +5,5 @@ pub mod compare;
 mod decimal;
 pub mod difference;
 mod fit;
+pub mod hexadecimal;
 mod spelling;

@@ -1,4 +1,4 @@
--- A good curve has at least two good points. 01: "NCURVE 3! 2–100", which "counts cap rows".
+-- A good curve through points has at least two good points. 01: "NCURVE 3! 2–100", which "counts cap rows".
 use mathlib.Core.Path.{_≡_, refl, sym, ap, subst, _∙_}
 use mathlib.Core.Logic.{⊎-elim}
 use mathlib.Core.Bool.{true, false, _&&_, _||_}
@@ -25,7 +25,7 @@ use Rattle.rows.specs.declared.records.CapRow.{CapRow}
 use Rattle.formed.specs.Formed.{formed}
 use Rattle.formed.proofs.Meaning.{column-passes, natural-column}
 use Rattle.verdicts.specs.Key.{curve, sameKey}
-use Rattle.verdicts.specs.Facts.{anyRow, itself, Naming, Count, Facts, cafFacts, capFacts, factsOf}
+use Rattle.verdicts.specs.Facts.{points, itself, Naming, Count, Facts, cafFacts, capFacts, factsOf}
 use Rattle.verdicts.specs.Entries.{Entry, facts, allRows}
 use Rattle.verdicts.specs.Steps.{twin, holds, belongs}
 use Rattle.verdicts.specs.Verdicts.{sound, tally, follows, next, leads, circle, ofKind}
@@ -34,13 +34,15 @@ use Rattle.verdicts.specs.Places.{entryAt}
 use Rattle.verdicts.proofs.EntryLaws.{row-of}
 use Rattle.verdicts.proofs.GoodLaw.{good-law}
 use Rattle.verdicts.proofs.KeyLaws.{same-key-self}
-use Rattle.verdicts.proofs.OwnerLaws.{ownerOf}
+use Rattle.verdicts.proofs.OwnerLaws.{groupTable}
 use Rattle.database.specs.Rows.{Row}
+use Rattle.database.specs.Kinds.{isPolynomial}
 use Rattle.database.specs.GoodRows.{rowsIn, isGood, goodRows, tableOf, inGroup, among, ofTables}
-use Rattle.refusal_places.proofs.GoodRows.{holder-line}
+use Rattle.refusal_places.proofs.GoodRows.{HasLine, holder-line}
 use Rattle.at_verdicts.proofs.GoodRows.{entryOf, GoodRow, sound-says, is-good}
 use Rattle.at_verdicts.proofs.NamedRows.{found-good, found-holds}
-use Rattle.at_verdicts.proofs.ParameterRows.{held-by}
+use Rattle.at_verdicts.proofs.ParameterRows.{held-in}
+use Rattle.at_verdicts.proofs.CurveTables.{caf-table}
 use Rattle.at_verdicts.proofs.Groups.{in-group}
 use Rattle.at_verdicts.proofs.CountLaws.{keep-twice, rows-kept}
 
@@ -53,6 +55,7 @@ cap-name line name m = let e = List·Memᴰ·eq-of-singleton m in cc
 -- only cap rows are counted by a curve
 pub in-curve : (t : Table) (line : List ℕ) (name : CurveName) → any (sameKey (curve name)) (factsOf t line .groups) ≡ true
     → (t ≡ Cap) × (capRow line .numbr ≡ name)
+unfolding groupTable
 in-curve t line name h = let w = in-group t line (curve name) h in (w .0, cap-name line name (w .1))
 
 -- A row whose names aren't of a VALID chain is on no circle
@@ -91,7 +94,8 @@ ncurve-two line e = natural-least (natural! 3 2 100) _ 2 100 0 refl refl (omega 
 
 -- A good curve
 
-module _ (texts : List (List ℕ)) (name : CurveName) (row : Row) (found : ofTables texts .holder (curve name) ≡ some row) where
+module _ (texts : List (List ℕ)) (name : CurveName) (row : Row) (found : ofTables texts .holder (curve name) ≡ some row)
+    (caf : isPolynomial row ≡ false) where
   abbrev rows : List Entry
   rows = allRows texts
 
@@ -99,8 +103,7 @@ module _ (texts : List (List ℕ)) (name : CurveName) (row : Row) (found : ofTab
   its = found-good texts (curve name) row found
 
   held : (tableOf row ≡ Caf) × List·Memᴰ (curve name) (factsOf Caf (row .bytes) .keys)
-  unfolding ownerOf
-  held = held-by (curve name) row Caf refl (found-holds texts (curve name) row found)
+  held = let h = found-holds texts (curve name) row found in held-in (curve name) row Caf (caf-table name row h caf) h
 
   says : facts (entryOf texts row) ≡ cafFacts (cafRow (row .bytes))
   unfolding factsOf
@@ -119,14 +122,13 @@ module _ (texts : List (List ℕ)) (name : CurveName) (row : Row) (found : ofTab
       ap (λ (n : CurveName). tally rows (curve n)) (sym caf-name) ∙ its .good .counted c m
 
   two-rows : 2 ≤ cafRow (row .bytes) .ncurve
-  unfolding ownerOf
   two-rows =
-      let l = holder-line texts (curve name) row found in
+      let l = subst (λ (t : Table). HasLine t row) (held .0) (holder-line texts (curve name) row found) in
       subst (λ (bytes : List ℕ). 2 ≤ cafRow bytes .ncurve) (sym (l .bytes)) (ncurve-two (l .line) (l .passes))
 
   -- each of them is good, since the curve that it names is
   abbrev pointNaming : CapRow → Naming
-  pointNaming r = record { column = 1; key = curve (r .numbr); kind = itself anyRow; chained = false }
+  pointNaming r = record { column = 1; key = curve (r .numbr); kind = itself points; chained = false }
 
   curve-met : (r : CapRow) → r .numbr ≡ name → Meets rows (pointNaming r) (entryOf texts row)
   unfolding ofKind holds cafFacts
@@ -137,7 +139,7 @@ module _ (texts : List (List ℕ)) (name : CurveName) (row : Row) (found : ofTab
             ap (λ (f : Facts). any (sameKey (curve (r .numbr))) (f .keys)) says
             ∙ or-left false
             (ap (λ (m : CurveName). sameKey (curve (r .numbr)) (curve m)) (caf-name ∙ sym n) ∙ same-key-self (curve (r .numbr)));
-        kind = ap (λ (f : Facts). f .meets anyRow) says;
+        kind = ap (λ (f : Facts). f .meets points) says;
         good = good-law rows (entryOf texts row) .1 (its .good);
       }
 

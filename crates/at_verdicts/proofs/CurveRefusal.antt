@@ -1,4 +1,5 @@
--- Along a good curve 30 comes up exactly where the curve is F and the raw value is off its ends, and 31 exactly where the result is out of range.
+-- Along a good curve through points 30 comes up exactly where the curve is F and the raw value is off its ends, and 31
+-- exactly where the result is out of range.
 use mathlib.Core.Path.{_≡_, refl, sym, ap, subst, _∙_}
 use mathlib.Core.Logic.{_↔_, ⊎-elim}
 use mathlib.Core.Bool.{true, false, _&&_}
@@ -32,6 +33,7 @@ use Rattle.verdicts.proofs.KeyLaws.{same-key-self}
 use Rattle.outcomes.specs.Outcome.{refused}
 use Rattle.database.specs.Rows.{Row}
 use Rattle.database.specs.GoodRows.{goodRows, tableOf, holdsKey, inGroup, among, ofTables}
+use Rattle.database.specs.Kinds.{isPolynomial}
 use Rattle.curve_points.specs.Curves.{Curve, curveEnds, xvalsOf, yvalsOf, curveBy, curveOf}
 use Rattle.curve_values.specs.Along.{along}
 use Rattle.curve_values.specs.OffCurve.{isOffCurve}
@@ -122,21 +124,21 @@ module _ (texts : List (List ℕ)) (name : CurveName) where
       one-index points (keep-distinct (inGroup (curve name)) (goodRows texts) (good-distinct texts)) noRow i j h k
       (one-good texts (point name (xvalsOf p)) p q (a .good) (b .good) (a .holds) (ap (λ (x : ℤ). holdsKey (point name x) q) e ∙ b .holds))
 
-  module _ (row : Row) (found : ofTables texts .holder (curve name) ≡ some row) where
+  module _ (row : Row) (found : ofTables texts .holder (curve name) ≡ some row) (caf : isPolynomial row ≡ false) where
     -- the curve of a good caf row: its INTER and its good points
     abbrev pub goodCurve : Curve
     goodCurve = record { ends = cafRow (row .bytes) .inter; xs = map xvalsOf points; ys = map yvalsOf points }
 
     pub curve-is : curveOf (ofTables texts) name ≡ some goodCurve
     unfolding curveOf curveBy curveEnds
-    curve-is = rw found
+    curve-is = rw (found, caf)
 
     pub curve-sound : Sound (map xvalsOf points) (map yvalsOf points)
     unfolding isPoint pointAt
     curve-sound =
         let n : length (map xvalsOf points) ≡ length points = length-map points xvalsOf in
         record {
-          two = omega (arith, two-points texts name row found);
+          two = omega (arith, two-points texts name row found caf);
           points = λ i h.
               let k : i < length points = omega arith in
               rw (map-at xvalsOf points i noRow (pos 0) k, map-at yvalsOf points i noRow (pos 0) k) (point-at i k .fine);

@@ -1,7 +1,7 @@
 -- An engineering call is refused with a number that no curve and no text gives exactly where the extraction is, and with its place.
 use mathlib.Core.Path.{_≡_, refl, ap}
 use mathlib.Core.Logic.{_↔_}
-use mathlib.Core.Bool.{Bool, true, false}
+use mathlib.Core.Bool.{true, false}
 use mathlib.Core.List.{List, [], _∷_}
 use mathlib.Core.Option.{some}
 use Prim.Native.Nat.{ℕ}
@@ -23,34 +23,26 @@ use Rattle.identification.specs.Identification.{identifyBy}
 use Rattle.raw_values.specs.RawValues.{rawOf}
 use Rattle.parameters.specs.Located.{needed, located}
 use Rattle.readings.specs.Readings.{Reading, withValidity, readingWith, validity, reading}
-use Rattle.curve_points.specs.Curves.{curveOf}
-use Rattle.curve_values.specs.Along.{along}
-use Rattle.engineering.specs.Engineering.{Engineered, asValue, engineered}
+use Rattle.engineering.specs.Engineering.{Engineered, engineered}
 use Rattle.calls.specs.Tables.{afterSizes, asking}
 use Rattle.extraction.specs.Extraction.{extractBy}
 use Rattle.extraction.specs.Engineering.{engineeredFrom, engineerBy}
 use Rattle.calls.specs.Calls.{extractOf, engineerOf}
-use Rattle.at_verdicts.proofs.NumberLaws.{numberIn, Numbered, never-one, one-then, then-refused, earlier}
+use Rattle.at_verdicts.proofs.NumberLaws.{numberIn, Numbered, never-one, then-refused, earlier}
 use Rattle.at_verdicts.proofs.StepRows.{located-found}
-use Rattle.at_verdicts.proofs.CurveRange.{along-numbers}
-use Rattle.at_verdicts.proofs.ByCategory.{along-curve, as-read, by-text, as-string, for-numbers}
+use Rattle.at_verdicts.proofs.ByCategory.{numeric-numbers, by-text, as-string, for-numbers}
 
 -- 01: "30, 31, 32"
 abbrev engineering : List ℕ
 engineering = 30 ∷ 31 ∷ 32 ∷ []
 
 engineered-numbers : (rows : Rows) (r : PcfRow) (raw : ℤ) → Numbered engineering (engineered rows r raw)
-unfolding asValue
-engineered-numbers rows r raw = go (r .categ) (r .curtx .given) refl refl
+engineered-numbers rows r raw = go (r .categ) refl
   where
-    go : (c : Category) (given : Bool) → r .categ ≡ c → r .curtx .given ≡ given → Numbered engineering (engineered rows r raw)
-    go Numeric true c g =
-        rw (along-curve rows r raw c g)
-        (one-then engineering (along (curveOf rows (r .curtx .name)) raw) asValue (along-numbers engineering refl refl (curveOf rows (r .curtx .name)) raw)
-        (λ z _. refl))
-    go Numeric false c g = rw (as-read rows r raw c g)
-    go Status given c g = rw (by-text rows r raw c) (for-numbers engineering refl rows r raw)
-    go Text given c g = rw (as-string rows r raw c)
+    go : (c : Category) → r .categ ≡ c → Numbered engineering (engineered rows r raw)
+    go Numeric c = numeric-numbers rows r raw engineering refl refl c
+    go Status c = rw (by-text rows r raw c) (for-numbers engineering refl rows r raw)
+    go Text c = rw (as-string rows r raw c)
 
 module _ (rows : Rows) (p name : List ℕ) (k n place : ℕ) (other : any (eqb n) (0 ∷ engineering) ≡ false) where
   abbrev asks : Reading → Outcome Engineered

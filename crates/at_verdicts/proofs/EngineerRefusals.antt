@@ -88,7 +88,7 @@ module _ (texts : List (List ℕ)) (p name : List ℕ) (k : ℕ) where
       (never-one n identifying (identifyBy (ofTables texts) p) z (identify-numbers (ofTables texts) p))
       (λ id _. reading-never texts p (id .spid) (nameOf name) k n x y)
 
-  extract-raw : (r : Reading) (z : ℤ) → extractBy (ofTables texts) p name k ≡ answer r → r .value ≡ number z → isRaw z ≡ true
+  pub extract-raw : (r : Reading) (z : ℤ) → extractBy (ofTables texts) p name k ≡ answer r → r .value ≡ number z → isRaw z ≡ true
   unfolding extractBy
   extract-raw r z e v =
       let a = earlier (identifyBy (ofTables texts) p) (λ id. reading (ofTables texts) p (id .spid) (nameOf name) k) r e in

@@ -1,59 +1,31 @@
 -- The rows that a name counts are of one table, and good rows that hold one key are one row.
 use mathlib.Core.Path.{_≡_, sym, ap, subst, _∙_}
 use mathlib.Core.Bool.{true}
-use mathlib.Core.List.{List, List·Memᴰ, List·Memᴰ·not-nil, List·Memᴰ·eq-of-singleton}
+use mathlib.Core.List.{List, List·Memᴰ}
 use Prim.Native.Nat.{ℕ}
 use Rattle.laws.specs.Lists.{any}
 use Rattle.laws.proofs.Tests.{any-witness}
 use Rattle.schemas.specs.declared.Table.{Table}
-use Rattle.schemas.specs.declared.Table.the-variants.{Pid, Pic, Plf, Pcf, Caf, Cap, Txf, Txp, Ocf, Ocp}
 use Rattle.verdicts.specs.Key.{Key, sameKey}
-use Rattle.verdicts.specs.Key.{packet, structure, identification, location, parameter, curve, point, texts, range, limits, check}
 use Rattle.verdicts.specs.Facts.{factsOf}
-use Rattle.verdicts.specs.Facts.{pidFacts, picFacts, plfFacts, pcfFacts, cafFacts, capFacts, txfFacts, txpFacts, ocfFacts, ocpFacts}
 use Rattle.verdicts.specs.Entries.{Entry}
 use Rattle.verdicts.specs.Places.{entryAt}
 use Rattle.verdicts.proofs.KeyLaws.{same-key-is}
 use Rattle.verdicts.proofs.SoundLaws.{one-holder}
+use Rattle.verdicts.proofs.OwnerLaws.{groupTable, counted-in}
 use Rattle.database.specs.Rows.{Row}
 use Rattle.database.specs.GoodRows.{goodRows, holdsKey}
 use Rattle.at_verdicts.proofs.GoodRows.{entryOf, good-row}
 use Rattle.at_verdicts.proofs.NamedRows.{entry-holds}
 
--- 01: "NCURVE counts cap rows", NALIAS "counting txp rows", NBOOL "counting ocp rows"; a key that counts none has its own table here
-abbrev pub countedIn : Key → Table
-countedIn (packet ptype stype apid pi1 pi2) = Pid
-countedIn (structure spid) = Pid
-countedIn (identification ptype stype apid) = Pic
-countedIn (location name spid) = Plf
-countedIn (parameter name) = Pcf
-countedIn (curve numbr) = Cap
-countedIn (point numbr x) = Cap
-countedIn (texts numbr) = Txp
-countedIn (range numbr from) = Txp
-countedIn (limits name) = Ocp
-countedIn (check name pos) = Ocp
-
-counted-only : (t : Table) (line : List ℕ) (key : Key) → List·Memᴰ key (factsOf t line .groups) → t ≡ countedIn key
-unfolding factsOf pidFacts picFacts plfFacts pcfFacts cafFacts capFacts txfFacts txpFacts ocfFacts ocpFacts
-counted-only Pid line key m = absurd (List·Memᴰ·not-nil m)
-counted-only Pic line key m = absurd (List·Memᴰ·not-nil m)
-counted-only Plf line key m = absurd (List·Memᴰ·not-nil m)
-counted-only Pcf line key m = absurd (List·Memᴰ·not-nil m)
-counted-only Caf line key m = absurd (List·Memᴰ·not-nil m)
-counted-only Cap line key m = ap countedIn (sym (List·Memᴰ·eq-of-singleton m))
-counted-only Txf line key m = absurd (List·Memᴰ·not-nil m)
-counted-only Txp line key m = ap countedIn (sym (List·Memᴰ·eq-of-singleton m))
-counted-only Ocf line key m = absurd (List·Memᴰ·not-nil m)
-counted-only Ocp line key m = ap countedIn (sym (List·Memᴰ·eq-of-singleton m))
-
--- what a group's columns say of a row
+-- what a group's columns say of a row. 01: "NCURVE counts cap rows", NALIAS "counting txp rows", NBOOL "counting ocp
+-- rows"
 pub in-group : (t : Table) (line : List ℕ) (key : Key) → any (sameKey key) (factsOf t line .groups) ≡ true
-    → (t ≡ countedIn key) × List·Memᴰ key (factsOf (countedIn key) line .groups)
+    → (t ≡ groupTable key) × List·Memᴰ key (factsOf (groupTable key) line .groups)
 in-group t line key h =
     let w = any-witness (sameKey key) (factsOf t line .groups) h in
     let m : List·Memᴰ key (factsOf t line .groups) = subst (λ (k : Key). List·Memᴰ k (factsOf t line .groups)) (sym (same-key-is key (w .0) (w .2))) (w .1) in
-    let c = counted-only t line key m in
+    let c = counted-in t line m in
     (c, subst (λ (x : Table). List·Memᴰ key (factsOf x line .groups)) c m)
 
 -- 01's reason 9, "key held by another row too": no two good rows hold one key

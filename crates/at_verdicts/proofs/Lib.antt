@@ -3,6 +3,7 @@ pub mod GoodRows
 pub mod NamedRows
 pub mod PacketNumbers
 pub mod ParameterRows
+pub mod CurveTables
 pub mod FieldCases
 pub mod Extraction26
 pub mod StepNumbers
@@ -26,6 +27,7 @@ pub mod TextRows
 pub mod NoText
 pub mod RawRange
 pub mod EngineerRefusals
+pub mod Doubles
 pub mod EngineerExtracted
 pub mod LimitCurve
 pub mod StepCurve

@@ -27,15 +27,12 @@ use Rattle.outcomes.specs.Outcome.{Outcome, answer, refused}
 use Rattle.outcomes.specs.Values.{number}
 use Rattle.database.specs.Rows.{Row}
 use Rattle.database.specs.GoodRows.{ofTables}
-use Rattle.curve_points.specs.Curves.{curveOf}
-use Rattle.curve_values.specs.Along.{along}
 use Rattle.texts.specs.Texts.{fromOf, toOf, altxtOf, foundIn, textIn, textFor}
 use Rattle.engineering.specs.Engineering.{Engineered, value, text, asValue, asText, engineered}
 use Rattle.curve_values.proofs.OrderLaws.{not-lt}
 use Rattle.at_verdicts.specs.NoText.{GreatestFrom, Textless}
 use Rattle.at_verdicts.proofs.NumberLaws.{numberIn, Numbered, never-one, then-refused, first-only}
-use Rattle.at_verdicts.proofs.CurveRange.{along-numbers}
-use Rattle.at_verdicts.proofs.ByCategory.{along-curve, as-read, by-text, as-string}
+use Rattle.at_verdicts.proofs.ByCategory.{numeric-numbers, by-text, as-string}
 use Rattle.at_verdicts.proofs.TextRows.{one-range}
 
 -- Places of a list
@@ -141,23 +138,16 @@ module _ (tables : List (List ℕ)) (name : CurveName) (raw : ℤ) where
 -- 32 of an engineering value, by any pcf row
 pub engineered-32 : (tables : List (List ℕ)) (r : PcfRow) (raw : ℤ) → (engineered (ofTables tables) r raw ≡ refused 32 0) ↔ Textless (ofTables tables) r raw
 unfolding asValue asText
-engineered-32 tables r raw = (λ e. go (r .categ) (r .curtx .given) refl refl e, back)
+engineered-32 tables r raw = (λ e. go (r .categ) refl e, back)
   where
     never : (o : Outcome Engineered) → Numbered (30 ∷ 31 ∷ []) o → engineered (ofTables tables) r raw ≡ o
         → engineered (ofTables tables) r raw ≡ refused 32 0 → ⊥
     never o h q e = never-one 32 (30 ∷ 31 ∷ []) o refl h (ap (λ (o : Outcome Engineered). numberIn o) (sym q ∙ e))
 
-    go : (c : Category) (given : Bool) → r .categ ≡ c → r .curtx .given ≡ given → engineered (ofTables tables) r raw ≡ refused 32 0
-        → Textless (ofTables tables) r raw
-    go Numeric true c g e =
-        absurd (never-one 32 (30 ∷ 31 ∷ []) (along (curveOf (ofTables tables) (r .curtx .name)) raw) refl
-        (along-numbers (30 ∷ 31 ∷ []) refl refl (curveOf (ofTables tables) (r .curtx .name)) raw)
-        (ap (λ (o : Outcome ℤ). numberIn o)
-        (first-only 32 0 (along (curveOf (ofTables tables) (r .curtx .name)) raw) asValue (λ z. (value (number z), refl))
-        (sym (along-curve (ofTables tables) r raw c g) ∙ e))))
-    go Numeric false c g e = absurd (never (answer (value (number raw))) refl (as-read (ofTables tables) r raw c g) e)
-    go Text given c g e = absurd (never (answer (value (number raw))) refl (as-string (ofTables tables) r raw c) e)
-    go Status given c g e =
+    go : (c : Category) → r .categ ≡ c → engineered (ofTables tables) r raw ≡ refused 32 0 → Textless (ofTables tables) r raw
+    go Numeric c e = absurd (never (engineered (ofTables tables) r raw) (numeric-numbers (ofTables tables) r raw (30 ∷ 31 ∷ []) refl refl c) refl e)
+    go Text c e = absurd (never (answer (value (number raw))) refl (as-string (ofTables tables) r raw c) e)
+    go Status c e =
         record {
           status = c;
           below =

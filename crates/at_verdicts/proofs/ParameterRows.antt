@@ -1,7 +1,7 @@
 -- A parameter that a good plf or ocf row names has its good pcf row.
 use mathlib.Core.Path.{_≡_, refl, sym, ap, subst, _∙_}
 use mathlib.Core.Bool.{true, false, cond}
-use mathlib.Core.List.{List, List·Memᴰ, List·Memᴰ·head, List·Memᴰ·eq-of-singleton}
+use mathlib.Core.List.{List, [], _∷_, List·Memᴰ, List·Memᴰ·head, List·Memᴰ·eq-of-singleton}
 use mathlib.Core.Option.{Option, none, some}
 use Prim.Native.Nat.{ℕ}
 use native.Mathlib.Omega.{arith}
@@ -22,24 +22,28 @@ use Rattle.formed.proofs.Meaning.{formed-well}
 use Rattle.verdicts.specs.Key.{Key, location, parameter, limits, sameKey}
 use Rattle.verdicts.specs.Facts.{raw, numeric, itself, Naming, factsOf, plfFacts, pcfFacts, ocfFacts}
 use Rattle.verdicts.proofs.KeyLaws.{same-key-is}
-use Rattle.verdicts.proofs.OwnerLaws.{ownerOf}
+use Rattle.verdicts.proofs.OwnerLaws.{ownersOf}
 use Rattle.database.specs.Rows.{Row}
 use Rattle.database.specs.GoodRows.{tableOf, holdsKey, ofTables}
-use Rattle.refusal_places.proofs.GoodRows.{holds-owner, holder-line}
+use Rattle.refusal_places.proofs.GoodRows.{only-owner, owner-line}
 use Rattle.at_verdicts.proofs.NamedRows.{found-good, found-holds, named-row, named-meets}
 
 -- A row's table and key
 
--- a row that holds a key is of the table that has such keys, and its line says the key
-pub held-by : (key : Key) (row : Row) (table : Table) → ownerOf key ≡ table → holdsKey key row ≡ true
+-- the line of a row that holds a key says it
+pub held-in : (key : Key) (row : Row) (table : Table) → tableOf row ≡ table → holdsKey key row ≡ true
     → (tableOf row ≡ table) × List·Memᴰ key (factsOf table (row .bytes) .keys)
 unfolding holdsKey
-held-by key row table o h =
-    let t : tableOf row ≡ table = sym (holds-owner key row h) ∙ o in
+held-in key row table t h =
     let w = any-witness (sameKey key) (factsOf (tableOf row) (row .bytes) .keys) h in
     let m : List·Memᴰ key (factsOf (tableOf row) (row .bytes) .keys) =
     subst (λ (k : Key). List·Memᴰ k (factsOf (tableOf row) (row .bytes) .keys)) (sym (same-key-is key (w .0) (w .2))) (w .1) in
     (t, subst (λ (x : Table). List·Memᴰ key (factsOf x (row .bytes) .keys)) t m)
+
+-- it is of the table that has such keys, where there is one
+pub held-by : (key : Key) (row : Row) (table : Table) → ownersOf key ≡ table ∷ [] → holdsKey key row ≡ true
+    → (tableOf row ≡ table) × List·Memᴰ key (factsOf table (row .bytes) .keys)
+held-by key row table o h = held-in key row table (only-owner key table row o h) h
 
 plf-name : (name : Name) (spid : ℕ) (line : List ℕ) → List·Memᴰ (location name spid) (factsOf Plf line .keys) → plfRow line .name ≡ name
 unfolding factsOf plfFacts
@@ -71,9 +75,9 @@ pub record Described (texts : List (List ℕ)) (name : Name) : Type 0 where
 module _ (texts : List (List ℕ)) (name : Name) where
   pub parameter-width : (row : Row) → ofTables texts .holder (parameter name) ≡ some row
       → (n : ℕ) × (widthOf (pcfRow (row .bytes) .ptc) (pcfRow (row .bytes) .pfc) ≡ some n)
-  unfolding ownerOf
+  unfolding ownersOf
   parameter-width row e =
-      let l = holder-line texts (parameter name) row e in
+      let l = owner-line texts (parameter name) Pcf row refl e in
       let w = formed-width (l .line) (l .passes) in
       (w .0, ap (λ (bytes : List ℕ). widthOf (pcfRow bytes .ptc) (pcfRow bytes .pfc)) (l .bytes) ∙ w .1)
 
@@ -90,7 +94,7 @@ module _ (texts : List (List ℕ)) (name : Name) where
 
   -- the parameter of a good plf row
   pub plf-parameter : (spid : ℕ) (row : Row) → ofTables texts .holder (location name spid) ≡ some row → Described texts name
-  unfolding ownerOf
+  unfolding ownersOf
   plf-parameter spid row e =
       let h = held-by (location name spid) row Plf refl (found-holds texts (location name spid) row e) in
       let w = named-row texts row (found-good texts (location name spid) row e) plfNaming (plf-names row (h .0) (plf-name name spid (row .bytes) (h .1))) in
@@ -120,7 +124,7 @@ module _ (texts : List (List ℕ)) (name : Name) where
   -- the parameter of a good ocf row
   module _ (ocf row : Row) (e : ofTables texts .holder (limits name) ≡ some ocf) (f : ofTables texts .holder (parameter name) ≡ some row) where
     ocf-meets : pcfFacts (pcfRow (row .bytes)) .meets numeric ≡ true
-    unfolding ownerOf factsOf
+    unfolding ownersOf factsOf
     ocf-meets =
         let h = held-by (limits name) ocf Ocf refl (found-holds texts (limits name) ocf e) in
         let w = named-row texts ocf (found-good texts (limits name) ocf e) ocfNaming (ocf-names ocf (h .0) (ocf-name name (ocf .bytes) (h .1))) in

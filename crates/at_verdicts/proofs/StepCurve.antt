@@ -22,6 +22,8 @@ use Rattle.database.specs.GoodRows.{ofTables}
 use Rattle.raw_values.specs.RawValues.{rawOf}
 use Rattle.parameters.specs.Located.{byLines}
 use Rattle.curve_values.specs.Scale.{scaleOf, onScale}
+use Rattle.polynomial_curves.specs.Polynomials.{polynomialFor}
+use Rattle.polynomial_curves.specs.declared.Found.the-variants as found
 use Rattle.engineering.specs.Engineering.{engineered}
 use Rattle.limit_state.specs.declared.state.LimitState.{LimitState}
 use Rattle.occurrences.specs.Values.{occurrencesFrom, rawsOf, isRefusal, unlessRefused, valuesOn, scaleUnder, valuesOf}
@@ -32,6 +34,7 @@ use Rattle.at_verdicts.specs.StepValues.{Calibrated, Occurs, StepOffCurv
 use Rattle.at_verdicts.proofs.ParameterRows.{parameter-width, ocf-numeric}
 use Rattle.at_verdicts.proofs.RawRange.{raw-range}
 use Rattle.at_verdicts.proofs.ByCategory.{engineered-30, engineered-31}
+use Rattle.at_verdicts.proofs.LimitCurve.{c-no-polynomial}
 use Rattle.at_verdicts.proofs.StepTaken.{valuesIn}
 use Rattle.at_verdicts.proofs.Occurrences.{integerAt, Each, Raws, raws-are}
 use Rattle.at_verdicts.proofs.ValueLaws.{any-map, unless-30, unless-31, is-refusal, scale-refused, scale-engineered, under-c, integer-is, integer-of}
@@ -103,6 +106,9 @@ module _ (texts : List (List ℕ)) (p name : List ℕ) (s : LimitState) (t : Tak
 
   module _ (c : ocfRow (t .ocf .bytes) .inter ≡ Engineering) (zs : List ℤ) (each : Each (rawOf p place kind) 0 (place .nbocc) zs)
       (n : ℕ) (so : ℤ → Type 0) (exactly : (raw : ℤ) → isRaw raw ≡ true → (engineered (ofTables texts) kind raw ≡ refused n 0) ↔ so raw) where
+    noPolynomial : polynomialFor (ofTables texts) (kind .curtx) ≡ found.Nothing
+    noPolynomial = c-no-polynomial texts (nameOf name) (t .ocf) (t .at .pcf) (t .hasLimits) (t .at .described) c
+
     made-is : (z : ℤ) → made z ≡ onScale (scaleOf (ofTables texts) (kind .curtx)) z
     unfolding scaleUnder
     made-is z = rw c
@@ -118,7 +124,7 @@ module _ (texts : List (List ℕ)) (p name : List ℕ) (s : LimitState) (t : Tak
           raw = w .0;
           read = r;
           is = exactly (w .0) (read-raw (j .0) (w .0) r) .0
-              (scale-engineered (ofTables texts) kind numeric (w .0) n 0 .0
+              (scale-engineered (ofTables texts) kind numeric noPolynomial (w .0) n 0 .0
               (sym (made-is (w .0)) ∙ scale-refused n (scale texts p name s t) (w .0) (w .2)));
         }
 
@@ -128,7 +134,8 @@ module _ (texts : List (List ℕ)) (p name : List ℕ) (s : LimitState) (t : Tak
         let r = integer-is (rawOf p place kind (o .k)) (o .raw) (o .read) in
         let i = h .1 in
         let q : h .0 ≡ o .raw = cc in
-        let e = scale-engineered (ofTables texts) kind numeric (o .raw) n 0 .1 (exactly (o .raw) (read-raw (o .k) (o .raw) (o .read)) .1 (o .is)) in
+        let e = scale-engineered (ofTables texts) kind numeric noPolynomial (o .raw) n 0 .1
+        (exactly (o .raw) (read-raw (o .k) (o .raw) (o .read)) .1 (o .is)) in
         any-map (isRefusal n) made zs
         ∙ any-mem (λ z. isRefusal n (made z)) (h .2)
         (ap (λ (z : ℤ). isRefusal n (made z)) q ∙ is-refusal n 0 (made (o .raw)) (made-is (o .raw) ∙ e))

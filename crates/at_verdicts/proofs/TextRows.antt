@@ -12,6 +12,7 @@ use Rattle.rows.specs.Records.{txpRow}
 use Rattle.verdicts.specs.Key.{Key, texts, range}
 use Rattle.verdicts.specs.Facts.{factsOf, txpFacts}
 use Rattle.verdicts.proofs.KeyLaws.{same-key-self}
+use Rattle.verdicts.proofs.OwnerLaws.{groupTable}
 use Rattle.database.specs.Rows.{Row}
 use Rattle.database.specs.GoodRows.{goodRows, tableOf, holdsKey, inGroup, among, ofTables}
 use Rattle.texts.specs.Texts.{fromOf}
@@ -31,7 +32,7 @@ range-held name row t n =
 module _ (tables : List (List ℕ)) (name : CurveName) where
   member : (row : Row) → List·Memᴰ row (ofTables tables .members (texts name))
       → List·Memᴰ row (goodRows tables) × (holdsKey (range name (fromOf row)) row ≡ true)
-  unfolding ofTables among inGroup
+  unfolding ofTables among inGroup groupTable
   member row m =
       let k = keep-mem (inGroup (texts name)) (goodRows tables) m in
       let t = in-group (tableOf row) (row .bytes) (texts name) (k .1) in

@@ -23,7 +23,9 @@ use Rattle.outcomes.specs.Values.{Value, number, part}
 use Rattle.database.specs.Rows.{Rows}
 use Rattle.curve_values.specs.Along.{outcomeOf, along}
 use Rattle.curve_values.specs.Scale.{Scale, asRead, onCurve, scaleOf, onScale}
-use Rattle.engineering.specs.Engineering.{value as engineeredValue, asValue, byCategory, engineered}
+use Rattle.polynomial_curves.specs.Polynomials.{polynomialFor}
+use Rattle.polynomial_curves.specs.declared.Found.the-variants as found
+use Rattle.engineering.specs.Engineering.{value as engineeredValue, asValue, byPolynomial, numericValue, byCategory, engineered}
 use Rattle.occurrences.specs.Values.{integerIn, isRefusal, answered, unlessRefused, scaleUnder}
 use Rattle.at_verdicts.proofs.NumberLaws.{then-refused, first-only}
 
@@ -81,11 +83,11 @@ scale-refused n scale z e =
     let w = refusal-of n (onScale scale z) e in
     w .1 ∙ ap (λ (place : ℕ). refused n place) (scale-place scale z n (w .0) (w .1))
 
--- of a parameter of CATEG N it is that of the engineering value
-module _ (rows : Rows) (r : PcfRow) (numeric : r .categ ≡ Numeric) (z : ℤ) where
+-- of a parameter of CATEG N without a polynomial it is that of the engineering value
+module _ (rows : Rows) (r : PcfRow) (numeric : r .categ ≡ Numeric) (none : polynomialFor rows (r .curtx) ≡ found.Nothing) (z : ℤ) where
   numeric-is : engineered rows r z ≡ andThen (onScale (scaleOf rows (r .curtx)) z) asValue
-  unfolding engineered byCategory
-  numeric-is = rw numeric
+  unfolding engineered byCategory numericValue byPolynomial
+  numeric-is = rw (numeric, none)
 
   pub scale-engineered : (n place : ℕ) → (onScale (scaleOf rows (r .curtx)) z ≡ refused n place) ↔ (engineered rows r z ≡ refused n place)
   unfolding asValue

@@ -30,6 +30,7 @@ use Rattle.verdicts.specs.Key.{keyWords, sameKey}
 use Rattle.verdicts.specs.Facts.{factsOf, pidKeys, pidFacts, plfFacts, pcfFacts, cafFacts, capFacts, txpFacts, ocfFacts}
 use Rattle.database.specs.Rows.{Row}
 use Rattle.database.specs.GoodRows.{holdsKey, inGroup, find, among}
+use Rattle.database.specs.Kinds.{isPolynomial}
 use Rattle.five_numbers.specs.Numbers.{orOther, picRowOf, identifiersFrom, numbersOf, fiveNumbers}
 use Rattle.identification.specs.Identification.{chosen, chooseBy, identifyHeaded, identifyBy}
 use Rattle.raw_values.specs.RawValues.{isString, startOf, valueAt, fieldRaw, rawIn, rawOf}
@@ -70,7 +71,7 @@ unfolding
     identifyBy identifyHeaded chooseBy chosen fiveNumbers numbersOf identifiersFrom picRowOf orOther
     headOf version typeBit lengthField flagged apid sequenceCount
     extractBy reading validity validWithin readingWith located needed byLines withValidity
-    curveOf curveBy curveEnds xvalsOf yvalsOf fromOf toOf
+    curveOf curveBy curveEnds isPolynomial xvalsOf yvalsOf fromOf toOf
     among find holdsKey inGroup factsOf pidKeys pidFacts plfFacts pcfFacts cafFacts capFacts txpFacts ocfFacts
     sameKey keyWords sameBytes
     pidRow plfRow pcfRow cafRow capRow txpRow column columnsOf columnsFrom placesOf placesFrom nameOf curveNameOf

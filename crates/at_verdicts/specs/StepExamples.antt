@@ -30,6 +30,7 @@ use Rattle.verdicts.specs.Key.{limits, keyWords, sameKey}
 use Rattle.verdicts.specs.Facts.{factsOf, pidKeys, pidFacts, plfFacts, pcfFacts, cafFacts, capFacts, ocfFacts}
 use Rattle.database.specs.Rows.{Row, Rows}
 use Rattle.database.specs.GoodRows.{holdsKey, inGroup, find, among}
+use Rattle.database.specs.Kinds.{isPolynomial}
 use Rattle.five_numbers.specs.Numbers.{orOther, picRowOf, identifiersFrom, numbersOf, fiveNumbers}
 use Rattle.identification.specs.Identification.{chosen, chooseBy, identifyHeaded, identifyBy}
 use Rattle.raw_values.specs.RawValues.{isString, startOf, valueAt, fieldRaw, rawIn, rawOf}
@@ -79,7 +80,7 @@ unfolding
     identifyBy identifyHeaded chooseBy chosen fiveNumbers numbersOf identifiersFrom picRowOf orOther
     headOf version typeBit lengthField flagged apid sequenceCount
     validity validWithin
-    curveOf curveBy curveEnds xvalsOf yvalsOf
+    curveOf curveBy curveEnds isPolynomial xvalsOf yvalsOf
     among find holdsKey inGroup factsOf pidKeys pidFacts plfFacts pcfFacts cafFacts capFacts ocfFacts
     sameKey keyWords sameBytes
     pidRow plfRow pcfRow cafRow capRow ocfRow column columnsOf columnsFrom nameOf curveNameOf

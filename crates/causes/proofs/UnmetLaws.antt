@@ -13,9 +13,10 @@ use Rattle.laws.proofs.Tests.{any-keep, any-mem}
 use Rattle.schemas.specs.Reasons.{reasonAt as verdictOf}
 use Rattle.lines.specs.Lines.{Line, linesOf}
 use Rattle.schemas.specs.declared.Table.{Table}
-use Rattle.schemas.specs.declared.Table.the-variants.{Pid, Pic, Plf, Pcf, Caf, Cap, Txf, Txp, Ocf, Ocp}
+use Rattle.schemas.specs.declared.Table.the-variants.{Pid, Pic, Plf, Pcf, Caf, Cap, Txf, Txp, Ocf, Ocp, Mcf}
 use Rattle.formed.specs.Formed.{formed}
-use Rattle.verdicts.specs.Facts.{Naming, Count, pidFacts, picFacts, plfFacts, pcfFacts, cafFacts, capFacts, txfFacts, txpFacts, ocfFacts, ocpFacts, factsOf}
+use Rattle.verdicts.specs.Facts.{Naming, Count, factsOf}
+use Rattle.verdicts.specs.Facts.{pidFacts, picFacts, plfFacts, pcfFacts, cafFacts, capFacts, txfFacts, txpFacts, ocfFacts, ocpFacts, mcfFacts}
 use Rattle.verdicts.specs.Entries.{Entry, bad, fine, readingOf, own, factsIn, facts, carried, allRows}
 use Rattle.verdicts.specs.Steps.{holds}
 use Rattle.verdicts.specs.Verdicts.{tally, shared, countCell, circle, ofKind, asked, nameCell, judge, verdict}
@@ -88,7 +89,7 @@ module _ (rows : List Entry) (e : Entry) where
 
 -- a count's column is one of its table's
 counts-low : (t : Table) (line : List ℕ) {c : Count} → List·Memᴰ c (factsOf t line .counts) → c .column < 256
-unfolding factsOf pidFacts picFacts plfFacts pcfFacts cafFacts capFacts txfFacts txpFacts ocfFacts ocpFacts
+unfolding factsOf pidFacts picFacts plfFacts pcfFacts cafFacts capFacts txfFacts txpFacts ocfFacts ocpFacts mcfFacts
 counts-low Pid line m = absurd (List·Memᴰ·not-nil m)
 counts-low Pic line m = absurd (List·Memᴰ·not-nil m)
 counts-low Plf line m = absurd (List·Memᴰ·not-nil m)
@@ -99,6 +100,7 @@ counts-low Txf line m = rw (List·Memᴰ·eq-of-singleton m) (omega arith)
 counts-low Txp line m = absurd (List·Memᴰ·not-nil m)
 counts-low Ocf line m = rw (List·Memᴰ·eq-of-singleton m) (omega arith)
 counts-low Ocp line m = absurd (List·Memᴰ·not-nil m)
+counts-low Mcf line m = absurd (List·Memᴰ·not-nil m)
 
 -- a row that isn't well-formed counts nothing
 said-low : (t : Table) (line : Line) (b : Bool) (v : ℕ) {c : Count}

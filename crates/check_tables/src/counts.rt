@@ -58,7 +58,7 @@ fn say_reasons(cells: &[u16], n: usize) {
 pub(crate) fn say_counts(cells: &[u16], n: usize) {
     say_reasons(cells, n);
     if n == 0 {
-        words(b"no table has a row: is this the directory of pid.dat to ocp.dat?\n");
+        words(b"no table has a row: is this the directory of pid.dat to mcf.dat?\n");
     }
     say::number(n);
     words(b" rows, ");

@@ -31,7 +31,7 @@ fn say_usage() {
 fn say_help() {
     say_usage();
     words(
-        b"Each DIR has pid.dat, pic.dat, plf.dat, pcf.dat, caf.dat, cap.dat, txf.dat, txp.dat, ocf.dat and ocp.dat.\n",
+        b"Each DIR has pid.dat, pic.dat, plf.dat, pcf.dat, caf.dat, cap.dat, txf.dat, txp.dat, ocf.dat, ocp.dat and mcf.dat.\n",
     );
     words(
         b"A line is printed for each row that is not good, a cause before what leans on it: first rows of reasons 1 to 8,\n",

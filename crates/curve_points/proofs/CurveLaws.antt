@@ -1,7 +1,8 @@
 -- A curve's rows, case by case.
 use mathlib.Core.Path.{_≡_, ap, sym, _∙_}
-use mathlib.Core.Bool.{true}
-use mathlib.Core.List.{List, map}
+use mathlib.Core.Bool.{Bool, true, false}
+use mathlib.Core.List.{List, [], map}
+use mathlib.Core.Option.{some}
 use Prim.Native.Nat.{ℕ, _-_, _≤_}
 use lib.IntN.{ℤ}
 use lib.ListN.{length}
@@ -15,8 +16,10 @@ use Rattle.verdicts.specs.Key.{curve}
 use Rattle.key_symbols.specs.Keyed.{symbolOf}
 use Rattle.key_symbols.specs.Bounded.{keyFits}
 use Rattle.database.specs.Rows.{Row, Rows}
+use Rattle.database.specs.Kinds.{isPolynomial}
 use Rattle.database.specs.Arrays.{database, holderColumn, rowAt, keyed, answers}
 use Rattle.database.proofs.FindLaws.{holder-none, holder-some}
+use Rattle.database.proofs.KindLaws.{kind-is}
 use Rattle.curve_points.specs.Curves.{curveEnds, xvalsOf, yvalsOf, curveOf}
 use Rattle.curve_points.specs.Points.{curveIn, pointsOf}
 use Rattle.curve_points.specs.declared.Ends.{Ends}
@@ -31,12 +34,23 @@ module _ (texts : List (List ℕ)) (words links columns : List ℕ) (name : Curv
   unfolding curveEnds
   ends-none z = sym (ap curveEnds (holder-none texts words links columns (curve name) s (k .0) (k .1) at e z))
 
-  pub ends-some : (at ≡ 0 → ⊥) → {row : CafRow} {line : List ℕ} → row ≡ cafRow line → line ≡ rowAt texts columns (at - 1) .bytes
-      → Are (row .inter) ≡ curveEnds (answers (database texts words links columns) .holder (curve name))
-  unfolding curveEnds
-  ends-some z r l =
-      ap (λ (row : CafRow). Are (row .inter)) (r ∙ ap cafRow l)
-      ∙ sym (ap curveEnds (holder-some texts words links columns (curve name) s (k .0) (k .1) at e z))
+  -- a polynomial, or a row of caf
+  module _ (z : at ≡ 0 → ⊥) {kind : Bool} (is : kind ≡ isPolynomial (rowAt [] columns (at - 1))) where
+    abbrev row : Row
+    row = rowAt texts columns (at - 1)
+
+    holder : answers (database texts words links columns) .holder (curve name) ≡ some row
+    holder = holder-some texts words links columns (curve name) s (k .0) (k .1) at e z
+
+    pub ends-polynomial : kind ≡ true → NoCurve ≡ curveEnds (answers (database texts words links columns) .holder (curve name))
+    unfolding curveEnds
+    ends-polynomial t = sym (ap curveEnds holder ∙ rw (kind-is texts columns (at - 1) is t))
+
+    pub ends-some : kind ≡ false → {read : CafRow} {line : List ℕ} → read ≡ cafRow line → line ≡ row .bytes
+        → Are (read .inter) ≡ curveEnds (answers (database texts words links columns) .holder (curve name))
+    unfolding curveEnds
+    ends-some f r l =
+        ap (λ (read : CafRow). Are (read .inter)) (r ∙ ap cafRow l) ∙ sym (ap curveEnds holder ∙ rw (kind-is texts columns (at - 1) is f))
 
 -- a point's row, read
 module _ (row : Row) {line : List ℕ} {point : CapRow} (e : point ≡ capRow line) (l : line ≡ row .bytes) where

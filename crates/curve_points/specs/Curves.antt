@@ -1,5 +1,6 @@
 -- A curve by its rows.
 use mathlib.Core.Path.{_≡_, refl}
+use mathlib.Core.Bool.{cond}
 use mathlib.Core.List.{List, [], _∷_, _++_, map}
 use mathlib.Core.Option.{Option, none, some}
 use Prim.Native.Nat.{ℕ}
@@ -17,6 +18,7 @@ use Rattle.verdicts.specs.Key.{keyWords, sameKey, curve}
 use Rattle.verdicts.specs.Facts.{cafFacts, capFacts, factsOf}
 use Rattle.database.specs.Rows.{Row, Rows}
 use Rattle.database.specs.GoodRows.{holdsKey, inGroup, find, among}
+use Rattle.database.specs.Kinds.{isPolynomial}
 use Rattle.curve_points.specs.declared.Ends.{Ends}
 use Rattle.curve_points.specs.declared.Ends.the-variants.{Are, NoCurve}
 
@@ -26,10 +28,10 @@ pub record Curve : Type 0 where
   pub xs : List ℤ
   pub ys : List ℤ
 
--- 01: "CAF_INTER governs"
+-- 01: "CAF_INTER governs"; a polynomial has no points, and no ends
 unfoldable pub curveEnds : Option Row → Ends
 curveEnds none = NoCurve
-curveEnds (some row) = Are (cafRow (row .bytes) .inter)
+curveEnds (some row) = cond (isPolynomial row) NoCurve (Are (cafRow (row .bytes) .inter))
 
 unfoldable pub xvalsOf : Row → ℤ
 xvalsOf row = capRow (row .bytes) .xvals
@@ -62,9 +64,11 @@ pub record Examples : Type 0 where
   -- an empty INTER is F
   pub by-default : curveOf (of-two []) (curveNameOf (ascii "C")) ≡ some (record { ends = Refuse; xs = pos 0 ∷ pos 10 ∷ []; ys = pos 0 ∷ negsuc 4 ∷ [] })
   pub other : curveOf (of-two []) (curveNameOf (ascii "D")) ≡ none
+  -- a row of mcf
+  pub polynomial : curveEnds (some (record { table = 10; number = 1; start = 0; bytes = ascii "C" })) ≡ NoCurve
 
 pub examples : Examples
 unfolding
-    curveOf curveBy curveEnds xvalsOf yvalsOf among find holdsKey inGroup factsOf cafFacts capFacts sameKey keyWords sameBytes curveNameOf
+    curveOf curveBy curveEnds isPolynomial xvalsOf yvalsOf among find holdsKey inGroup factsOf cafFacts capFacts sameKey keyWords sameBytes curveNameOf
     cafRow capRow column columnsOf columnsFrom offEndsOf letterOf integerOr integerFrom numberOf meaning spelt after digitOn digitOf
-examples = record { points = refl; by-default = refl; other = refl }
+examples = record { points = refl; by-default = refl; other = refl; polynomial = refl }

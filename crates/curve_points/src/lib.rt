@@ -1,6 +1,7 @@
 // The points of a curve, by its rows in caf and cap.
 use database::MOST_MEMBERS;
 use database::holder_of;
+use database::is_polynomial;
 use database::line_of;
 use database::list_members;
 use key_symbols::curve_key;
@@ -31,7 +32,7 @@ pub struct Points {
     pub count: usize,
 }
 
-// By the row of this name in caf.
+// By the row of this name in caf. A polynomial of this name has none.
 pub fn curve_ends(
     tables: [&[u8]; TABLES],
     words: &[u64],
@@ -44,6 +45,9 @@ pub fn curve_ends(
 {
     let at = holder_of(words, links, columns, curve_key(name));
     if at == 0 {
+        return Ends::NoCurve;
+    }
+    if is_polynomial(columns, at - 1) {
         return Ends::NoCurve;
     }
     let row = caf_of(line_of(tables, columns, at - 1));

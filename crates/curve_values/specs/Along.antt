@@ -21,6 +21,7 @@ use Rattle.outcomes.specs.Outcome.{Outcome, answer, refused}
 use Rattle.outcomes.specs.Refusals.{refusalNumber as numberOfRefusal, refusalPlace, refusedBy}
 use Rattle.outcomes.specs.declared.Refusal.the-variants.{OutOfRange}
 use Rattle.database.specs.GoodRows.{holdsKey, inGroup, find, among}
+use Rattle.database.specs.Kinds.{isPolynomial}
 use Rattle.curve_points.specs.Curves.{Curve, curveEnds, xvalsOf, yvalsOf, curveBy, curveOf, of-two}
 use Rattle.curve_values.specs.declared.along.CurveResult.{CurveResult}
 use Rattle.curve_values.specs.declared.along.CurveResult.the-variants.{Is, Refused}
@@ -58,7 +59,7 @@ pub record Examples : Type 0 where
 pub examples : Examples
 unfolding
     along outcomeOf saidResult refusedBy numberOfRefusal refusalPlace
-    curveOf curveBy curveEnds xvalsOf yvalsOf among find holdsKey inGroup factsOf cafFacts capFacts sameKey keyWords sameBytes curveNameOf
+    curveOf curveBy curveEnds isPolynomial xvalsOf yvalsOf among find holdsKey inGroup factsOf cafFacts capFacts sameKey keyWords sameBytes curveNameOf
     cafRow capRow column columnsOf columnsFrom offEndsOf letterOf integerOr integerFrom numberOf meaning spelt after digitOn digitOf
     curveAt placed fromLast beforeFirst offEnd through pointAt notAbove below above nearestOf better closer nearer passes
     lineAt isSegment isPoint isCoordinate isRaw isBetween resultOf heightAt floorDiv

@@ -3,3 +3,4 @@ pub mod MemberLaws
 pub mod FindLaws
 pub mod GatherLaws
 pub mod RowLaws
+pub mod KindLaws

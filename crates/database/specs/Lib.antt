@@ -1,3 +1,4 @@
 pub mod Rows
 pub mod GoodRows
+pub mod Kinds
 pub mod Arrays

@@ -15,6 +15,7 @@ ghost use Prim.Native.Nat.{_+_, _≤_, _<_};
 ghost use lib.ListN.{length, getD, drop};
 ghost use lib.Seq.{sets};
 ghost use Rattle.lines.specs.Lines.{lineFrom};
+ghost use Rattle.database.specs.Kinds.{isPolynomial};
 ghost use Rattle.database.specs.Arrays.{rowAt, keyed, groupPlaces, holderColumn, firstColumn, nextColumn, allColumns};
 
 // A group has at most so many rows, as a table has.
@@ -99,6 +100,16 @@ pub fn number_of(columns: &[u16], i: usize) -> RowNumber
     ensures { λ r. ⌜ r .0 ≡ rowAt [] (now (columns .entry)) i .number ⌝ }
 {
     RowNumber(column_at(columns, NUMBER, i))
+}
+
+// The table of polynomials, by its number from 0.
+const POLYNOMIALS: usize = 10;
+
+// Whether it is a polynomial.
+pub fn is_polynomial(columns: &[u16], i: usize) -> bool
+    ensures { λ r. ⌜ r ≡ isPolynomial (rowAt [] (now (columns .entry)) i) ⌝ }
+{
+    column_at(columns, TABLE, i) == POLYNOMIALS
 }
 
 // Where its line starts in its table.

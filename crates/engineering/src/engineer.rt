@@ -3,6 +3,9 @@ use curve_values::along::CurveResult;
 use curve_values::scale::scale_value;
 use outcomes::Refusal;
 use outcomes::Value;
+use polynomial_curves::Found;
+use polynomial_curves::find_polynomial;
+use polynomials::evaluate;
 use rows::decoded::pcf_of;
 use rows::letters::Category;
 use rows::records::OptionalCurve;
@@ -18,11 +21,13 @@ ghost use Rattle.outcomes.specs.Outcome.{andThen};
 ghost use Rattle.database.specs.Arrays.{database, answers};
 ghost use Rattle.curve_values.specs.Along.{saidResult};
 ghost use Rattle.texts.specs.Texts.{saidText};
-ghost use Rattle.engineering.specs.Engineering.{asValue, asText, byCategory, engineered, saidEngineered};
+ghost use Rattle.engineering.specs.Engineering.{asValue, asText, numericValue, byCategory, engineered, saidEngineered};
 
-// A value; a text as its txp row, and ALTXT's place in that table and its length; or why there is none.
+// A value; the value of a polynomial; a text as its txp row, and ALTXT's place in that table and its length; or why there
+// is none.
 pub enum Engineered {
     Is(Value),
+    Double(f64),
     Text(RowNumber, TableOffset, usize),
     Refused(Refusal),
 }
@@ -45,6 +50,24 @@ fn as_text(result: TextResult) -> Engineered
     }
 }
 
+// By the polynomial that CURTX names, else along its curve or as it was read.
+fn numeric_value(
+    tables: [&[u8]; TABLES],
+    words: &[u64],
+    links: &[u16],
+    columns: &[u16],
+    curtx: OptionalCurve,
+    raw: i64,
+) -> Engineered
+    ensures { λ r. ⌜ saidEngineered r
+        ≡ numericValue (answers (database (map now (tables .entry)) (now (words .entry)) (now (links .entry)) (now (columns .entry)))) curtx raw ⌝ }
+{
+    match find_polynomial(tables, words, links, columns, curtx) {
+        Found::Is(p) => Engineered::Double(evaluate(p, raw)),
+        Found::Nothing => as_value(scale_value(tables, words, links, columns, curtx, raw)),
+    }
+}
+
 // By the category and CURTX of a pcf row. 01: "N without CURTX and T answer the raw value".
 fn by_category(
     tables: [&[u8]; TABLES],
@@ -59,7 +82,7 @@ fn by_category(
         ≡ byCategory (answers (database (map now (tables .entry)) (now (words .entry)) (now (links .entry)) (now (columns .entry)))) category curtx raw ⌝ }
 {
     match category {
-        Category::Numeric => as_value(scale_value(tables, words, links, columns, curtx, raw)),
+        Category::Numeric => numeric_value(tables, words, links, columns, curtx, raw),
         Category::Status => {
             let name = curtx.name;
             as_text(text_value(tables, words, links, columns, name, raw))

@@ -10,15 +10,16 @@ use Rattle.telling.specs.Answers.{plainOf, Told}
 
 -- raised with each change of a signature or of an answer
 abbrev pub interfaceVersion : ℕ
-interfaceVersion = 1
+interfaceVersion = 2
 
--- the ten tables in 01's order
-abbrev pub ten : (pid pic plf pcf caf cap txf txp ocf ocp : List ℕ) → List (List ℕ)
-ten pid pic plf pcf caf cap txf txp ocf ocp = pid ∷ pic ∷ plf ∷ pcf ∷ caf ∷ cap ∷ txf ∷ txp ∷ ocf ∷ ocp ∷ []
+-- the tables in 01's order; 02, P1: "eleven tables, mcf last"
+abbrev pub inOrder : (pid pic plf pcf caf cap txf txp ocf ocp mcf : List ℕ) → List (List ℕ)
+inOrder pid pic plf pcf caf cap txf txp ocf ocp mcf =
+    pid ∷ pic ∷ plf ∷ pcf ∷ caf ∷ cap ∷ txf ∷ txp ∷ ocf ∷ ocp ∷ mcf ∷ []
 
--- 3 is plf
-pub example : (pid pic plf pcf caf cap txf txp ocf ocp : List ℕ) → getD (ten pid pic plf pcf caf cap txf txp ocf ocp) 2 [] ≡ plf
-example pid pic plf pcf caf cap txf txp ocf ocp = refl
+-- 11 is mcf
+pub example : (pid pic plf pcf caf cap txf txp ocf ocp mcf : List ℕ) → getD (inOrder pid pic plf pcf caf cap txf txp ocf ocp mcf) 10 [] ≡ mcf
+example pid pic plf pcf caf cap txf txp ocf ocp mcf = refl
 
 -- its result and answer, and its cells
 pub record ImportTold (texts : List (List ℕ)) (cells cells′ : List ℕ) (before after : List ℤ) (r : ℕ) : Type 0 where

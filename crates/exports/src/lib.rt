@@ -16,10 +16,10 @@ ghost use Rattle.calls.specs.Calls.{identifyOf, extractOf, engineerOf};
 ghost use Rattle.offered_step.specs.OfferedStep.{limitStepFrom};
 ghost use Rattle.telling.specs.Values.{ofIdentity, ofReading, ofEngineered, ofState};
 ghost use Rattle.telling.specs.Answers.{plainOf, Told};
-ghost use Rattle.exports.specs.Exports.{ImportTold, ten, interfaceVersion};
+ghost use Rattle.exports.specs.Exports.{ImportTold, inOrder, interfaceVersion};
 
 // The version of these functions, which PETROLYAZ_VERSION of the header is too.
-const VERSION: u32 = 1;
+const VERSION: u32 = 2;
 
 #[no_mangle]
 pub extern "C" fn petrolyaz_version() -> u32
@@ -28,7 +28,7 @@ pub extern "C" fn petrolyaz_version() -> u32
     VERSION
 }
 
-// Judges all rows of the ten tables: one cell for each, in table order.
+// Judges all rows of the tables: one cell for each, in table order.
 #[no_mangle]
 pub extern "C" fn petrolyaz_import<'a>(
     pid: &'a [u8],
@@ -41,15 +41,16 @@ pub extern "C" fn petrolyaz_import<'a>(
     txp: &'a [u8],
     ocf: &'a [u8],
     ocp: &'a [u8],
+    mcf: &'a [u8],
     cells: &mut [u16],
     answer: &mut [i64; 8],
 ) -> u64
     ensures { λ r. ⌜ ImportTold
-        (ten (now (pid .entry)) (now (pic .entry)) (now (plf .entry)) (now (pcf .entry)) (now (caf .entry))
-        (now (cap .entry)) (now (txf .entry)) (now (txp .entry)) (now (ocf .entry)) (now (ocp .entry)))
+        (inOrder (now (pid .entry)) (now (pic .entry)) (now (plf .entry)) (now (pcf .entry)) (now (caf .entry))
+        (now (cap .entry)) (now (txf .entry)) (now (txp .entry)) (now (ocf .entry)) (now (ocp .entry)) (now (mcf .entry)))
         (now (cells .entry)) (now (cells .exit)) (now (answer .entry)) (now (answer .exit)) r ⌝ }
 {
-    let tables = [pid, pic, plf, pcf, caf, cap, txf, txp, ocf, ocp];
+    let tables = [pid, pic, plf, pcf, caf, cap, txf, txp, ocf, ocp, mcf];
     deliver(tell_imported(import(tables, cells)), answer)
 }
 
@@ -66,15 +67,16 @@ pub extern "C" fn petrolyaz_identify<'a>(
     txp: &'a [u8],
     ocf: &'a [u8],
     ocp: &'a [u8],
+    mcf: &'a [u8],
     packet: &[u8],
     answer: &mut [i64; 8],
 ) -> u64
     ensures { λ r. ⌜ Told (plainOf ofIdentity (identifyOf
-        (ten (now (pid .entry)) (now (pic .entry)) (now (plf .entry)) (now (pcf .entry)) (now (caf .entry))
-        (now (cap .entry)) (now (txf .entry)) (now (txp .entry)) (now (ocf .entry)) (now (ocp .entry)))
+        (inOrder (now (pid .entry)) (now (pic .entry)) (now (plf .entry)) (now (pcf .entry)) (now (caf .entry))
+        (now (cap .entry)) (now (txf .entry)) (now (txp .entry)) (now (ocf .entry)) (now (ocp .entry)) (now (mcf .entry)))
         (now (packet .entry)))) (now (answer .entry)) (now (answer .exit)) r ⌝ }
 {
-    let tables = [pid, pic, plf, pcf, caf, cap, txf, txp, ocf, ocp];
+    let tables = [pid, pic, plf, pcf, caf, cap, txf, txp, ocf, ocp, mcf];
     deliver(tell_identified(identify(tables, packet)), answer)
 }
 
@@ -91,17 +93,18 @@ pub extern "C" fn petrolyaz_extract<'a>(
     txp: &'a [u8],
     ocf: &'a [u8],
     ocp: &'a [u8],
+    mcf: &'a [u8],
     packet: &[u8],
     name: &[u8],
     occurrence: usize,
     answer: &mut [i64; 8],
 ) -> u64
     ensures { λ r. ⌜ Told (plainOf ofReading (extractOf
-        (ten (now (pid .entry)) (now (pic .entry)) (now (plf .entry)) (now (pcf .entry)) (now (caf .entry))
-        (now (cap .entry)) (now (txf .entry)) (now (txp .entry)) (now (ocf .entry)) (now (ocp .entry)))
+        (inOrder (now (pid .entry)) (now (pic .entry)) (now (plf .entry)) (now (pcf .entry)) (now (caf .entry))
+        (now (cap .entry)) (now (txf .entry)) (now (txp .entry)) (now (ocf .entry)) (now (ocp .entry)) (now (mcf .entry)))
         (now (packet .entry)) (now (name .entry)) occurrence)) (now (answer .entry)) (now (answer .exit)) r ⌝ }
 {
-    let tables = [pid, pic, plf, pcf, caf, cap, txf, txp, ocf, ocp];
+    let tables = [pid, pic, plf, pcf, caf, cap, txf, txp, ocf, ocp, mcf];
     deliver(
         tell_extracted(extract(tables, packet, name, occurrence)),
         answer,
@@ -121,17 +124,18 @@ pub extern "C" fn petrolyaz_engineer<'a>(
     txp: &'a [u8],
     ocf: &'a [u8],
     ocp: &'a [u8],
+    mcf: &'a [u8],
     packet: &[u8],
     name: &[u8],
     occurrence: usize,
     answer: &mut [i64; 8],
 ) -> u64
     ensures { λ r. ⌜ Told (plainOf ofEngineered (engineerOf
-        (ten (now (pid .entry)) (now (pic .entry)) (now (plf .entry)) (now (pcf .entry)) (now (caf .entry))
-        (now (cap .entry)) (now (txf .entry)) (now (txp .entry)) (now (ocf .entry)) (now (ocp .entry)))
+        (inOrder (now (pid .entry)) (now (pic .entry)) (now (plf .entry)) (now (pcf .entry)) (now (caf .entry))
+        (now (cap .entry)) (now (txf .entry)) (now (txp .entry)) (now (ocf .entry)) (now (ocp .entry)) (now (mcf .entry)))
         (now (packet .entry)) (now (name .entry)) occurrence)) (now (answer .entry)) (now (answer .exit)) r ⌝ }
 {
-    let tables = [pid, pic, plf, pcf, caf, cap, txf, txp, ocf, ocp];
+    let tables = [pid, pic, plf, pcf, caf, cap, txf, txp, ocf, ocp, mcf];
     deliver(
         tell_engineered(engineer(tables, packet, name, occurrence)),
         answer,
@@ -151,17 +155,18 @@ pub extern "C" fn petrolyaz_limit_step<'a>(
     txp: &'a [u8],
     ocf: &'a [u8],
     ocp: &'a [u8],
+    mcf: &'a [u8],
     packet: &[u8],
     name: &[u8],
     state: &[i64; 5],
     answer: &mut [i64; 8],
 ) -> u64
     ensures { λ r. ⌜ Told (plainOf ofState (limitStepFrom
-        (ten (now (pid .entry)) (now (pic .entry)) (now (plf .entry)) (now (pcf .entry)) (now (caf .entry))
-        (now (cap .entry)) (now (txf .entry)) (now (txp .entry)) (now (ocf .entry)) (now (ocp .entry)))
+        (inOrder (now (pid .entry)) (now (pic .entry)) (now (plf .entry)) (now (pcf .entry)) (now (caf .entry))
+        (now (cap .entry)) (now (txf .entry)) (now (txp .entry)) (now (ocf .entry)) (now (ocp .entry)) (now (mcf .entry)))
         (now (packet .entry)) (now (name .entry)) (offeredState (now (state .entry))))) (now (answer .entry)) (now (answer .exit)) r ⌝ }
 {
-    let tables = [pid, pic, plf, pcf, caf, cap, txf, txp, ocf, ocp];
+    let tables = [pid, pic, plf, pcf, caf, cap, txf, txp, ocf, ocp, mcf];
     deliver(
         tell_stepped(limit_step_from(tables, packet, name, state)),
         answer,

@@ -16,7 +16,19 @@ fn say_row(table: usize, row: usize) {
     let none: &[u8] = b"";
     let caf: &[u8] = b"C1\tA\tI\tI\tD\t\t3\tP\n";
     let cap: &[u8] = b"C1\t0\t0\nC1\t10\t-5\n";
-    let tables = [none, none, none, none, caf, cap, none, none, none, none];
+    let tables = [
+        none,
+        none,
+        none,
+        none,
+        caf,
+        cap,
+        none,
+        none,
+        none,
+        none,
+        none,
+    ];
     let mut places = [99usize; 3];
     match explain(tables, TableNumber(table), RowNumber(row), &mut places) {
         Explanation::Verdict(verdict, count) => {
@@ -40,5 +52,5 @@ fn main() {
     say_row(6, 1);
     say_row(6, 2);
     say_row(6, 3);
-    say_row(11, 1);
+    say_row(12, 1);
 }

@@ -16,9 +16,9 @@ use Rattle.numbers.specs.Number.{numberOf}
 use Rattle.numbers.proofs.Answers.{large-outside}
 use Rattle.lines.specs.Lines.{Line}
 use Rattle.schemas.specs.declared.Table.{Table}
-use Rattle.schemas.specs.declared.Table.the-variants.{Plf, Pcf, Caf, Cap, Txf, Txp, Ocf, Ocp}
+use Rattle.schemas.specs.declared.Table.the-variants.{Plf, Pcf, Caf, Cap, Txf, Txp, Ocf, Ocp, Mcf}
 use Rattle.schemas.specs.Schema.{aNumber, text}
-use Rattle.schemas.specs.Tables.{schema, plf, pcf, caf, cap, txf, txp, ocf, ocp}
+use Rattle.schemas.specs.Tables.{schema, plf, pcf, caf, cap, txf, txp, ocf, ocp, mcf}
 use Rattle.schemas.specs.Reasons.{shape, kindReason, columnReason}
 use Rattle.schemas.proofs.Meaning.{shaped, fine-narrow, fine-filled, number-fine}
 use Rattle.rows.specs.Values.{naturalFrom, naturalOr, integerFrom, integerOr}
@@ -78,9 +78,9 @@ pub name-widths : (widthAt Plf 0 ∷ widthAt Pcf 0 ∷ widthAt Pcf 7 ∷ widthAt
 unfolding schema plf pcf ocf ocp
 name-widths = refl
 
--- and those that hold curves' names 10: NUMBR, and pcf's CURTX
-pub curve-widths : (widthAt Pcf 11 ∷ widthAt Caf 0 ∷ widthAt Cap 0 ∷ widthAt Txf 0 ∷ widthAt Txp 0 ∷ []) ≡ replicate 5 10
-unfolding schema pcf caf cap txf txp
+-- and those that hold curves' names 10: NUMBR, IDENT, and pcf's CURTX
+pub curve-widths : (widthAt Pcf 11 ∷ widthAt Caf 0 ∷ widthAt Cap 0 ∷ widthAt Txf 0 ∷ widthAt Txp 0 ∷ widthAt Mcf 0 ∷ []) ≡ replicate 6 10
+unfolding schema pcf caf cap txf txp mcf
 curve-widths = refl
 
 -- ---- its numbers

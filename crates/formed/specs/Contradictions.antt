@@ -7,7 +7,7 @@ use mathlib.Core.Option.{Option, some, none}
 use lib.Dec.{leb, ltb, eqb}
 use lib.Signed.{ltZ}
 use Rattle.schemas.specs.declared.Table.{Table}
-use Rattle.schemas.specs.declared.Table.the-variants.{Pid, Pic, Plf, Pcf, Caf, Cap, Txf, Txp, Ocf, Ocp}
+use Rattle.schemas.specs.declared.Table.the-variants.{Pid, Pic, Plf, Pcf, Caf, Cap, Txf, Txp, Ocf, Ocp, Mcf}
 use Rattle.laws.specs.Text.{ascii}
 use Rattle.numbers.specs.Number.{digitOf, digitOn, after, spelt, meaning, numberOf}
 use Rattle.lines.specs.Columns.{columnsOf, columnsFrom}
@@ -108,7 +108,7 @@ isCarriedCheck Event = false
 unfoldable pub ocpContradiction : OcpRow → ℕ
 ocpContradiction r = cond (isCarriedCheck (r .check)) (cond (ltZ (r .hvalu) (r .lvalu)) 5 0) 3
 
--- the lowest column of a table's row that contradicts; pid and cap have none that can
+-- the lowest column of a table's row that contradicts; pid, cap and mcf have none that can
 unfoldable pub contradiction : Table → List ℕ → ℕ
 contradiction Pid line = 0
 contradiction Pic line = picContradiction (picRow line)
@@ -120,6 +120,7 @@ contradiction Txf line = txfContradiction (txfRow line)
 contradiction Txp line = txpContradiction (txpRow line)
 contradiction Ocf line = ocfContradiction (ocfRow line)
 contradiction Ocp line = ocpContradiction (ocpRow line)
+contradiction Mcf line = 0
 
 pub record Examples : Type 0 where
   -- FROM 5 is over TO 3

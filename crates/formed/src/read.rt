@@ -10,8 +10,10 @@ use crate::contradictions::txp_contradiction;
 use lines::columns::MOST_COLUMNS;
 use lines::columns::part;
 use lines::columns::scan;
+use lines::names::CurveName;
 use rows::decode::caf_row;
 use rows::decode::cap_row;
+use rows::decode::mcf_ident;
 use rows::decode::ocf_row;
 use rows::decode::ocp_row;
 use rows::decode::pcf_row;
@@ -32,6 +34,7 @@ use rows::records::TxfRow;
 use rows::records::TxpRow;
 use schemas::by_table::check_caf;
 use schemas::by_table::check_cap;
+use schemas::by_table::check_mcf;
 use schemas::by_table::check_ocf;
 use schemas::by_table::check_ocp;
 use schemas::by_table::check_pcf;
@@ -42,9 +45,9 @@ use schemas::by_table::check_txf;
 use schemas::by_table::check_txp;
 use schemas::verdict_of;
 ghost use mathlib.Core.Path.{_≡_};
-ghost use Rattle.schemas.specs.declared.Table.the-variants.{Pid, Pic, Plf, Pcf, Caf, Cap, Txf, Txp, Ocf, Ocp};
+ghost use Rattle.schemas.specs.declared.Table.the-variants.{Pid, Pic, Plf, Pcf, Caf, Cap, Txf, Txp, Ocf, Ocp, Mcf};
 ghost use Rattle.lines.specs.Lines.{nextLine, lineFrom};
-ghost use Rattle.rows.specs.Records.{pidRow, picRow, plfRow, pcfRow, cafRow, capRow, txfRow, txpRow, ocfRow, ocpRow};
+ghost use Rattle.rows.specs.Records.{pidRow, picRow, plfRow, pcfRow, cafRow, capRow, txfRow, txpRow, ocfRow, ocpRow, mcfRow};
 ghost use Rattle.formed.specs.Formed.{orContradiction, formed};
 
 // A verdict of reasons 1 to 7, or else 8 at the column that contradicts, if one does.
@@ -276,6 +279,29 @@ pub fn read_ocp(table: &[u8], at: usize) -> OcpRead
     OcpRead {
         verdict: or_contradiction(shaped, ocp_contradiction(row)),
         row,
+        next: walk.next,
+    }
+}
+
+// Of an mcf row IDENT alone is decoded: its coefficients are for the questions of packets.
+pub struct McfRead {
+    pub verdict: u16,
+    pub ident: CurveName,
+    pub next: usize,
+}
+
+pub fn read_mcf(table: &[u8], at: usize) -> McfRead
+    ensures { λ r. ⌜ (r .verdict ≡ formed Mcf (lineFrom (now (table .entry)) at)) × (r .ident ≡ mcfRow (lineFrom (now (table .entry)) at .bytes) .ident) ⌝ }
+    ensures { λ r. ⌜ r .next ≡ nextLine (now (table .entry)) at .next ⌝ }
+{
+    let mut ends = [0usize; MOST_COLUMNS];
+    let walk = scan(table, at, true, &mut ends);
+    let line = part(table, at, walk.end);
+    let shaped = check_mcf(line, walk, &ends);
+    let ident = mcf_ident(line, &ends);
+    McfRead {
+        verdict: or_contradiction(shaped, 0),
+        ident,
         next: walk.next,
     }
 }

@@ -7,7 +7,7 @@ use native.Mathlib.Omega.{arith}
 use lib.Dec.{eqb}
 use Rattle.lines.specs.Lines.{Line}
 use Rattle.schemas.specs.declared.Table.{Table}
-use Rattle.schemas.specs.declared.Table.the-variants.{Pid, Pic, Plf, Pcf, Caf, Cap, Txf, Txp, Ocf, Ocp}
+use Rattle.schemas.specs.declared.Table.the-variants.{Pid, Pic, Plf, Pcf, Caf, Cap, Txf, Txp, Ocf, Ocp, Mcf}
 use Rattle.formed.specs.Formed.{formed}
 use Rattle.rows.specs.Records.{pidRow, ocfRow}
 use Rattle.rows.specs.declared.records.PidRow.{PidRow}
@@ -17,7 +17,7 @@ use Rattle.rows.specs.declared.letters.LimitValue.{LimitValue}
 use Rattle.rows.specs.declared.letters.LimitValue.the-variants as LV
 use Rattle.symbols.proofs.SameLaws.{same-self}
 use Rattle.verdicts.specs.Facts.{Naming, ofEngineering, pidKeys, factsOf}
-use Rattle.verdicts.specs.Facts.{pidFacts, picFacts, plfFacts, pcfFacts, cafFacts, capFacts, txfFacts, txpFacts, ocfFacts, ocpFacts}
+use Rattle.verdicts.specs.Facts.{pidFacts, picFacts, plfFacts, pcfFacts, cafFacts, capFacts, txfFacts, txpFacts, ocfFacts, ocpFacts, mcfFacts}
 use Rattle.verdicts.specs.Entries.{RowReading, fine, bad, readingOf, own, factsIn}
 use Rattle.row_keys.specs.declared.records.Named.{Named}
 use Rattle.row_keys.specs.declared.records.RowKeys.{RowKeys}
@@ -73,7 +73,8 @@ engineering LV.Raw one m e q = refl
 engineering LV.Engineering one m e q = rw q (beside-same one (isNamed (namedOf (m ∷ []))) e)
 
 facts-ask : (t : Table) (line : List ℕ) → wanted (keysOf 0 (factsOf t line)) ≤ asks t
-unfolding asks wanted firstWanted keysOf slotOf namedOf factsOf pidFacts picFacts plfFacts pcfFacts cafFacts capFacts txfFacts txpFacts ocfFacts ocpFacts
+unfolding asks wanted firstWanted keysOf slotOf namedOf factsOf
+    pidFacts picFacts plfFacts pcfFacts cafFacts capFacts txfFacts txpFacts ocfFacts ocpFacts mcfFacts
     manners mannerAt weight sameManner codeFrom codeOf
 facts-ask Pid line = pid-asks (pidRow line .valid) (pidRow line)
 facts-ask Pic line = omega arith
@@ -85,6 +86,7 @@ facts-ask Txf line = omega arith
 facts-ask Txp line = let r = keysOf 0 (factsOf Txp line) in two r refl (beside-same (r .one) true refl) refl
 facts-ask Ocf line = let r = keysOf 0 (factsOf Ocf line) in two r refl refl (engineering (ocfRow line .inter) (r .one) _ refl refl)
 facts-ask Ocp line = let r = keysOf 0 (factsOf Ocp line) in three r refl (beside-same (r .one) true refl)
+facts-ask Mcf line = omega arith
 
 -- a row with one of reasons 1 to 8 asks for none
 none-asked : (v : ℕ) → wanted (keysOf v (factsIn (bad v))) ≡ 0

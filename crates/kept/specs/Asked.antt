@@ -4,7 +4,7 @@ use mathlib.Core.List.{List, [], _∷_}
 use Rattle.arrays.specs.Room.{mostPlaces}
 use Rattle.symbols.specs.Arrays.{mostSymbols}
 use Rattle.schemas.specs.declared.Table.{Table}
-use Rattle.schemas.specs.declared.Table.the-variants.{Pid, Pic, Plf, Pcf, Caf, Cap, Txf, Txp, Ocf, Ocp}
+use Rattle.schemas.specs.declared.Table.the-variants.{Pid, Pic, Plf, Pcf, Caf, Cap, Txf, Txp, Ocf, Ocp, Mcf}
 use Rattle.verdicts.specs.Entries.{carried, tableCount}
 use Rattle.verdicts.specs.Answer.{mostRows, mostCells}
 
@@ -20,6 +20,7 @@ asks Txf = 1
 asks Txp = 2
 asks Ocf = 2
 asks Ocp = 3
+asks Mcf = 1
 
 -- for a row of each of these tables
 unfoldable pub asksOf : List Table → ℕ

@@ -17,7 +17,7 @@ use Rattle.rows.specs.declared.letters.LimitValue.{LimitValue}
 use Rattle.rows.specs.declared.letters.LimitValue.the-variants as LV
 use Rattle.symbols.specs.declared.Symbol.{Symbol}
 use Rattle.verdicts.specs.Key.{Key, packet, structure, parameter}
-use Rattle.verdicts.specs.Facts.{anyRow, whole, Kind, itself, Facts, Naming, plainly, factsOf, pidKeys, curtxKey, pcfFacts, ofEngineering}
+use Rattle.verdicts.specs.Facts.{Condition, anyRow, whole, Kind, itself, Facts, Naming, plainly, factsOf, pidKeys, curtxKey, pcfFacts, ofEngineering}
 use Rattle.verdicts.specs.Entries.{readingOf, own, factsIn, fine, bad}
 use Rattle.key_symbols.specs.Keyed.{symbolOf}
 use Rattle.manners.specs.Manners.{mannerOf, manners, weight, sameManner, codeFrom, codeOf, marksOf}
@@ -80,18 +80,18 @@ pcf-said v r =
     refl (r .valid .given) (r .curtx .given)
 
 -- the keys of a row that counts, as caf and txf have them
-pub counter-said : (v : ℕ) (k : Key) (column number : ℕ)
-    → keysOf v (record { keys = k ∷ []; names = []; counts = record { column = column; number = number; group = k } ∷ []; groups = []; meets = plainly })
-    ≡ counter v (symbolOf k) column number
-unfolding keysOf slotOf namedOf countOf marksOf weight
-counter-said v k column number = refl
+pub counter-said : (v : ℕ) (k : Key) (column number : ℕ) (meets : Condition → Bool)
+    → keysOf v (record { keys = k ∷ []; names = []; counts = record { column = column; number = number; group = k } ∷ []; groups = []; meets = meets })
+    ≡ counter v (symbolOf k) column number (marksOf meets)
+unfolding keysOf slotOf namedOf countOf
+counter-said v k column number meets = refl
 
 -- and of one that is counted in the group that its first column names, as cap and txp have them
-pub member-said : (v : ℕ) (k g : Key)
-    → keysOf v (record { keys = k ∷ []; names = unchained 1 g (itself anyRow) ∷ []; counts = []; groups = g ∷ []; meets = plainly })
-    ≡ member v (symbolOf k) (symbolOf g)
-unfolding keysOf slotOf namedOf countOf marksOf weight manners sameManner codeFrom codeOf
-member-said v k g = refl
+pub member-said : (v : ℕ) (k g : Key) (kind : Kind)
+    → keysOf v (record { keys = k ∷ []; names = unchained 1 g kind ∷ []; counts = []; groups = g ∷ []; meets = plainly })
+    ≡ member v (symbolOf k) (symbolOf g) (codeOf (mannerOf (unchained 1 g kind)))
+unfolding keysOf slotOf namedOf countOf marksOf weight
+member-said v k g kind = refl
 
 -- a row with one of reasons 1 to 8 is blanked
 blanked-at : (z : Bool) (v : ℕ) (f : Facts) → eqb v 0 ≡ z

@@ -10,10 +10,10 @@ use Rattle.laws.proofs.Cases.{false≢true}
 use Rattle.lines.specs.Lines.{Line}
 use Rattle.lines.specs.Names.{nameOf, curveNameOf}
 use Rattle.schemas.specs.declared.Table.{Table}
-use Rattle.schemas.specs.declared.Table.the-variants.{Pid, Pic, Plf, Pcf, Caf, Cap, Txf, Txp, Ocf, Ocp}
+use Rattle.schemas.specs.declared.Table.the-variants.{Pid, Pic, Plf, Pcf, Caf, Cap, Txf, Txp, Ocf, Ocp, Mcf}
 use Rattle.formed.specs.Formed.{formed}
 use Rattle.rows.specs.Values.{optionalName, optionalCurve}
-use Rattle.rows.specs.Records.{column, pidRow, picRow, plfRow, pcfRow, cafRow, capRow, txfRow, txpRow, ocfRow, ocpRow}
+use Rattle.rows.specs.Records.{column, pidRow, picRow, plfRow, pcfRow, cafRow, capRow, txfRow, txpRow, ocfRow, ocpRow, mcfRow}
 use Rattle.rows.specs.declared.records.PidRow.{PidRow}
 use Rattle.rows.specs.declared.records.PcfRow.{PcfRow}
 use Rattle.rows.specs.declared.letters.Valid.{Valid}
@@ -22,7 +22,7 @@ use Rattle.rows.specs.declared.letters.Category.{Category}
 use Rattle.rows.specs.declared.letters.Category.the-variants.{Numeric, Status, Text}
 use Rattle.verdicts.specs.Key.{packet, parameter, limits, check}
 use Rattle.verdicts.specs.Facts.{anyRow, whole, numeric, itself, through, Facts, pidKeys, curtxKey, factsOf}
-use Rattle.verdicts.specs.Facts.{pidFacts, picFacts, plfFacts, pcfFacts, cafFacts, capFacts, txfFacts, txpFacts, ocfFacts, ocpFacts}
+use Rattle.verdicts.specs.Facts.{pidFacts, picFacts, plfFacts, pcfFacts, cafFacts, capFacts, txfFacts, txpFacts, ocfFacts, ocpFacts, mcfFacts}
 use Rattle.verdicts.specs.Entries.{readingOf, factsIn, fine, bad}
 use Rattle.key_symbols.specs.Keyed.{nameSymbol, curveSymbol, valueSymbol, symbolOf}
 use Rattle.keys.specs.Ranks.{ranks, rank}
@@ -68,8 +68,8 @@ module _ (line : List ℕ) (h : (i : ℕ) → getD line i 0 < 256) where
   value-at k = value-bounded _ (column-bytes line h k)
 
   facts-fit : (t : Table) → Fits (factsOf t line)
-  unfolding factsOf pidFacts picFacts plfFacts pcfFacts cafFacts capFacts txfFacts txpFacts ocfFacts ocpFacts
-      pidRow picRow plfRow pcfRow cafRow capRow txfRow txpRow ocfRow ocpRow optionalName optionalCurve
+  unfolding factsOf pidFacts picFacts plfFacts pcfFacts cafFacts capFacts txfFacts txpFacts ocfFacts ocpFacts mcfFacts
+      pidRow picRow plfRow pcfRow cafRow capRow txfRow txpRow ocfRow ocpRow mcfRow optionalName optionalCurve
       Bounded symbolOf nameSymbol curveSymbol valueSymbol ranks rank manners mannerAt weight sameManner codeFrom codeOf
   facts-fit Pid = record { keys = pid-keys (pidRow line .valid) (pidRow line) (natural-bounded _, natural-bounded _); names = tt; counts = tt; groups = tt }
   facts-fit Pic = record { keys = natural-bounded _; names = tt; counts = tt; groups = tt }
@@ -119,6 +119,7 @@ module _ (line : List ℕ) (h : (i : ℕ) → getD line i 0 < 256) where
         counts = tt;
         groups = name-at 0;
       }
+  facts-fit Mcf = record { keys = curve-at 0; names = tt; counts = tt; groups = tt }
 
 -- well-formed or not
 said-fits : (z : Bool) (f : Facts) (v : ℕ) → Fits f → Fits (factsIn (cond z (fine f) (bad v)))

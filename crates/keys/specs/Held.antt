@@ -82,7 +82,7 @@ pub record Examples : Type 0 where
         verdict = 0;
         first = slotFor (symbol 6 0x4331000000000000 0x20000 5);
         second = noSlot;
-        one = record { code = 5; key = symbol 5 0x4331000000000000 2 0 };
+        one = record { code = 9; key = symbol 5 0x4331000000000000 2 0 };
         two = noName;
         group = slotFor (symbol 5 0x4331000000000000 2 0);
         count = noCount;

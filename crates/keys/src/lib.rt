@@ -6,6 +6,7 @@ use row_keys::records::LineKeys;
 use schemas::Table;
 use tables::caf_keys;
 use tables::cap_keys;
+use tables::mcf_keys;
 use tables::ocf_keys;
 use tables::ocp_keys;
 use tables::pcf_keys;
@@ -32,6 +33,7 @@ fn column_keys(kind: Table, table: &[u8], at: usize) -> LineKeys
         Table::Txp => txp_keys(table, at),
         Table::Ocf => ocf_keys(table, at),
         Table::Ocp => ocp_keys(table, at),
+        Table::Mcf => mcf_keys(table, at),
     }
 }
 

@@ -1,6 +1,7 @@
 // The keys of a row of each table, as its columns say them, whatever its verdict.
 use formed::read::read_caf;
 use formed::read::read_cap;
+use formed::read::read_mcf;
 use formed::read::read_ocf;
 use formed::read::read_ocp;
 use formed::read::read_pcf;
@@ -20,6 +21,7 @@ use key_symbols::point_key;
 use key_symbols::range_key;
 use key_symbols::structure_key;
 use key_symbols::texts_key;
+use manners::marks::CAF_MARKS;
 use manners::marks::pcf_marks;
 use row_keys::columns::curtx_key;
 use row_keys::columns::is_engineering;
@@ -34,7 +36,7 @@ use row_keys::parts::slot;
 use row_keys::records::LineKeys;
 use row_keys::records::Named;
 ghost use mathlib.Core.Path.{_≡_};
-ghost use Rattle.schemas.specs.declared.Table.the-variants.{Pid, Pic, Plf, Pcf, Caf, Cap, Txf, Txp, Ocf, Ocp};
+ghost use Rattle.schemas.specs.declared.Table.the-variants.{Pid, Pic, Plf, Pcf, Caf, Cap, Txf, Txp, Ocf, Ocp, Mcf};
 ghost use Rattle.keys.specs.Held.{ColumnsRead};
 
 pub(crate) fn pid_keys(table: &[u8], at: usize) -> LineKeys
@@ -115,7 +117,7 @@ pub(crate) fn caf_keys(table: &[u8], at: usize) -> LineKeys
     let read = read_caf(table, at);
     let row = read.row;
     let numbr = row.numbr;
-    let keys = counter(read.verdict, curve_key(numbr), 7, row.ncurve);
+    let keys = counter(read.verdict, curve_key(numbr), 7, row.ncurve, CAF_MARKS);
     LineKeys {
         keys,
         next: read.next,
@@ -129,7 +131,7 @@ pub(crate) fn cap_keys(table: &[u8], at: usize) -> LineKeys
     let row = read.row;
     let numbr = row.numbr;
     let point = point_key(numbr, row.xvals);
-    let keys = member(read.verdict, point, curve_key(numbr));
+    let keys = member(read.verdict, point, curve_key(numbr), 9);
     LineKeys {
         keys,
         next: read.next,
@@ -142,7 +144,7 @@ pub(crate) fn txf_keys(table: &[u8], at: usize) -> LineKeys
     let read = read_txf(table, at);
     let row = read.row;
     let numbr = row.numbr;
-    let keys = counter(read.verdict, texts_key(numbr), 4, row.nalias);
+    let keys = counter(read.verdict, texts_key(numbr), 4, row.nalias, 1);
     LineKeys {
         keys,
         next: read.next,
@@ -156,7 +158,7 @@ pub(crate) fn txp_keys(table: &[u8], at: usize) -> LineKeys
     let row = read.row;
     let numbr = row.numbr;
     let range = range_key(numbr, row.from);
-    let keys = member(read.verdict, range, texts_key(numbr));
+    let keys = member(read.verdict, range, texts_key(numbr), 5);
     LineKeys {
         keys,
         next: read.next,
@@ -173,7 +175,7 @@ pub(crate) fn ocf_keys(table: &[u8], at: usize) -> LineKeys
     let key = parameter_key(name);
     let numeric = Named { code: 6, key };
     let calibrated = named(is_engineering(inter), 7, key);
-    let counting = counter(read.verdict, limits_key(name), 3, row.nbool);
+    let counting = counter(read.verdict, limits_key(name), 3, row.nbool, 1);
     let keys = naming(counting, numeric, calibrated);
     LineKeys {
         keys,
@@ -188,9 +190,21 @@ pub(crate) fn ocp_keys(table: &[u8], at: usize) -> LineKeys
     let row = read.row;
     let name = row.name;
     let check = row.rlchk.name;
-    let counted = member(read.verdict, check_key(name, row.pos), limits_key(name));
+    let counted = member(read.verdict, check_key(name, row.pos), limits_key(name), 5);
     let parameter = named(row.rlchk.given, 8, parameter_key(check));
     let keys = naming(counted, counted.one, parameter);
+    LineKeys {
+        keys,
+        next: read.next,
+    }
+}
+
+pub(crate) fn mcf_keys(table: &[u8], at: usize) -> LineKeys
+    ensures { λ r. ⌜ ColumnsRead Mcf (now (table .entry)) at r ⌝ }
+{
+    let read = read_mcf(table, at);
+    let ident = read.ident;
+    let keys = holder(read.verdict, curve_key(ident), 1);
     LineKeys {
         keys,
         next: read.next,

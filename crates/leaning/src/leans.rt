@@ -28,7 +28,7 @@ fn say_named(tables: [&[u8]; TABLES], bytes: &[u8], cells: &[u16], j: usize, col
         return;
     }
     if column == INTER {
-        words(b" is good, and has no CURTX");
+        words(b" is good, and has no CURTX that names a caf row");
         return;
     }
     words(b" is good, and of another kind");

@@ -4,7 +4,7 @@ use mathlib.Core.List.{List, [], _∷_, map}
 use Prim.Native.Nat.{ℕ, zero, suc, _<_}
 use native.Mathlib.Omega.{arith}
 use lib.ListN.{length, getD, List·getD-map}
-use Rattle.verdicts.specs.Facts.{Condition, anyRow, raw, whole, numeric, Kind, itself, through}
+use Rattle.verdicts.specs.Facts.{Condition, anyRow, raw, whole, numeric, points, Kind, itself, through}
 use Rattle.manners.specs.Manners.{Manner, noManner, secondColumn, secondCondition, manners, mannerAt}
 
 -- a list of what the manners have is looked up as they are
@@ -34,4 +34,5 @@ asks (suc (suc (suc (suc (suc zero))))) = of-itself anyRow refl
 asks (suc (suc (suc (suc (suc (suc zero)))))) = of-itself numeric refl
 asks (suc (suc (suc (suc (suc (suc (suc zero))))))) = of-second refl
 asks (suc (suc (suc (suc (suc (suc (suc (suc zero)))))))) = of-itself whole refl
-asks (suc (suc (suc (suc (suc (suc (suc (suc (suc code))))))))) = of-itself anyRow refl
+asks (suc (suc (suc (suc (suc (suc (suc (suc (suc zero))))))))) = of-itself points refl
+asks (suc (suc (suc (suc (suc (suc (suc (suc (suc (suc code)))))))))) = of-itself anyRow refl

@@ -5,7 +5,7 @@ use mathlib.Core.List.{List, [], _∷_}
 use Prim.Native.Nat.{ℕ, suc, _+_, _/_, _%_}
 use lib.Dec.{eqb}
 use lib.ListN.{getD}
-use Rattle.verdicts.specs.Facts.{Condition, anyRow, raw, whole, numeric, Kind, itself, through, Naming}
+use Rattle.verdicts.specs.Facts.{Condition, anyRow, raw, whole, numeric, points, Kind, itself, through, Naming, cafMeets}
 
 -- a naming but for its key: the column, the kind of row that it asks for, and whether circles are sought through it
 pub record Manner : Type 0 where
@@ -28,11 +28,11 @@ abbrev pub secondColumn : ℕ
 secondColumn = 12
 
 abbrev pub secondCondition : Condition
-secondCondition = anyRow
+secondCondition = points
 
 -- the weight of what is asked of a second row in the sum of what a row meets: one that no condition has
 abbrev pub secondWeight : ℕ
-secondWeight = 16
+secondWeight = 32
 
 -- all manners, by their code from 0; what a new table adds comes last
 unfoldable pub manners : List Manner
@@ -44,13 +44,15 @@ manners =
     -- 3, 4: pcf VALID and CURTX
     ∷ record { column = 8; kind = itself whole; chained = true }
     ∷ asking 12 (itself anyRow)
-    -- 5: cap NUMBR, txp NUMBR, ocp NAME
+    -- 5: txp NUMBR, ocp NAME
     ∷ asking 1 (itself anyRow)
     -- 6, 7: ocf NAME, and the same under INTER C
     ∷ asking 1 (itself numeric)
     ∷ asking 4 (through secondColumn secondCondition)
     -- 8: ocp RLCHK
     ∷ asking 6 (itself whole)
+    -- 9: cap NUMBR
+    ∷ asking 1 (itself points)
     ∷ []
 
 -- a code past the list's end is none
@@ -63,6 +65,7 @@ weight anyRow = 1
 weight raw = 2
 weight whole = 4
 weight numeric = 8
+weight points = 16
 
 -- the weight of a kind in the same sum
 abbrev pub kindWeight : Kind → ℕ
@@ -93,7 +96,7 @@ markOf meets c = mark (meets c) (weight c)
 
 -- all marks of a row, by the conditions that it meets
 unfoldable pub marksOf : (Condition → Bool) → ℕ
-marksOf meets = markOf meets anyRow + markOf meets raw + markOf meets whole + markOf meets numeric
+marksOf meets = markOf meets anyRow + markOf meets raw + markOf meets whole + markOf meets numeric + markOf meets points
 
 -- a row with these marks meets the condition, or is of the kind, of this weight
 unfoldable pub metBy : ℕ → ℕ → Bool
@@ -109,18 +112,21 @@ withSecond marks second = marks % secondWeight + mark second secondWeight
 
 pub record Examples : Type 0 where
   pub valid : codeOf (mannerAt 3) ≡ 3
-  pub last : codeOf (mannerAt 8) ≡ 8
+  pub last : codeOf (mannerAt 9) ≡ 9
   pub foreign : codeOf (asking 5 (itself whole)) ≡ 0
   pub secondRow : codeOf (asking 4 (through secondColumn secondCondition)) ≡ 7
   pub foreignSecond : codeOf (asking 4 (through 8 anyRow)) ≡ 0
   pub met : metBy 21 (weight whole) ≡ true
   pub unmet : metBy 21 (weight raw) ≡ false
-  pub curtx : isSecond 4 1 ≡ true
-  pub noCurtx : isSecond 3 1 ≡ false
-  pub marked : withSecond 5 true ≡ 21
+  -- a caf row has marks 17, an mcf row 1
+  pub caf : marksOf cafMeets ≡ 17
+  pub curtx : isSecond 4 17 ≡ true
+  pub polynomial : isSecond 4 1 ≡ false
+  pub noCurtx : isSecond 3 17 ≡ false
+  pub marked : withSecond 5 true ≡ 37
 
 pub examples : Examples
-unfolding manners mannerAt weight sameManner codeFrom codeOf metBy isSecond withSecond
+unfolding manners mannerAt weight sameManner codeFrom codeOf marksOf metBy isSecond withSecond
 examples =
     record {
       valid = refl;
@@ -130,7 +136,9 @@ examples =
       foreignSecond = refl;
       met = refl;
       unmet = refl;
+      caf = refl;
       curtx = refl;
+      polynomial = refl;
       noCurtx = refl;
       marked = refl;
     }

@@ -5,18 +5,18 @@ ghost use mathlib.Core.Path.{_≡_};
 ghost use lib.ListN.{getD};
 ghost use Rattle.manners.specs.Manners.{mannerAt, kindWeight, metBy, isSecond, withSecond};
 
-const COLUMNS: [u8; 9] = [0, 1, 2, 8, 12, 1, 1, 4, 6];
+const COLUMNS: [u8; 10] = [0, 1, 2, 8, 12, 1, 1, 4, 6, 1];
 
-const KINDS: [u8; 9] = [1, 2, 1, 4, 1, 1, 8, 16, 4];
+const KINDS: [u8; 10] = [1, 2, 1, 4, 1, 1, 8, 32, 4, 16];
 
-const CHAINED: [u8; 9] = [0, 0, 0, 1, 0, 0, 0, 0, 0];
+const CHAINED: [u8; 10] = [0, 0, 0, 1, 0, 0, 0, 0, 0, 0];
 
 // The second row that is asked about: the column that names it, the weight of the condition on it, and that of having one.
 const SECOND_COLUMN: u8 = 12;
 
-const SECOND_CONDITION: u8 = 1;
+const SECOND_CONDITION: u8 = 16;
 
-const SECOND: u8 = 16;
+const SECOND: u8 = 32;
 
 // What a list has at a place, or past its end `none`.
 fn at_or(values: &[u8], i: u64, none: u8) -> u8

@@ -1,4 +1,4 @@
-// The conditions that a pcf row meets, each by its weight.
+// The conditions that a row meets, each by its weight.
 use formed::contradictions::is_whole;
 use rows::letters::Category;
 use rows::letters::Nature;
@@ -6,6 +6,9 @@ use rows::records::PcfRow;
 ghost use mathlib.Core.Path.{_≡_};
 ghost use Rattle.verdicts.specs.Facts.{raw, numeric, pcfFacts};
 ghost use Rattle.manners.specs.Manners.{mark, marksOf};
+
+// Of a caf row: that it is there, and that it is a curve through points.
+pub const CAF_MARKS: u8 = 17;
 
 fn mark(met: bool, weight: u8) -> u8
     ensures { λ r. ⌜ r ≡ mark met weight ⌝ }

@@ -14,14 +14,15 @@ use Rattle.laws.proofs.Lists.{at-mem}
 use Rattle.lines.specs.Lines.{Line, linesOf}
 use Rattle.lines.specs.Names.{sameBytes}
 use Rattle.schemas.specs.declared.Table.{Table}
-use Rattle.schemas.specs.declared.Table.the-variants.{Pid, Pic, Plf, Pcf, Caf, Cap, Txf, Txp, Ocf, Ocp}
+use Rattle.schemas.specs.declared.Table.the-variants.{Pid, Pic, Plf, Pcf, Caf, Cap, Txf, Txp, Ocf, Ocp, Mcf}
 use Rattle.rows.specs.Records.{pidRow}
 use Rattle.formed.specs.Formed.{formed}
 use Rattle.rows.specs.declared.records.PidRow.{PidRow}
 use Rattle.rows.specs.declared.letters.Valid.{Valid}
 use Rattle.rows.specs.declared.letters.Valid.the-variants.{Yes, No}
 use Rattle.verdicts.specs.Key.{keyWords, sameKey}
-use Rattle.verdicts.specs.Facts.{Facts, pidKeys, pidFacts, picFacts, plfFacts, pcfFacts, cafFacts, capFacts, txfFacts, txpFacts, ocfFacts, ocpFacts, factsOf}
+use Rattle.verdicts.specs.Facts.{Facts, pidKeys, factsOf}
+use Rattle.verdicts.specs.Facts.{pidFacts, picFacts, plfFacts, pcfFacts, cafFacts, capFacts, txfFacts, txpFacts, ocfFacts, ocpFacts, mcfFacts}
 use Rattle.verdicts.specs.Entries.{Entry, bad, fine, readingOf, factsIn, facts, entry, entriesOf, entriesFrom, allRows}
 use Rattle.verdicts.specs.Steps.{twin}
 use Rattle.verdicts.specs.Places.{entryAt}
@@ -113,7 +114,7 @@ pid-apart Yes r = two-keys refl
 pid-apart No r = zero-keys
 
 keys-apart : (t : Table) (line : List ℕ) → AtMostTwo (factsOf t line .keys)
-unfolding factsOf pidFacts picFacts plfFacts pcfFacts cafFacts capFacts txfFacts txpFacts ocfFacts ocpFacts
+unfolding factsOf pidFacts picFacts plfFacts pcfFacts cafFacts capFacts txfFacts txpFacts ocfFacts ocpFacts mcfFacts
 keys-apart Pid line = pid-apart (pidRow line .valid) (pidRow line)
 keys-apart Pic line = one-key
 keys-apart Plf line = one-key
@@ -124,9 +125,10 @@ keys-apart Txf line = one-key
 keys-apart Txp line = one-key
 keys-apart Ocf line = one-key
 keys-apart Ocp line = one-key
+keys-apart Mcf line = one-key
 
 groups-single : (t : Table) (line : List ℕ) → AtMostOne (factsOf t line .groups)
-unfolding factsOf pidFacts picFacts plfFacts pcfFacts cafFacts capFacts txfFacts txpFacts ocfFacts ocpFacts
+unfolding factsOf pidFacts picFacts plfFacts pcfFacts cafFacts capFacts txfFacts txpFacts ocfFacts ocpFacts mcfFacts
 groups-single Pid line = no-group
 groups-single Pic line = no-group
 groups-single Plf line = no-group
@@ -137,6 +139,7 @@ groups-single Txf line = no-group
 groups-single Txp line = one-group
 groups-single Ocf line = no-group
 groups-single Ocp line = one-group
+groups-single Mcf line = no-group
 
 -- a row that isn't well-formed says nothing
 formed-part : {A : Type 0} (P : List A → Type 0) (part : Facts → List A) (fs : Facts) (v : ℕ) (z : Bool) → P (part fs) → P (part (factsIn (bad v))) → P

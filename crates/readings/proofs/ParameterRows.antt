@@ -1,7 +1,7 @@
 -- The rows that hold parameters are of pcf, which has at most 1,024 where the tables aren't refused.
 use mathlib.Core.Path.{_≡_, refl, ap, sym, _∙_, subst}
 use mathlib.Core.Bool.{Bool, true, false, cond}
-use mathlib.Core.List.{List, [], _∷_, _++_, List·Memᴰ, List·Memᴰ·head, List·Memᴰ·tail}
+use mathlib.Core.List.{List, [], _∷_, _++_, List·Memᴰ, List·Memᴰ·head, List·Memᴰ·tail, List·Memᴰ·eq-of-singleton}
 use mathlib.Core.Option.{some}
 use Prim.Native.Nat.{ℕ, suc, _+_, _≤_, _<_}
 use native.Mathlib.Omega.{arith}
@@ -21,7 +21,7 @@ use Rattle.verdicts.specs.Facts.{factsOf}
 use Rattle.verdicts.specs.Entries.{carried, tableCount, carriedAt}
 use Rattle.verdicts.specs.Answer.{mostRows, tooManyRows}
 use Rattle.verdicts.proofs.KeyLaws.{same-key-is}
-use Rattle.verdicts.proofs.OwnerLaws.{tableIndex, index-is, ownerOf, of-table}
+use Rattle.verdicts.proofs.OwnerLaws.{tableIndex, index-is, ownersOf, of-table}
 use Rattle.tables.proofs.SizeLaws.{few}
 use Rattle.database.specs.Rows.{Row}
 use Rattle.database.specs.GoodRows.{rowsOf, rowsFrom, rowsIn, isGood, goodRows, tableOf, holdsKey, among, ofTables}
@@ -49,20 +49,21 @@ module _ {A : Type 0} where
 
 -- Rows that hold parameters
 
--- pcf is the fourth table
-pcf-number : (u : ℕ) → carriedAt u ≡ Pcf → u ≡ 3
-unfolding tableIndex
-pcf-number u e =
+-- the number of a table, but of the one that stands for what is past the last
+pub table-number : (u : ℕ) (t : Table) → (t ≡ Ocp → ⊥) → carriedAt u ≡ t → u ≡ tableIndex t
+table-number u t other e =
     bool-cases (ltb u tableCount)
-    (λ t. sym (index-is u (ltb-true u tableCount t)) ∙ ap tableIndex e)
-    (λ f. let q = List·getD-eq-default carried Ocp {n = u} (ltb-false u tableCount f) in absurd (let z : _≡_ {A = ℕ} 0 1 = cc in omega arith))
+    (λ b. sym (index-is u (ltb-true u tableCount b)) ∙ ap tableIndex e)
+    (λ f. absurd (other (sym e ∙ List·getD-eq-default carried Ocp {n = u} (ltb-false u tableCount f))))
 
+-- pcf is the fourth table
 holds-number : (name : Name) (row : Row) → holdsKey (parameter name) row ≡ true → row .table ≡ 3
-unfolding holdsKey ownerOf
+unfolding holdsKey ownersOf tableIndex
 holds-number name row e =
     let w = any-witness (sameKey (parameter name)) (factsOf (tableOf row) (row .bytes) .keys) e in
     let m = subst (λ (k : Key). List·Memᴰ k (factsOf (tableOf row) (row .bytes) .keys)) (sym (same-key-is (parameter name) (w .0) (w .2))) (w .1) in
-    pcf-number (row .table) (sym (of-table (tableOf row) (row .bytes) (parameter name) m))
+    table-number (row .table) Pcf (λ q. omega (arith, ap tableIndex q))
+    (List·Memᴰ·eq-of-singleton (of-table (tableOf row) (row .bytes) (parameter name) m))
 
 -- The rows of one table
 

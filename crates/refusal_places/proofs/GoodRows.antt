@@ -1,7 +1,7 @@
--- A row that holds a key is a good row, of the table that has such keys.
-use mathlib.Core.Path.{_≡_, refl, sym, ap, _∙_}
+-- A row that holds a key is a good row, of a table that has such keys.
+use mathlib.Core.Path.{_≡_, sym, subst, _∙_}
 use mathlib.Core.Bool.{true}
-use mathlib.Core.List.{List, [], _∷_, List·Memᴰ, List·Memᴰ·head, List·Memᴰ·tail, List·Memᴰ·not-nil, List·Memᴰ·eq-of-singleton}
+use mathlib.Core.List.{List, [], _∷_, List·Memᴰ, List·Memᴰ·eq-of-singleton}
 use mathlib.Core.Option.{some}
 use Prim.Native.Nat.{ℕ, _-_}
 use native.Mathlib.Omega.{arith}
@@ -20,18 +20,22 @@ use Rattle.verdicts.specs.Places.{textAt, noLine, entryAt, verdictAt}
 use Rattle.verdicts.proofs.EntryLaws.{own-reading}
 use Rattle.verdicts.proofs.GoodLaw.{good-law}
 use Rattle.verdicts.proofs.KeyLaws.{same-key-is}
-use Rattle.verdicts.proofs.OwnerLaws.{ownerOf, of-table}
+use Rattle.verdicts.proofs.OwnerLaws.{ownersOf, of-table}
 use Rattle.database.specs.Rows.{Row}
 use Rattle.database.specs.GoodRows.{rowsIn, isGood, goodRows, tableOf, holdsKey, among, ofTables}
 use Rattle.database.proofs.RowLaws.{found-passes, in-tables}
 
 -- The table of a key
 
-pub holds-owner : (k : Key) (row : Row) → holdsKey k row ≡ true → ownerOf k ≡ tableOf row
+pub holds-owner : (k : Key) (row : Row) → holdsKey k row ≡ true → List·Memᴰ (tableOf row) (ownersOf k)
 unfolding holdsKey
 holds-owner k row e =
     let w = any-witness (sameKey k) (factsOf (tableOf row) (row .bytes) .keys) e in
-    ap ownerOf (same-key-is k (w .0) (w .2)) ∙ of-table (tableOf row) (row .bytes) (w .0) (w .1)
+    subst (λ (x : Key). List·Memᴰ (tableOf row) (ownersOf x)) (sym (same-key-is k (w .0) (w .2))) (of-table (tableOf row) (row .bytes) (w .0) (w .1))
+
+-- of a key that rows of one table hold
+pub only-owner : (k : Key) (table : Table) (row : Row) → ownersOf k ≡ table ∷ [] → holdsKey k row ≡ true → tableOf row ≡ table
+only-owner k table row o e = List·Memᴰ·eq-of-singleton (subst (λ (l : List Table). List·Memᴰ (tableOf row) l) o (holds-owner k row e))
 
 -- A good row
 
@@ -48,7 +52,7 @@ pub record HasLine (table : Table) (row : Row) : Type 0 where
   pub passes : formed table line ≡ 0
   pub bytes : row .bytes ≡ line .bytes
 
-pub holder-line : (tables : List (List ℕ)) (k : Key) (row : Row) → ofTables tables .holder k ≡ some row → HasLine (ownerOf k) row
+pub holder-line : (tables : List (List ℕ)) (k : Key) (row : Row) → ofTables tables .holder k ≡ some row → HasLine (tableOf row) row
 unfolding ofTables among goodRows rowsIn isGood
 holder-line tables k row e =
     let f = found-passes (holdsKey k) (goodRows tables) row e in
@@ -57,6 +61,13 @@ holder-line tables k row e =
     let z : row .table - 0 ≡ row .table = omega arith in
     record {
       line = getD (linesOf (textAt tables (row .table))) (row .number - 1) noLine;
-      passes = rw (holds-owner k row (f .1)) (formed-line tables (row .table) (row .number) (eqb-true _ 0 (g .1)));
+      passes = formed-line tables (row .table) (row .number) (eqb-true _ 0 (g .1));
       bytes = rw z at (w .4);
     }
+
+pub owner-line : (tables : List (List ℕ)) (k : Key) (table : Table) (row : Row) → ownersOf k ≡ table ∷ [] → ofTables tables .holder k ≡ some row
+    → HasLine table row
+unfolding ofTables among
+owner-line tables k table row o e =
+    let f = found-passes (holdsKey k) (goodRows tables) row e in
+    subst (λ (t : Table). HasLine t row) (only-owner k table row o (f .1)) (holder-line tables k row e)

@@ -44,7 +44,10 @@ use Rattle.curve_points.specs.Curves.{Curve}
 use Rattle.curve_values.specs.Along.{outcomeOf, along}
 use Rattle.curve_values.specs.Scale.{Scale, asRead, onCurve, scaleOf, onScale}
 use Rattle.texts.specs.Texts.{Text, toOf, altxtOf, textIn, textFor}
-use Rattle.engineering.specs.Engineering.{asValue, asText, byCategory, engineered}
+use Rattle.polynomial_curves.specs.Polynomials.{polynomialFor}
+use Rattle.polynomial_curves.specs.declared.Found.{Found}
+use Rattle.polynomial_curves.specs.declared.Found.the-variants as found
+use Rattle.engineering.specs.Engineering.{Engineered, asValue, asText, byPolynomial, numericValue, byCategory, engineered}
 use Rattle.refusal_places.specs.Small.{Small}
 use Rattle.refusal_places.proofs.SmallLaws.{small-answer, no-place, small-place, small-then}
 use Rattle.refusal_places.proofs.RowRanges.{PlfRanges, byteOf, PicRanges, InRanges}
@@ -165,9 +168,17 @@ unfolding textIn
 text-small none raw = no-place 32
 text-small (some row) raw = cond-cases (λ (o : Outcome Text). Small o) (ltZ (toOf row) raw) (λ _. no-place 32) (λ _. small-answer (altxtOf row))
 
+-- a polynomial is answered
+polynomial-small : (f : Found) (raw : ℤ) (other : Outcome Engineered) → Small other → Small (byPolynomial f raw other)
+unfolding byPolynomial
+polynomial-small (found.Is p) raw other h = small-answer _
+polynomial-small found.Nothing raw other h = h
+
 category-small : (rows : Rows) (c : Category) (curtx : OptionalCurve) (raw : ℤ) → Small (byCategory rows c curtx raw)
-unfolding byCategory asValue asText textFor
-category-small rows category.Numeric curtx raw = small-then (onScale (scaleOf rows curtx) raw) _ (scale-small (scaleOf rows curtx) raw) (λ z _. small-answer _)
+unfolding byCategory numericValue asValue asText textFor
+category-small rows category.Numeric curtx raw =
+    polynomial-small (polynomialFor rows curtx) raw _
+    (small-then (onScale (scaleOf rows curtx) raw) _ (scale-small (scaleOf rows curtx) raw) (λ z _. small-answer _))
 category-small rows category.Status curtx raw = small-then (textFor rows (curtx .name) raw) _ (text-small _ raw) (λ t _. small-answer _)
 category-small rows category.Text curtx raw = small-answer _
 

@@ -28,10 +28,10 @@ use Rattle.rows.specs.declared.records.PlfRow.{PlfRow}
 use Rattle.formed.proofs.Meaning.{column-passes, natural-column, integer-column}
 use Rattle.rows.specs.declared.records.OptionalApid.{OptionalApid}
 use Rattle.verdicts.specs.Key.{identification, location}
-use Rattle.verdicts.proofs.OwnerLaws.{ownerOf}
+use Rattle.verdicts.proofs.OwnerLaws.{ownersOf}
 use Rattle.database.specs.Rows.{Row, Rows}
 use Rattle.database.specs.GoodRows.{ofTables}
-use Rattle.refusal_places.proofs.GoodRows.{HasLine, holder-line}
+use Rattle.refusal_places.proofs.GoodRows.{HasLine, owner-line}
 
 -- A column
 
@@ -116,13 +116,13 @@ pub record InRanges (rows : Rows) : Type 0 where
   pub pic : (ptype stype : ℕ) (apid : OptionalApid) (row : Row) → rows .holder (identification ptype stype apid) ≡ some row → PicRanges (picRow (row .bytes))
 
 pub tables-in-ranges : (texts : List (List ℕ)) → InRanges (ofTables texts)
-unfolding ownerOf
+unfolding ownersOf
 tables-in-ranges texts =
     record {
       plf = λ name spid row e.
-          let l = holder-line texts (location name spid) row e in
+          let l = owner-line texts (location name spid) Plf row refl e in
           subst (λ (bytes : List ℕ). PlfRanges (plfRow bytes)) (sym (l .bytes)) (plf-formed (l .line) (l .passes));
       pic = λ ptype stype apid row e.
-          let l = holder-line texts (identification ptype stype apid) row e in
+          let l = owner-line texts (identification ptype stype apid) Pic row refl e in
           subst (λ (bytes : List ℕ). PicRanges (picRow bytes)) (sym (l .bytes)) (pic-formed (l .line) (l .passes));
     }

@@ -20,7 +20,7 @@ ghost use Rattle.directories.specs.Space.{DirectoryInto};
 
 fn say_usage() {
     words(b"usage: replay DIR NAME FILE [runs | last]\n");
-    words(b"  DIR   a directory with the tables pid.dat to ocp.dat\n");
+    words(b"  DIR   a directory with the tables pid.dat to mcf.dat\n");
     words(b"  NAME  the parameter whose limits are checked\n");
     words(b"  FILE  packets end to end, as an archive has them\n");
     words(b"  runs  one line for packets in a row with the same answer, not one for each\n");

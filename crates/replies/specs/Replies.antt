@@ -6,15 +6,17 @@ use mathlib.Core.List.{List, [], _∷_}
 use lib.Dec.{eqb}
 use lib.IntN.{pos, negsuc, natAbs}
 use lib.Signed.{ltZ}
+use lib.Ieee.{binary64, toBits, ofBits}
 use Rattle.laws.specs.Text.{ascii}
 use Rattle.outcomes.specs.Outcome.{Outcome, refused, answer}
 use Rattle.outcomes.specs.Values.{Value, number, part}
 use Rattle.verdicts.specs.Answer as import
 use Rattle.identification.specs.Identification.{Identity}
 use Rattle.readings.specs.Readings.{Reading}
-use Rattle.engineering.specs.Engineering.{Engineered, value, text}
+use Rattle.engineering.specs.Engineering.{Engineered, value, double, text}
 use Rattle.limit_state.specs.declared.state.LimitState.{LimitState}
 use Rattle.answers.specs.declared.answer.Answer.{Answer}
+use Rattle.answers.specs.Hexadecimal.{hexDigit, hexadecimal, doubleAnswer}
 use Rattle.answers.specs.Answers.{composed, saying, refusing, wordsAnswer, integerAnswer, one, two}
 
 -- the counts of rows and of good rows, and each row's cell
@@ -53,9 +55,10 @@ unfoldable pub valueAnswer : Value → Answer
 valueAnswer (number z) = integerAnswer z
 valueAnswer (part start bytes) = saying (ascii "string from #, # bytes") false (two start bytes)
 
--- a text is followed by its bytes in txp
+-- a double is told by its bits; a text is followed by its bytes in txp
 unfoldable pub engineeredAnswer : Engineered → Answer
 engineeredAnswer (value v) = valueAnswer v
+engineeredAnswer (double x) = doubleAnswer (toBits binary64 x)
 engineeredAnswer (text t) =
     composed (ascii "text of row # from #, # bytes: ") false (t .row ∷ t .start ∷ t .bytes ∷ 0 ∷ 0 ∷ 0 ∷ 0 ∷ []) (t .start) (t .bytes) 0
 
@@ -66,8 +69,9 @@ pub record Examples : Type 0 where
   -- 01: "cells 2567, 2817, 2817"
   pub cell : cellAnswer 2567 ≡ saying (ascii "#:#") false (two 10 7)
   pub reading : replyOf readingAnswer (answer (record { value = number (negsuc 7); valid = true })) ≡ saying (ascii "#, valid") true (one 8)
+  pub half : replyOf engineeredAnswer (answer (double (ofBits binary64 0x3FE0000000000000))) ≡ wordsAnswer (ascii "double 3FE0000000000000")
   pub refusal : replyOf engineeredAnswer (refused 30 0) ≡ refusing 30 0
 
 pub examples : Examples
-unfolding cellAnswer replyOf readingAnswer rawAnswer
-examples = record { cell = refl; reading = refl; refusal = refl }
+unfolding cellAnswer replyOf readingAnswer rawAnswer engineeredAnswer doubleAnswer hexadecimal hexDigit toBits ofBits
+examples = record { cell = refl; reading = refl; half = refl; refusal = refl }

@@ -8,6 +8,7 @@ use answers::answer::refused;
 use answers::answer::say_integer;
 use answers::answer::says;
 use answers::answer::two;
+use answers::hexadecimal::say_double;
 use curves::ints::less;
 use curves::ints::size;
 use engineering::engineer::Engineered;
@@ -17,6 +18,7 @@ use outcomes::Refusal;
 use outcomes::Value;
 use outcomes::number_of;
 use outcomes::place_of;
+use polynomials::bits_of;
 use readings::Reading;
 ghost use mathlib.Core.Path.{_≡_};
 ghost use Rattle.outcomes.specs.Refusals.{refusalNumber, refusalPlace};
@@ -125,6 +127,7 @@ pub fn say_engineered(engineered: Engineered) -> Answer
 {
     match engineered {
         Engineered::Is(value) => say_value(value),
+        Engineered::Double(x) => say_double(bits_of(x)),
         Engineered::Text(row, from, bytes) => say_text(row.0 as u64, from.0, bytes),
         Engineered::Refused(refusal) => refused_question(refusal),
     }

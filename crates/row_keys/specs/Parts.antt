@@ -64,8 +64,8 @@ abbrev pub naming : RowKeys → (one two : Named) → RowKeys
 naming row one two = cond (eqb (one .code) 0) (withNames row two one) (withNames row one two)
 
 -- a row that counts the rows of the group that goes by its key
-abbrev pub counter : (verdict : ℕ) → Symbol → (column number : ℕ) → RowKeys
-counter verdict key column number =
+abbrev pub counter : (verdict : ℕ) → Symbol → (column number marks : ℕ) → RowKeys
+counter verdict key column number marks =
     record {
       verdict = verdict;
       first = slotFor key;
@@ -74,17 +74,17 @@ counter verdict key column number =
       two = noName;
       group = noSlot;
       count = record { column = column; number = number };
-      marks = 1;
+      marks = marks;
     }
 
--- a row that is counted in the group that its first column names
-abbrev pub member : (verdict : ℕ) → (key group : Symbol) → RowKeys
-member verdict key group =
+-- a row that is counted in the group that its first column names, by the manner with this code
+abbrev pub member : (verdict : ℕ) → (key group : Symbol) → (code : ℕ) → RowKeys
+member verdict key group code =
     record {
       verdict = verdict;
       first = slotFor key;
       second = noSlot;
-      one = record { code = 5; key = group };
+      one = record { code = code; key = group };
       two = noName;
       group = slotFor group;
       count = noCount;

@@ -90,24 +90,21 @@ pub fn naming(row: RowKeys, one: Named, two: Named) -> RowKeys
 }
 
 // A row that counts the rows of the group that goes by its key.
-pub fn counter(verdict: u16, key: Symbol, column: u8, number: u32) -> RowKeys
-    ensures { λ r. ⌜ r ≡ counter verdict key column number ⌝ }
+pub fn counter(verdict: u16, key: Symbol, column: u8, number: u32, marks: u8) -> RowKeys
+    ensures { λ r. ⌜ r ≡ counter verdict key column number marks ⌝ }
 {
-    let mut row = holder(verdict, key, 1);
+    let mut row = holder(verdict, key, marks);
     let count = Counting { column, number };
     row.count = count;
     row
 }
 
-// A row that is counted in the group that its first column names.
-pub fn member(verdict: u16, key: Symbol, group: Symbol) -> RowKeys
-    ensures { λ r. ⌜ r ≡ member verdict key group ⌝ }
+// A row that is counted in the group that its first column names, by the manner with this code.
+pub fn member(verdict: u16, key: Symbol, group: Symbol, code: u8) -> RowKeys
+    ensures { λ r. ⌜ r ≡ member verdict key group code ⌝ }
 {
     let mut row = holder(verdict, key, 1);
-    let named = Named {
-        code: 5,
-        key: group,
-    };
+    let named = Named { code, key: group };
     let counted = slot(true, group);
     row.one = named;
     row.group = counted;

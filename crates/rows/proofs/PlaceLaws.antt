@@ -33,6 +33,8 @@ use Rattle.rows.specs.Records.{
   ocfRow,
   ocpRowBy,
   ocpRow,
+  mcfRowBy,
+  mcfRow,
 }
 
 -- the texts of the first 24 columns: of no table are others asked for
@@ -82,6 +84,10 @@ module _ (line : List ℕ) {ends : List ℕ} (e : ends ≡ divided line) where
   pub ocp-divided : ocpRowBy (columnIn line ends) ≡ ocpRow line
   unfolding ocpRow
   ocp-divided = ap ocpRowBy same
+
+  pub mcf-divided : mcfRowBy (columnIn line ends) ≡ mcfRow line
+  unfolding mcfRow
+  mcf-divided = ap mcfRowBy same
 
   end : getD ends 3 0 ≡ placeAt line 3 .end
   end = end-is line ends 3 e (lit< tt)

@@ -12,6 +12,7 @@ use Rattle.rows.specs.Values.{
   naturalOr,
   integerFrom,
   integerOr,
+  coefficientOrZero,
   letterOf,
   optionalName,
   optionalCurve,
@@ -36,6 +37,8 @@ use Rattle.rows.specs.declared.records.TxfRow.{TxfRow}
 use Rattle.rows.specs.declared.records.TxpRow.{TxpRow}
 use Rattle.rows.specs.declared.records.OcfRow.{OcfRow}
 use Rattle.rows.specs.declared.records.OcpRow.{OcpRow}
+use Rattle.rows.specs.declared.records.McfRow.{McfRow}
+use Rattle.polynomials.specs.declared.Polynomial.{Polynomial}
 
 -- a column of a line; one that isn't there reads as empty
 unfoldable pub column : List ℕ → ℕ → List ℕ
@@ -181,6 +184,24 @@ ocpRowBy at =
 
 unfoldable pub ocpRow : List ℕ → OcpRow
 ocpRow line = ocpRowBy (column line)
+
+-- 02, P1: "All five coefficients of a curve are held together as doubles"
+abbrev pub mcfRowBy : (ℕ → List ℕ) → McfRow
+mcfRowBy at =
+    record {
+      ident = curveNameOf (at 0);
+      polynomial =
+          record {
+            pol1 = coefficientOrZero (at 2);
+            pol2 = coefficientOrZero (at 3);
+            pol3 = coefficientOrZero (at 4);
+            pol4 = coefficientOrZero (at 5);
+            pol5 = coefficientOrZero (at 6);
+          };
+    }
+
+unfoldable pub mcfRow : List ℕ → McfRow
+mcfRow line = mcfRowBy (column line)
 
 pub record Examples : Type 0 where
   -- txp: a range of texts, and where ALTXT stands in the line

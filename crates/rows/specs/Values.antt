@@ -9,6 +9,12 @@ use lib.IntN.{ℤ, pos, negsuc, natAbs}
 use lib.ListN.{length}
 use Rattle.laws.specs.Text.{ascii, char}
 use Rattle.numbers.specs.Number.{numberOf, meaning, spelt, after, digitOn, digitOf}
+use lib.Ieee.{Float, binary64, div, ofInt, ofBits}
+use Rattle.notation.specs.Stages.{onDigit, inDigits, stageAfter, stageFrom, isCoefficient}
+use Rattle.notation.specs.Scientific.{withDigit, withCharacter, scientificFrom, parsed, parsedOf}
+use Rattle.coefficients.specs.Coefficient.{withSign, scaled, doubleOf, valued, coefficientOf}
+use Rattle.coefficients.specs.declared.Coefficient.{Coefficient}
+use Rattle.coefficients.specs.declared.Coefficient.the-variants.{Double, NotCoefficient, PowerOutOfRange, TooWide}
 use Rattle.lines.specs.Names.{nameOf, curveNameOf}
 use Rattle.rows.specs.declared.records.OptionalName.{OptionalName}
 use Rattle.rows.specs.declared.records.OptionalCurve.{OptionalCurve}
@@ -49,6 +55,20 @@ integerFrom default (some v) = cond (ltb (natAbs v) (2 ^ 60)) v default
 
 unfoldable pub integerOr : ℤ → List ℕ → ℤ
 integerOr default text = integerFrom default (numberOf text)
+
+-- plus zero, whose bits are all 0
+abbrev pub plusZero : Float
+plusZero = ofBits binary64 0
+
+-- the double of a coefficient. 02, P1: "POL2 to POL5 14 each, default 0"
+unfoldable pub coefficientFrom : Coefficient → Float
+coefficientFrom (Double x) = x
+coefficientFrom NotCoefficient = plusZero
+coefficientFrom PowerOutOfRange = plusZero
+coefficientFrom TooWide = plusZero
+
+unfoldable pub coefficientOrZero : List ℕ → Float
+coefficientOrZero text = coefficientFrom (coefficientOf text)
 
 -- the first byte of a text, 0 where it has none: the letter of a column of one letter
 unfoldable pub letterOf : List ℕ → ℕ
@@ -123,7 +143,12 @@ pub record Examples : Type 0 where
   pub default : naturalOr 1 (ascii "") ≡ 1
   pub given : naturalOr 1 (ascii "0x10") ≡ 16
   pub negative : integerOr (pos 1) (ascii "-9999") ≡ negsuc 9998
+  pub half : coefficientOrZero (ascii "5e-1") ≡ ofBits binary64 0x3FE0000000000000
+  pub empty : coefficientOrZero [] ≡ ofBits binary64 0
 
 pub examples : Examples
-unfolding naturalOr naturalFrom integerOr integerFrom numberOf meaning spelt after digitOn digitOf
-examples = record { default = refl; given = refl; negative = refl }
+unfolding
+    naturalOr naturalFrom integerOr integerFrom numberOf meaning spelt after digitOn digitOf
+    coefficientOrZero coefficientFrom coefficientOf valued doubleOf scaled withSign
+    parsedOf parsed isCoefficient scientificFrom withCharacter withDigit stageFrom stageAfter inDigits onDigit div ofInt ofBits
+examples = record { default = refl; given = refl; negative = refl; half = refl; empty = refl }

@@ -3,6 +3,7 @@ use crate::records::IdentificationField;
 use crate::records::OptionalApid;
 use crate::records::OptionalCurve;
 use crate::records::OptionalName;
+use crate::values::coefficient_or_zero;
 use crate::values::identification;
 use crate::values::integer_or;
 use crate::values::is_given;
@@ -15,7 +16,7 @@ use lines::names::name_of;
 ghost use mathlib.Core.Path.{_≡_};
 ghost use Rattle.lines.specs.Columns.{columnIn};
 ghost use Rattle.lines.specs.Names.{nameOf, curveNameOf};
-ghost use Rattle.rows.specs.Values.{naturalOr, integerOr, letterOf, optionalName, optionalCurve, optionalApid, identificationAt};
+ghost use Rattle.rows.specs.Values.{naturalOr, integerOr, coefficientOrZero, letterOf, optionalName, optionalCurve, optionalApid, identificationAt};
 
 pub(crate) fn name_at(line: &[u8], ends: &[usize], k: usize) -> Name
     ensures { λ r. ⌜ r ≡ nameOf (columnIn (now (line .entry)) (now (ends .entry)) k) ⌝ }
@@ -39,6 +40,12 @@ pub(crate) fn integer_at(line: &[u8], ends: &[usize], k: usize, default: i64) ->
     ensures { λ r. ⌜ r ≡ integerOr default (columnIn (now (line .entry)) (now (ends .entry)) k) ⌝ }
 {
     integer_or(column(line, ends, k), default)
+}
+
+pub(crate) fn coefficient_at(line: &[u8], ends: &[usize], k: usize) -> f64
+    ensures { λ r. ⌜ r ≡ coefficientOrZero (columnIn (now (line .entry)) (now (ends .entry)) k) ⌝ }
+{
+    coefficient_or_zero(column(line, ends, k))
 }
 
 pub(crate) fn letter_at(line: &[u8], ends: &[usize], k: usize) -> u8

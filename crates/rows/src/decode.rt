@@ -1,4 +1,5 @@
 // The line of each table decoded, by where its columns end.
+use crate::at::coefficient_at;
 use crate::at::curve_at;
 use crate::at::identification_at;
 use crate::at::integer_at;
@@ -18,6 +19,7 @@ use crate::letters::off_ends_of;
 use crate::letters::valid_of;
 use crate::records::CafRow;
 use crate::records::CapRow;
+use crate::records::McfRow;
 use crate::records::OcfRow;
 use crate::records::OcpRow;
 use crate::records::PcfRow;
@@ -27,6 +29,8 @@ use crate::records::PlfRow;
 use crate::records::TxfRow;
 use crate::records::TxpRow;
 use lines::columns::column;
+use lines::names::CurveName;
+use polynomials::Polynomial;
 use units::BitOffset;
 use units::ByteOffset;
 use units::Spid;
@@ -34,7 +38,7 @@ ghost use mathlib.Core.Path.{_≡_};
 ghost use Prim.Native.Nat.{_-_};
 ghost use lib.ListN.{length, getD};
 ghost use Rattle.lines.specs.Columns.{columnIn};
-ghost use Rattle.rows.specs.Records.{pidRowBy, picRowBy, plfRowBy, pcfRowBy, cafRowBy, capRowBy, txfRowBy, txpRowBy, ocfRowBy, ocpRowBy};
+ghost use Rattle.rows.specs.Records.{pidRowBy, picRowBy, plfRowBy, pcfRowBy, cafRowBy, capRowBy, txfRowBy, txpRowBy, ocfRowBy, ocpRowBy, mcfRowBy};
 
 pub fn pid_row(line: &[u8], ends: &[usize]) -> PidRow
     ensures { λ r. ⌜ r ≡ pidRowBy (columnIn (now (line .entry)) (now (ends .entry))) ⌝ }
@@ -168,5 +172,27 @@ pub fn ocp_row(line: &[u8], ends: &[usize]) -> OcpRow
         hvalu: integer_at(line, ends, 4, 0),
         rlchk: optional_name_at(line, ends, 5),
         valpar: integer_at(line, ends, 6, 1),
+    }
+}
+
+// IDENT alone: what other rows need of an mcf row.
+pub fn mcf_ident(line: &[u8], ends: &[usize]) -> CurveName
+    ensures { λ r. ⌜ r ≡ mcfRowBy (columnIn (now (line .entry)) (now (ends .entry))) .ident ⌝ }
+{
+    curve_at(line, ends, 0)
+}
+
+pub fn mcf_row(line: &[u8], ends: &[usize]) -> McfRow
+    ensures { λ r. ⌜ r ≡ mcfRowBy (columnIn (now (line .entry)) (now (ends .entry))) ⌝ }
+{
+    McfRow {
+        ident: curve_at(line, ends, 0),
+        polynomial: Polynomial {
+            pol1: coefficient_at(line, ends, 2),
+            pol2: coefficient_at(line, ends, 3),
+            pol3: coefficient_at(line, ends, 4),
+            pol4: coefficient_at(line, ends, 5),
+            pol5: coefficient_at(line, ends, 6),
+        },
     }
 }

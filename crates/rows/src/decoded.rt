@@ -1,6 +1,7 @@
 // A line of each table decoded and not judged, for rows that are known to be good.
 use crate::decode::caf_row;
 use crate::decode::cap_row;
+use crate::decode::mcf_row;
 use crate::decode::ocf_row;
 use crate::decode::ocp_row;
 use crate::decode::pcf_row;
@@ -10,6 +11,7 @@ use crate::decode::plf_row;
 use crate::decode::txp_row;
 use crate::records::CafRow;
 use crate::records::CapRow;
+use crate::records::McfRow;
 use crate::records::OcfRow;
 use crate::records::OcpRow;
 use crate::records::PcfRow;
@@ -19,7 +21,7 @@ use crate::records::PlfRow;
 use crate::records::TxpRow;
 use lines::columns::divide;
 ghost use mathlib.Core.Path.{_≡_};
-ghost use Rattle.rows.specs.Records.{pidRow, picRow, plfRow, pcfRow, cafRow, capRow, txpRow, ocfRow, ocpRow};
+ghost use Rattle.rows.specs.Records.{pidRow, picRow, plfRow, pcfRow, cafRow, capRow, txpRow, ocfRow, ocpRow, mcfRow};
 
 pub fn pid_of(line: &[u8]) -> PidRow
     ensures { λ r. ⌜ r ≡ pidRow (now (line .entry)) ⌝ }
@@ -82,4 +84,11 @@ pub fn ocp_of(line: &[u8]) -> OcpRow
 {
     let ends = divide(line);
     ocp_row(line, &ends)
+}
+
+pub fn mcf_of(line: &[u8]) -> McfRow
+    ensures { λ r. ⌜ r ≡ mcfRow (now (line .entry)) ⌝ }
+{
+    let ends = divide(line);
+    mcf_row(line, &ends)
 }

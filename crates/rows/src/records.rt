@@ -10,6 +10,7 @@ use crate::letters::OffEnds;
 use crate::letters::Valid;
 use lines::names::CurveName;
 use lines::names::Name;
+use polynomials::Polynomial;
 use units::BitOffset;
 use units::ByteOffset;
 use units::Spid;
@@ -120,4 +121,9 @@ pub struct OcpRow {
     pub hvalu: i64,
     pub rlchk: OptionalName,
     pub valpar: i64,
+}
+
+pub struct McfRow {
+    pub ident: CurveName,
+    pub polynomial: Polynomial,
 }

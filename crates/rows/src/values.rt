@@ -1,10 +1,12 @@
 // What a text says: a number after its default, whether it was given at all, and a field by its offset and width.
 use crate::records::IdentificationField;
+use coefficients::Coefficient;
+use coefficients::read_coefficient;
 use numbers::Number;
 use numbers::read_number;
 use units::ByteOffset;
 ghost use mathlib.Core.Path.{_≡_};
-ghost use Rattle.rows.specs.Values.{naturalOr, integerOr, isGiven, identificationField};
+ghost use Rattle.rows.specs.Values.{naturalOr, integerOr, coefficientOrZero, isGiven, identificationField};
 
 pub fn natural_or(text: &[u8], default: u32) -> u32
     ensures { λ r. ⌜ r ≡ naturalOr default (now (text .entry)) ⌝ }
@@ -31,6 +33,17 @@ pub(crate) fn integer_or(text: &[u8], default: i64) -> i64
         Number::Value(v) => v,
         Number::NotNumber => default,
         Number::Beyond => default,
+    }
+}
+
+pub(crate) fn coefficient_or_zero(text: &[u8]) -> f64
+    ensures { λ r. ⌜ r ≡ coefficientOrZero (now (text .entry)) ⌝ }
+{
+    match read_coefficient(text) {
+        Coefficient::Double(x) => x,
+        Coefficient::NotCoefficient => 0.0,
+        Coefficient::PowerOutOfRange => 0.0,
+        Coefficient::TooWide => 0.0,
     }
 }
 

@@ -15,7 +15,10 @@ use lib.Signed.{leZ}
 use Rattle.laws.proofs.Cases.{cond-cases}
 use Rattle.numbers.specs.Number.{numberOf}
 use Rattle.numbers.proofs.Answers.{Large, large-outside}
-use Rattle.schemas.specs.Schema.{ColumnKind, anyText, aNumber, aLetter, Column}
+use Rattle.coefficients.specs.Coefficient.{coefficientOf, coefficientReason}
+use Rattle.coefficients.specs.declared.Coefficient.{Coefficient}
+use Rattle.coefficients.specs.declared.Coefficient.the-variants.{Double, NotCoefficient, PowerOutOfRange, TooWide}
+use Rattle.schemas.specs.Schema.{ColumnKind, anyText, aNumber, aLetter, aCoefficient, Column}
 use Rattle.schemas.specs.Reasons.{isIn, listed, numberReason, kindReason, columnReason}
 use Rattle.schemas.specs.Constants.{letterLists, lettersAt}
 
@@ -73,11 +76,19 @@ unfolding numberReason
 number-small lowest highest none = lit≤ tt
 number-small lowest highest (some v) = cond-cases (λ (x : ℕ). x ≤ 7) (leZ lowest v && leZ v highest) (λ _. lit≤ tt) (λ _. lit≤ tt)
 
+coefficient-small : (c : Coefficient) → coefficientReason c ≤ 7
+unfolding coefficientReason
+coefficient-small (Double x) = lit≤ tt
+coefficient-small NotCoefficient = lit≤ tt
+coefficient-small PowerOutOfRange = lit≤ tt
+coefficient-small TooWide = lit≤ tt
+
 kind-small : (k : ColumnKind) (text : List ℕ) → kindReason k text ≤ 7
 unfolding kindReason
 kind-small anyText text = lit≤ tt
 kind-small (aNumber lowest highest) text = number-small lowest highest (numberOf text)
 kind-small (aLetter letters) text = cond-cases (λ (x : ℕ). x ≤ 7) (listed letters text) (λ _. lit≤ tt) (λ _. lit≤ tt)
+kind-small aCoefficient text = coefficient-small (coefficientOf text)
 
 pub reason-small : (column : Column) (text : List ℕ) → columnReason column text ≤ 7
 unfolding columnReason

@@ -15,9 +15,9 @@ use Rattle.lines.specs.declared.columns.Scanned.{Scanned}
 use Rattle.lines.specs.Columns.{columnsOf, divided, foreignIn, columnIn}
 use Rattle.lines.proofs.ColumnLaws.{column-is}
 use Rattle.schemas.specs.Schema.{Column, text}
-use Rattle.schemas.specs.Tables.{schema, pid, pic, plf, pcf, caf, cap, txf, txp, ocf, ocp}
+use Rattle.schemas.specs.Tables.{schema, pid, pic, plf, pcf, caf, cap, txf, txp, ocf, ocp, mcf}
 use Rattle.schemas.specs.declared.Table.{Table}
-use Rattle.schemas.specs.declared.Table.the-variants.{Pid, Pic, Plf, Pcf, Caf, Cap, Txf, Txp, Ocf, Ocp}
+use Rattle.schemas.specs.declared.Table.the-variants.{Pid, Pic, Plf, Pcf, Caf, Cap, Txf, Txp, Ocf, Ocp, Mcf}
 use Rattle.schemas.specs.Reasons.{reasonAt, orLater, columnReason, firstReason, reasonFrom, longestRow, lineOf, shape, shapeBy}
 use Rattle.schemas.specs.Constants.{Alike, columnFrom, schemaFrom}
 
@@ -41,7 +41,7 @@ schema-at (w ∷ ws) (m ∷ ms) (k ∷ ks) p q (suc i) h = schema-at ws ms ks (o
 
 -- no table has more columns than there is room for
 pub schema-few : (table : Table) → length (schema table) ≤ 24
-unfolding schema pid pic plf pcf caf cap txf txp ocf ocp
+unfolding schema pid pic plf pcf caf cap txf txp ocf ocp mcf
 schema-few Pid = omega arith
 schema-few Pic = omega arith
 schema-few Plf = omega arith
@@ -52,6 +52,7 @@ schema-few Txf = omega arith
 schema-few Txp = omega arith
 schema-few Ocf = omega arith
 schema-few Ocp = omega arith
+schema-few Mcf = omega arith
 
 -- ---- the columns in turn: k of them have no reason, and what is left gives the verdict of all
 

@@ -7,7 +7,7 @@ use lib.Dec.{eqb, ltb}
 use lib.ListN.{length, getD}
 use lib.IntN.{ℤ, pos, negℤ}
 use Rattle.laws.specs.Text.{ascii}
-use Rattle.schemas.specs.Schema.{ColumnKind, anyText, aNumber, aLetter, Column}
+use Rattle.schemas.specs.Schema.{ColumnKind, anyText, aNumber, aLetter, aCoefficient, Column}
 
 -- the ranges that 01 prints, by the number of their kind; kind 0 is any text
 unfoldable pub lowests : List ℤ
@@ -32,11 +32,16 @@ lettersAt k = getD letterLists (k - 128) []
 unfoldable pub allLetters : List ℕ
 allLetters = ascii "YNNSTRDPHSCPFIURDHOUCRAISHDCE"
 
+-- the kind of coefficients, past all lists of letters
+abbrev pub coefficientKind : ℕ
+coefficientKind = 255
+
 unfoldable pub kindAt : ℕ → ColumnKind
 kindAt k =
     cond (eqb k 0) anyText
+    (cond (eqb k coefficientKind) aCoefficient
     (cond (ltb k 128) (aNumber (getD lowests k (pos 0)) (getD highests k (pos 0)))
-    (aLetter (lettersAt k)))
+    (aLetter (lettersAt k))))
 
 -- a column by its width, its mark, 1 where it is mandatory, and the number of its kind
 abbrev pub columnFrom : ℕ → ℕ → ℕ → Column

@@ -10,10 +10,11 @@ use lib.IntN.{ℤ}
 use lib.Signed.{leZ}
 use Rattle.laws.specs.Lists.{any}
 use Rattle.numbers.specs.Number.{numberOf, meaning, spelt, after, digitOn, digitOf}
+use Rattle.coefficients.specs.Coefficient.{coefficientOf, coefficientReason}
 use Rattle.lines.specs.Lines.{Line}
 use Rattle.lines.specs.Columns.{columnsOf, columnsFrom, printable, allowed, foreignIn}
 use Rattle.lines.specs.declared.columns.Scanned.{Scanned}
-use Rattle.schemas.specs.Schema.{ColumnKind, anyText, aNumber, aLetter, Column}
+use Rattle.schemas.specs.Schema.{ColumnKind, anyText, aNumber, aLetter, aCoefficient, Column}
 use Rattle.schemas.specs.Tables.{schema, cap}
 use Rattle.schemas.specs.declared.Table.the-variants.{Cap}
 
@@ -44,6 +45,7 @@ unfoldable pub kindReason : ColumnKind → List ℕ → ℕ
 kindReason anyText t = 0
 kindReason (aNumber lowest highest) t = numberReason lowest highest (numberOf t)
 kindReason (aLetter letters) t = cond (listed letters t) 0 6
+kindReason aCoefficient t = coefficientReason (coefficientOf t)
 
 -- 01: "4 mandatory and empty, 5 too wide"; an empty column that isn't mandatory passes
 unfoldable pub columnReason : Column → List ℕ → ℕ

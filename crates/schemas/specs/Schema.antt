@@ -4,11 +4,12 @@ use mathlib.Core.List.{List}
 use mathlib.Core.Bool.{Bool, true, false}
 use lib.IntN.{ℤ, pos}
 
--- what a column may hold: any text, a number from lowest to highest, or one letter of a list
+-- what a column may hold: any text, a number from lowest to highest, one letter of a list, or a coefficient
 pub data ColumnKind : Type 0 where
   anyText : ColumnKind
   aNumber : (lowest highest : ℤ) → ColumnKind
   aLetter : (letters : List ℕ) → ColumnKind
+  aCoefficient : ColumnKind
 
 -- 01: "Columns (width; ! mandatory; unlisted rules are width only)"
 pub record Column : Type 0 where
@@ -40,3 +41,10 @@ letter letters = record { width = 1; mandatory = false; kind = aLetter letters }
 
 abbrev pub letter! : List ℕ → Column
 letter! letters = record { width = 1; mandatory = true; kind = aLetter letters }
+
+-- 02, P1: "A coefficient is decimal text"
+abbrev pub coefficient : ℕ → Column
+coefficient w = record { width = w; mandatory = false; kind = aCoefficient }
+
+abbrev pub coefficient! : ℕ → Column
+coefficient! w = record { width = w; mandatory = true; kind = aCoefficient }

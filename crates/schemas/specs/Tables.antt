@@ -3,9 +3,9 @@ use Prim.Native.Nat.{ℕ}
 use mathlib.Core.List.{List, [], _∷_}
 use lib.IntN.{ℤ, pos, negℤ}
 use Rattle.laws.specs.Text.{ascii}
-use Rattle.schemas.specs.Schema.{Column, text, text!, integer, integer!, natural, natural!, letter, letter! }
+use Rattle.schemas.specs.Schema.{Column, text, text!, integer, integer!, natural, natural!, letter, letter!, coefficient, coefficient! }
 use Rattle.schemas.specs.declared.Table.{Table}
-use Rattle.schemas.specs.declared.Table.the-variants.{Pid, Pic, Plf, Pcf, Caf, Cap, Txf, Txp, Ocf, Ocp}
+use Rattle.schemas.specs.declared.Table.the-variants.{Pid, Pic, Plf, Pcf, Caf, Cap, Txf, Txp, Ocf, Ocp, Mcf}
 
 -- VALPAR: "−9,999–65,535"
 abbrev validityValue : Column
@@ -83,6 +83,14 @@ ocp =
     -- NAME, POS, TYPE, LVALU, HVALU, RLCHK, VALPAR
     text! 8 ∷ natural! 2 0 99 ∷ letter! (ascii "SHDCE") ∷ rawValue! ∷ rawValue! ∷ text 8 ∷ validityValue ∷ []
 
+-- 02, P1: "IDENT 10!, DESCR 32, POL1 14!, POL2 to POL5 14 each"
+unfoldable pub mcf : List Column
+mcf =
+    -- IDENT, DESCR
+    text! 10 ∷ text 32
+    -- POL1, POL2, POL3, POL4, POL5
+    ∷ coefficient! 14 ∷ coefficient 14 ∷ coefficient 14 ∷ coefficient 14 ∷ coefficient 14 ∷ []
+
 unfoldable pub schema : Table → List Column
 schema Pid = pid
 schema Pic = pic
@@ -94,3 +102,4 @@ schema Txf = txf
 schema Txp = txp
 schema Ocf = ocf
 schema Ocp = ocp
+schema Mcf = mcf

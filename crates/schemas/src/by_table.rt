@@ -7,6 +7,9 @@ use crate::tables::CAF_WIDTH;
 use crate::tables::CAP_KIND;
 use crate::tables::CAP_MANDATORY;
 use crate::tables::CAP_WIDTH;
+use crate::tables::MCF_KIND;
+use crate::tables::MCF_MANDATORY;
+use crate::tables::MCF_WIDTH;
 use crate::tables::OCF_KIND;
 use crate::tables::OCF_MANDATORY;
 use crate::tables::OCF_WIDTH;
@@ -37,7 +40,7 @@ ghost use lib.ListN.{length};
 ghost use Rattle.lines.specs.Columns.{columnIn};
 ghost use Rattle.schemas.specs.Tables.{schema};
 ghost use Rattle.schemas.specs.Reasons.{shapeBy};
-ghost use Rattle.schemas.specs.declared.Table.the-variants.{Pid, Pic, Plf, Pcf, Caf, Cap, Txf, Txp, Ocf, Ocp};
+ghost use Rattle.schemas.specs.declared.Table.the-variants.{Pid, Pic, Plf, Pcf, Caf, Cap, Txf, Txp, Ocf, Ocp, Mcf};
 
 pub fn check_pid(line: &[u8], walk: Scanned, ends: &[usize]) -> u16
     ensures { λ r. ⌜ r ≡ shapeBy (schema Pid) walk (length (now (line .entry))) (columnIn (now (line .entry)) (now (ends .entry))) ⌝ }
@@ -97,4 +100,10 @@ pub fn check_ocp(line: &[u8], walk: Scanned, ends: &[usize]) -> u16
     ensures { λ r. ⌜ r ≡ shapeBy (schema Ocp) walk (length (now (line .entry))) (columnIn (now (line .entry)) (now (ends .entry))) ⌝ }
 {
     check_row(line, walk, ends, &OCP_WIDTH, &OCP_MANDATORY, &OCP_KIND)
+}
+
+pub fn check_mcf(line: &[u8], walk: Scanned, ends: &[usize]) -> u16
+    ensures { λ r. ⌜ r ≡ shapeBy (schema Mcf) walk (length (now (line .entry))) (columnIn (now (line .entry)) (now (ends .entry))) ⌝ }
+{
+    check_row(line, walk, ends, &MCF_WIDTH, &MCF_MANDATORY, &MCF_KIND)
 }

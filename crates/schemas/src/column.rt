@@ -1,11 +1,13 @@
 // Why a column by itself is refused: reasons 4 to 7.
+use crate::coefficient::COEFFICIENT;
+use crate::coefficient::coefficient_reason;
 use crate::letters::letter_reason;
 use crate::ranges::number_reason;
 ghost use mathlib.Core.Path.{_≡_};
 ghost use Rattle.schemas.specs.Reasons.{kindReason, columnReason};
 ghost use Rattle.schemas.specs.Constants.{kindAt, columnFrom};
 
-// The kind of a column of any text; the numbers' kinds follow it, and from FIRST_LETTERS on the letters'.
+// The kind of a column of any text; the numbers' kinds follow it, from FIRST_LETTERS on the letters', and COEFFICIENT is the last.
 pub(crate) const TEXT: u8 = 0;
 
 const FIRST_LETTERS: u8 = 128;
@@ -16,6 +18,9 @@ fn kind_reason(text: &[u8], kind: u8) -> u8
 {
     if kind == TEXT {
         return 0;
+    }
+    if kind == COEFFICIENT {
+        return coefficient_reason(text);
     }
     if kind < FIRST_LETTERS {
         return number_reason(text, kind);

@@ -1,5 +1,6 @@
 // The columns of the tables, and reasons 1 to 7 of a row's verdict.
 pub mod by_table;
+mod coefficient;
 mod column;
 mod letters;
 mod ranges;
@@ -26,6 +27,7 @@ pub enum Table {
     Txp,
     Ocf,
     Ocp,
+    Mcf,
 }
 
 // A row has at most so many bytes before its line feed.

@@ -1,4 +1,5 @@
 // The tables' columns: for each its width in bytes, 1 where it is mandatory, and its kind.
+use crate::coefficient::COEFFICIENT;
 use crate::column::TEXT;
 use crate::letters::CATEGORY;
 use crate::letters::CHECK_TYPE;
@@ -209,4 +210,18 @@ pub(crate) const OCP_KIND: [u8; 7] = [
     RAW_VALUE,
     TEXT,
     VALIDITY_VALUE,
+];
+
+pub(crate) const MCF_WIDTH: [u8; 7] = [10, 32, 14, 14, 14, 14, 14];
+
+pub(crate) const MCF_MANDATORY: [u8; 7] = [1, 0, 1, 0, 0, 0, 0];
+
+pub(crate) const MCF_KIND: [u8; 7] = [
+    TEXT,
+    TEXT,
+    COEFFICIENT,
+    COEFFICIENT,
+    COEFFICIENT,
+    COEFFICIENT,
+    COEFFICIENT,
 ];

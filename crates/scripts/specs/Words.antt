@@ -28,7 +28,7 @@ wordPlace word (w ∷ ws) = cond (sameName (nameOf w) (nameOf word)) 0 (suc (wor
 
 -- the tables in 01's order, the packet, and the other words that set something; their number is none of them
 unfoldable pub settingOf : List ℕ → ℕ
-settingOf word = wordPlace word (columnsOf (ascii "pid\tpic\tplf\tpcf\tcaf\tcap\ttxf\ttxp\tocf\tocp\tpacket\tpacket+\tfill\tclear\tstate"))
+settingOf word = wordPlace word (columnsOf (ascii "pid\tpic\tplf\tpcf\tcaf\tcap\ttxf\ttxp\tocf\tocp\tmcf\tpacket\tpacket+\tfill\tclear\tstate"))
 
 -- the questions; 12 is none of them
 unfoldable pub questionOf : List ℕ → ℕ
@@ -39,7 +39,7 @@ pub record Examples : Type 0 where
   pub text : afterWord (ascii "extract T1|0") ≡ ascii "T1|0"
   pub alone : afterWord (ascii "import") ≡ []
   pub eighth : settingOf (ascii "txp") ≡ 7
-  pub none-such : settingOf (ascii "txq") ≡ 15
+  pub none-such : settingOf (ascii "txq") ≡ 16
   pub fourth : questionOf (ascii "extract") ≡ 3
 
 pub examples : Examples

@@ -62,7 +62,7 @@ pub fn setting_of(word: &[u8]) -> usize
     ensures { λ r. ⌜ r ≡ settingOf (now (word .entry)) ⌝ }
 {
     place_in(
-        b"pid\tpic\tplf\tpcf\tcaf\tcap\ttxf\ttxp\tocf\tocp\tpacket\tpacket+\tfill\tclear\tstate",
+        b"pid\tpic\tplf\tpcf\tcaf\tcap\ttxf\ttxp\tocf\tocp\tmcf\tpacket\tpacket+\tfill\tclear\tstate",
         word,
     )
 }

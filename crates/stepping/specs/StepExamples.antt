@@ -44,6 +44,7 @@ use Rattle.verdicts.specs.Key.{keyWords, sameKey}
 use Rattle.verdicts.specs.Facts.{factsOf, pidKeys, pidFacts, plfFacts, pcfFacts, cafFacts, capFacts, ocfFacts, ocpFacts}
 use Rattle.database.specs.Rows.{Row, Rows}
 use Rattle.database.specs.GoodRows.{holdsKey, inGroup, find, among}
+use Rattle.database.specs.Kinds.{isPolynomial}
 use Rattle.raw_values.specs.RawValues.{isString, startOf, valueAt, fieldRaw, rawIn, rawOf}
 use Rattle.parameters.specs.Located.{byLines, needed, located}
 use Rattle.readings.specs.Readings.{sameInteger, equals, agrees, withValidity, readingWith, validWithin, validity}
@@ -128,7 +129,7 @@ unfolding
     identifyHeaded chooseBy chosen fiveNumbers numbersOf identifiersFrom picRowOf orOther
     headOf version typeBit lengthField flagged apid sequenceCount
     validity validWithin readingWith located needed byLines withValidity agrees equals sameInteger
-    scaleOf onScale curveOf curveBy curveEnds xvalsOf yvalsOf along outcomeOf
+    scaleOf onScale curveOf curveBy curveEnds isPolynomial xvalsOf yvalsOf along outcomeOf
     among find holdsKey inGroup factsOf pidKeys pidFacts plfFacts pcfFacts cafFacts capFacts ocfFacts ocpFacts
     sameKey keyWords sameBytes sameName sameCurveName
     pidRow plfRow pcfRow cafRow capRow ocfRow ocpRow column columnsOf columnsFrom nameOf curveNameOf

@@ -4,12 +4,13 @@ use mathlib.Core.Path.{_≡_, refl}
 use mathlib.Core.Bool.{cond, true, false}
 use mathlib.Core.List.{List}
 use lib.IntN.{negsuc, natAbs}
+use lib.Ieee.{binary64, toBits}
 use Rattle.outcomes.specs.Outcome.{Outcome, refused, answer}
 use Rattle.outcomes.specs.Values.{Value, number, part}
 use Rattle.database.specs.Rows.{Rows}
 use Rattle.identification.specs.Identification.{Identity, identifyBy}
 use Rattle.readings.specs.Readings.{Reading}
-use Rattle.engineering.specs.Engineering.{Engineered, value, text}
+use Rattle.engineering.specs.Engineering.{Engineered, value, double, text}
 use Rattle.extraction.specs.Extraction.{extractBy}
 use Rattle.extraction.specs.Engineering.{engineerBy}
 use Rattle.surveying.specs.declared.asking.Question.{Question}
@@ -32,10 +33,11 @@ unfoldable pub tellReading : Outcome Reading → Told
 tellReading (refused n place) = Refused
 tellReading (answer reading) = Weighs (cond (reading .valid) (weightOf (reading .value)) 0)
 
--- a text weighs where it starts in its table
+-- a double weighs its bits, a text where it starts in its table
 unfoldable pub tellEngineered : Outcome Engineered → Told
 tellEngineered (refused n place) = Refused
 tellEngineered (answer (value v)) = Weighs (weightOf v)
+tellEngineered (answer (double x)) = Weighs (toBits binary64 x)
 tellEngineered (answer (text t)) = Weighs (t .start)
 
 -- of a parameter its occurrence 0 is asked for

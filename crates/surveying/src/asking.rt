@@ -6,6 +6,7 @@ use extraction::extract::extract_in;
 use identification::Identified;
 use identification::identify_in;
 use outcomes::Value;
+use polynomials::bits_of;
 use readings::Reading;
 use tables::TABLES;
 ghost use mathlib.Core.Path.{_≡_};
@@ -66,6 +67,7 @@ fn tell_engineered(engineered: Engineered) -> Told
 {
     match engineered {
         Engineered::Is(value) => Told::Weighs(weigh(value)),
+        Engineered::Double(x) => Told::Weighs(bits_of(x)),
         Engineered::Text(_, from, _) => Told::Weighs(from.0 as u64),
         Engineered::Refused(_) => Told::Refused,
     }

@@ -7,9 +7,9 @@ use Rattle.laws.specs.Text.{ascii}
 use Rattle.lines.specs.Columns.{columnsOf, columnsFrom, columnAt}
 use Rattle.lines.specs.Names.{nameOf}
 use Rattle.lines.specs.declared.names.Name.{Name}
-use Rattle.schemas.specs.Tables.{schema, pid, pic, plf, pcf, caf, cap, txf, txp, ocf, ocp}
+use Rattle.schemas.specs.Tables.{schema, pid, pic, plf, pcf, caf, cap, txf, txp, ocf, ocp, mcf}
 use Rattle.schemas.specs.declared.Table.{Table}
-use Rattle.schemas.specs.declared.Table.the-variants.{Pid, Pic, Plf, Pcf, Caf, Cap, Txf, Txp, Ocf, Ocp}
+use Rattle.schemas.specs.declared.Table.the-variants.{Pid, Pic, Plf, Pcf, Caf, Cap, Txf, Txp, Ocf, Ocp, Mcf}
 
 -- a table's columns as one line, divided by TAB as its rows are
 unfoldable pub headings : Table → List ℕ
@@ -25,6 +25,7 @@ headings Txf = ascii "NUMBR\tDESCR\tRAWFMT\tNALIAS"
 headings Txp = ascii "NUMBR\tFROM\tTO\tALTXT"
 headings Ocf = ascii "NAME\tNBCHCK\tNBOOL\tINTER\tCODIN"
 headings Ocp = ascii "NAME\tPOS\tTYPE\tLVALU\tHVALU\tRLCHK\tVALPAR"
+headings Mcf = ascii "IDENT\tDESCR\tPOL1\tPOL2\tPOL3\tPOL4\tPOL5"
 
 -- column k of a line of headings, from 1; there is none at 0 and past the last
 unfoldable pub heading : List ℕ → ℕ → Name
@@ -33,9 +34,9 @@ heading line k = nameOf (columnAt ([] ∷ columnsOf line) k)
 unfoldable pub columnName : Table → ℕ → Name
 columnName t k = heading (headings t) k
 
--- 01: "tables pid, pic, plf, pcf, caf, cap, txf, txp, ocf, ocp, in that order"
+-- 01: "tables pid, pic, plf, pcf, caf, cap, txf, txp, ocf, ocp, in that order"; 02, P1: "mcf last"
 abbrev pub tableNames : List ℕ
-tableNames = ascii "pid\tpic\tplf\tpcf\tcaf\tcap\ttxf\ttxp\tocf\tocp"
+tableNames = ascii "pid\tpic\tplf\tpcf\tcaf\tcap\ttxf\ttxp\tocf\tocp\tmcf"
 
 -- the name of a table by its number, from 1
 unfoldable pub tableName : ℕ → Name
@@ -43,7 +44,7 @@ tableName t = heading tableNames t
 
 -- a table has a name for each of its columns
 pub each-named : (t : Table) → length (columnsOf (headings t)) ≡ length (schema t)
-unfolding headings columnsOf columnsFrom schema pid pic plf pcf caf cap txf txp ocf ocp
+unfolding headings columnsOf columnsFrom schema pid pic plf pcf caf cap txf txp ocf ocp mcf
 each-named Pid = refl
 each-named Pic = refl
 each-named Plf = refl
@@ -54,6 +55,7 @@ each-named Txf = refl
 each-named Txp = refl
 each-named Ocf = refl
 each-named Ocp = refl
+each-named Mcf = refl
 
 pub record Examples : Type 0 where
   pub valid : columnName Pcf 8 ≡ nameOf (ascii "VALID")

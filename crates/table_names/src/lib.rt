@@ -52,6 +52,7 @@ pub fn column_name(table: Table, k: usize) -> Name
         Table::Txp => heading(b"NUMBR\tFROM\tTO\tALTXT", k),
         Table::Ocf => heading(b"NAME\tNBCHCK\tNBOOL\tINTER\tCODIN", k),
         Table::Ocp => heading(b"NAME\tPOS\tTYPE\tLVALU\tHVALU\tRLCHK\tVALPAR", k),
+        Table::Mcf => heading(b"IDENT\tDESCR\tPOL1\tPOL2\tPOL3\tPOL4\tPOL5", k),
     }
 }
 
@@ -59,5 +60,8 @@ pub fn column_name(table: Table, k: usize) -> Name
 pub fn table_name(table: TableNumber) -> Name
     ensures { λ r. ⌜ r ≡ tableName (table .0) ⌝ }
 {
-    heading(b"pid\tpic\tplf\tpcf\tcaf\tcap\ttxf\ttxp\tocf\tocp", table.0)
+    heading(
+        b"pid\tpic\tplf\tpcf\tcaf\tcap\ttxf\ttxp\tocf\tocp\tmcf",
+        table.0,
+    )
 }

@@ -15,7 +15,7 @@ ghost use Rattle.tables.specs.Sizes.{saidSizes, sizesOf, feeds};
 ghost use Rattle.tables.specs.Parts.{tableIn, tablesIn};
 
 // How many tables there are.
-pub const TABLES: usize = 10;
+pub const TABLES: usize = 11;
 
 // Which they are, in their order.
 const CARRIED: [Table; TABLES] = [
@@ -29,6 +29,7 @@ const CARRIED: [Table; TABLES] = [
     Table::Txp,
     Table::Ocf,
     Table::Ocp,
+    Table::Mcf,
 ];
 
 // A table has at most so many bytes and rows.

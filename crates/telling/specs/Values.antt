@@ -5,6 +5,7 @@ use mathlib.Core.Bool.{Bool, true, false, cond}
 use mathlib.Core.List.{List, [], _∷_, _++_}
 use lib.Dec.{ltb}
 use lib.IntN.{ℤ, pos, negsuc}
+use lib.Ieee.{binary64, toBits, ofBits}
 use Rattle.key_symbols.specs.declared.FiveNumbers.{FiveNumbers}
 use Rattle.outcomes.specs.Outcome.{Outcome, refused, answer}
 use Rattle.outcomes.specs.Values as values
@@ -12,7 +13,7 @@ use Rattle.verdicts.specs.Answer as import
 use Rattle.identification.specs.Identification.{Identity}
 use Rattle.readings.specs.Readings.{Reading}
 use Rattle.texts.specs.Texts.{Text}
-use Rattle.engineering.specs.Engineering.{Engineered, value, text}
+use Rattle.engineering.specs.Engineering.{Engineered, value, double, text}
 use Rattle.limit_state.specs.declared.state.LimitState.{LimitState}
 
 -- a number of 64 bits as the i64 of the same bits: itself below 2 ^ 63, and 2 ^ 64 less from there on
@@ -50,9 +51,11 @@ ofValue (values.part start bytes) = pos 1 ∷ word start ∷ word bytes ∷ []
 unfoldable pub ofReading : Reading → List ℤ
 ofReading r = ofValue (r .value) ++ flagNumber (r .valid) ∷ []
 
--- or 2 and a text, the txp row's number and ALTXT's first byte in txp and its length
+-- or 2 and a text, the txp row's number and ALTXT's first byte in txp and its length; or 3 and a double's bits.
+-- 02, P1: "its bits are what is promised"
 unfoldable pub ofEngineered : Engineered → List ℤ
 ofEngineered (value v) = ofValue v
+ofEngineered (double x) = pos 3 ∷ word (toBits binary64 x) ∷ []
 ofEngineered (text t) = pos 2 ∷ word (t .row) ∷ word (t .start) ∷ word (t .bytes) ∷ []
 
 -- 01: "The state is: fresh or not, APID, sequence count, run, announced": the state after the packet
@@ -64,6 +67,8 @@ pub record Examples : Type 0 where
   pub integer : ofReading (record { value = values.number (negsuc 0); valid = true }) ≡ pos 0 ∷ negsuc 0 ∷ pos 1 ∷ []
   -- the text of txp row 3, 5 bytes from byte 40 of the table on
   pub altxt : ofEngineered (text (record { row = 3; start = 40; bytes = 5 })) ≡ pos 2 ∷ pos 3 ∷ pos 40 ∷ pos 5 ∷ []
+  -- -0.5, of bits 0xBFE0000000000000
+  pub minus-half : ofEngineered (double (ofBits binary64 0xBFE0000000000000)) ≡ pos 3 ∷ negsuc 0x401FFFFFFFFFFFFF ∷ []
   -- APID 10, count 0, a run of 3, soft
   pub state : ofState (record { fresh = false; apid = 10; count = 0; run = 3; announced = 1 }) ≡ pos 0 ∷ pos 10 ∷ pos 0 ∷ pos 3 ∷ pos 1 ∷ []
   -- the greatest i64, the next number, and the greatest of 64 bits
@@ -71,5 +76,5 @@ pub record Examples : Type 0 where
       ≡ pos 9223372036854775807 ∷ negsuc 9223372036854775807 ∷ negsuc 0 ∷ []
 
 pub examples : Examples
-unfolding word flagNumber ofValue ofReading ofEngineered ofState
-examples = record { integer = refl; altxt = refl; state = refl; words = refl }
+unfolding word flagNumber ofValue ofReading ofEngineered ofState toBits ofBits
+examples = record { integer = refl; altxt = refl; minus-half = refl; state = refl; words = refl }

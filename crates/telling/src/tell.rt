@@ -11,6 +11,7 @@ use outcomes::Refusal;
 use outcomes::Value;
 use outcomes::number_of;
 use outcomes::place_of;
+use polynomials::bits_of;
 use readings::Reading;
 ghost use mathlib.Core.Path.{_≡_};
 ghost use lib.ListN.{take};
@@ -122,6 +123,7 @@ pub fn tell_engineered(engineered: Engineered) -> Telling
 {
     match engineered {
         Engineered::Is(value) => tell_value(value),
+        Engineered::Double(x) => tell([3, as_word(bits_of(x)), 0, 0, 0, 0, 0, 0], 2),
         Engineered::Text(row, from, bytes) => {
             let number = as_word(row.0 as u64);
             let start = as_word(from.0 as u64);

@@ -1,29 +1,28 @@
--- The kind that ocf asks for under INTER C: of a good pcf row, what CURTX names is there just where CURTX is given.
-use mathlib.Core.Path.{_≡_, refl, _∙_}
-use mathlib.Core.Bool.{Bool, true, false, cond, _&&_}
-use mathlib.Core.List.{List, [], _∷_, _++_, List·Memᴰ, List·Memᴰ·head, List·Memᴰ·tail}
+-- The kind that ocf asks for under INTER C: CURTX of the pcf row is given, and a curve through points holds the key that it names.
+use mathlib.Core.Path.{_≡_, refl, ap, _∙_}
+use mathlib.Core.Bool.{Bool, true, false, cond, _&&_, _||_}
+use mathlib.Core.List.{List, [], _∷_, _++_}
 use lib.Dec.{eqb}
 use Rattle.laws.specs.Lists.{any}
-use Rattle.laws.proofs.Cases.{and-both}
-use Rattle.laws.proofs.Tests.{any-mem, any-never, any-keep}
+use Rattle.laws.proofs.Tests.{any-never, any-keep}
 use Rattle.rows.specs.declared.records.PcfRow.{PcfRow}
-use Rattle.verdicts.specs.Key.{parameter}
-use Rattle.verdicts.specs.Facts.{anyRow, whole, itself, through, Naming, curtxKey, pcfFacts}
+use Rattle.verdicts.specs.Key.{Key, parameter}
+use Rattle.verdicts.specs.Facts.{anyRow, whole, points, itself, through, Naming, curtxKey, pcfFacts}
 use Rattle.verdicts.specs.Entries.{Entry, fine, facts}
 use Rattle.verdicts.specs.Steps.{holds, namesAt}
-use Rattle.verdicts.specs.Verdicts.{ofKind, verdict}
-use Rattle.verdicts.proofs.GoodLaw.{good-law}
+use Rattle.verdicts.specs.Verdicts.{ofKind}
 
--- the second of two names, where it is given
-last-named : (v w : Bool) (m n : Naming) → w ≡ true → List·Memᴰ n (cond v (m ∷ []) [] ++ cond w (n ∷ []) [])
-last-named true w m n e = rw e (List·Memᴰ·tail (List·Memᴰ·head refl))
-last-named false w m n e = rw e (List·Memᴰ·head refl)
+or-false : (b : Bool) → (b || false) ≡ b
+or-false true = refl
+or-false false = refl
 
--- a name of another column alone
-other-named : (v : Bool) (m : Naming) (q : Entry) → eqb (m .column) 12 ≡ false
-    → any (λ k. eqb (k .column) 12 && holds q (k .key)) (cond v (m ∷ []) [] ++ []) ≡ false
-other-named true m q e = rw e
-other-named false m q e = refl
+-- of two names, each given or not, of which the second alone is at column 12
+at-12 : (v w : Bool) (m n : Naming) (q : Entry) → eqb (m .column) 12 ≡ false → eqb (n .column) 12 ≡ true
+    → any (λ k. eqb (k .column) 12 && holds q (k .key)) (cond v (m ∷ []) [] ++ cond w (n ∷ []) []) ≡ (w && holds q (n .key))
+at-12 true true m n q e f = rw (e, f) (or-false (holds q (n .key)))
+at-12 true false m n q e f = rw e
+at-12 false true m n q e f = rw f (or-false (holds q (n .key)))
+at-12 false false m n q e f = refl
 
 module _ (rows : List Entry) (o : Entry) (r : PcfRow) (says : o .reading ≡ fine (pcfFacts r)) where
   abbrev valid : Naming
@@ -32,26 +31,22 @@ module _ (rows : List Entry) (o : Entry) (r : PcfRow) (says : o .reading ≡ fin
   abbrev curtx : Naming
   curtx = record { column = 12; key = curtxKey (r .categ) (r .curtx); kind = itself anyRow; chained = false }
 
-  given : r .curtx .given ≡ true → verdict rows o ≡ 0 → ofKind rows (through 12 anyRow) o ≡ true
-  unfolding ofKind namesAt pcfFacts
-  given c z =
-      let i : List·Memᴰ curtx (facts o .names) = rw says (last-named (r .valid .given) (r .curtx .given) valid curtx c) in
-      let w = good-law rows o .0 z .named curtx i in
-      any-keep (namesAt 12 o) (λ q. facts q .meets anyRow) rows
-      ∙ any-mem (λ q. namesAt 12 o q && facts q .meets anyRow) (w .1 .there)
-      (and-both (any-mem (λ m. eqb (m .column) 12 && holds (w .0) (m .key)) i (w .1 .held)) (w .1 .kind))
+  names-curtx : (q : Entry) → namesAt 12 o q ≡ (r .curtx .given && holds q (curtx .key))
+  unfolding namesAt pcfFacts
+  names-curtx q = rw says (at-12 (r .valid .given) (r .curtx .given) valid curtx q refl refl)
 
-  missing : r .curtx .given ≡ false → ofKind rows (through 12 anyRow) o ≡ false
-  unfolding ofKind namesAt pcfFacts
-  missing c =
-      any-keep (namesAt 12 o) (λ q. facts q .meets anyRow) rows
-      ∙ any-never (λ q. namesAt 12 o q && facts q .meets anyRow) rows
-      (λ q. let e : namesAt 12 o q ≡ false = rw (says, c) (other-named (r .valid .given) valid q refl) in rw e)
+  -- a row through points that holds the key of CURTX
+  abbrev pub isCurve : Entry → Bool
+  isCurve q = holds q (curtx .key) && facts q .meets points
 
-  -- 01: "C needs CURTX in that pcf row": what it names is there just where it is given
-  pub calibrated-law : verdict rows o ≡ 0 → ofKind rows (through 12 anyRow) o ≡ r .curtx .given
-  calibrated-law z = go (r .curtx .given) refl
-    where
-      go : (b : Bool) → r .curtx .given ≡ b → ofKind rows (through 12 anyRow) o ≡ b
-      go true c = given c z
-      go false c = missing c
+  both : (b : Bool) → any (λ q. (b && holds q (curtx .key)) && facts q .meets points) rows ≡ (b && any isCurve rows)
+  both true = refl
+  both false = any-never (λ q. (false && holds q (curtx .key)) && facts q .meets points) rows (λ q. refl)
+
+  -- 01: "C needs CURTX in that pcf row"; 02, P1: "a limit with INTER C on a polynomial is reason 11 at column 4"
+  pub calibrated-law : ofKind rows (through 12 points) o ≡ (r .curtx .given && any isCurve rows)
+  unfolding ofKind
+  calibrated-law =
+      any-keep (namesAt 12 o) (λ q. facts q .meets points) rows
+      ∙ ap (λ (f : Entry → Bool). any (λ q. f q && facts q .meets points) rows) (λ i q. names-curtx q i)
+      ∙ both (r .curtx .given)

@@ -38,7 +38,8 @@ tooManyRows texts = firstTable (λ text. ltb mostRows (length (linesOf text))) 1
 unfoldable pub zeros : List ℕ → ℕ
 zeros cells = length (keep (λ cell. eqb cell 0) cells)
 
--- 01: "The least number decides"; "for 1 and 2 the first such table, 1 to 10"; "else 0"
+-- 01: "The least number decides"; "for 1 and 2 the first such table, 1 to 10"; "else 0".
+-- 02, P1: "cells and places count eleven tables"
 unfoldable pub importOf : List (List ℕ) → (room : ℕ) → Imported
 importOf texts room =
     cond (eqb (tooLong texts) 0)

@@ -6,7 +6,7 @@ use lib.Dec.{eqb}
 use lib.ListN.{length, getD}
 use Rattle.lines.specs.Lines.{Line, linesOf}
 use Rattle.schemas.specs.declared.Table.{Table}
-use Rattle.schemas.specs.declared.Table.the-variants.{Pid, Pic, Plf, Pcf, Caf, Cap, Txf, Txp, Ocf, Ocp}
+use Rattle.schemas.specs.declared.Table.the-variants.{Pid, Pic, Plf, Pcf, Caf, Cap, Txf, Txp, Ocf, Ocp, Mcf}
 use Rattle.formed.specs.Formed.{formed}
 use Rattle.verdicts.specs.Facts.{Facts, factsOf}
 
@@ -37,9 +37,9 @@ factsIn (fine facts) = facts
 abbrev pub facts : Entry → Facts
 facts e = factsIn (e .reading)
 
--- 01: "tables pid, pic, plf, pcf, caf, cap, txf, txp, ocf, ocp, in that order"
+-- 01: "tables pid, pic, plf, pcf, caf, cap, txf, txp, ocf, ocp, in that order"; 02, P1: "eleven tables, mcf last"
 abbrev pub carried : List Table
-carried = Pid ∷ Pic ∷ Plf ∷ Pcf ∷ Caf ∷ Cap ∷ Txf ∷ Txp ∷ Ocf ∷ Ocp ∷ []
+carried = Pid ∷ Pic ∷ Plf ∷ Pcf ∷ Caf ∷ Cap ∷ Txf ∷ Txp ∷ Ocf ∷ Ocp ∷ Mcf ∷ []
 
 -- how many tables there are
 abbrev pub tableCount : ℕ

@@ -3,8 +3,8 @@ use Prim.Native.Nat.{ℕ}
 use mathlib.Core.Bool.{Bool, true, false, cond, _&&_}
 use mathlib.Core.List.{List, [], _∷_, _++_}
 use Rattle.schemas.specs.declared.Table.{Table}
-use Rattle.schemas.specs.declared.Table.the-variants.{Pid, Pic, Plf, Pcf, Caf, Cap, Txf, Txp, Ocf, Ocp}
-use Rattle.rows.specs.Records.{pidRow, picRow, plfRow, pcfRow, cafRow, capRow, txfRow, txpRow, ocfRow, ocpRow}
+use Rattle.schemas.specs.declared.Table.the-variants.{Pid, Pic, Plf, Pcf, Caf, Cap, Txf, Txp, Ocf, Ocp, Mcf}
+use Rattle.rows.specs.Records.{pidRow, picRow, plfRow, pcfRow, cafRow, capRow, txfRow, txpRow, ocfRow, ocpRow, mcfRow}
 use Rattle.formed.specs.Contradictions.{isWhole}
 use Rattle.rows.specs.declared.records.OptionalName.{OptionalName}
 use Rattle.rows.specs.declared.records.OptionalCurve.{OptionalCurve}
@@ -18,6 +18,7 @@ use Rattle.rows.specs.declared.records.TxfRow.{TxfRow}
 use Rattle.rows.specs.declared.records.TxpRow.{TxpRow}
 use Rattle.rows.specs.declared.records.OcfRow.{OcfRow}
 use Rattle.rows.specs.declared.records.OcpRow.{OcpRow}
+use Rattle.rows.specs.declared.records.McfRow.{McfRow}
 use Rattle.rows.specs.declared.letters.Valid.{Valid}
 use Rattle.rows.specs.declared.letters.Valid.the-variants.{Yes, No}
 use Rattle.rows.specs.declared.letters.Category.{Category}
@@ -38,6 +39,8 @@ pub data Condition : Type 0 where
   whole : Condition
   -- 01: "a pcf row of PTC 1–4, CATEG N"
   numeric : Condition
+  -- 01: "a caf row", where an mcf row holds such keys too: a curve through points
+  points : Condition
 
 -- what is asked of a named row beside being there and good. 01: "of the kind asked"
 pub data Kind : Type 0 where
@@ -76,6 +79,7 @@ plainly anyRow = true
 plainly raw = false
 plainly whole = false
 plainly numeric = false
+plainly points = false
 
 -- a name in a column that may be empty
 abbrev when : Bool → Naming → List Naming
@@ -123,8 +127,9 @@ pcfMeets r anyRow = true
 pcfMeets r raw = isRaw (r .natur)
 pcfMeets r whole = isWhole (r .ptc)
 pcfMeets r numeric = isWhole (r .ptc) && isNumeric (r .categ)
+pcfMeets r points = false
 
--- 01: "S needs CURTX, naming a txf row; N may name a caf row"; T has none
+-- 01: "S needs CURTX, naming a txf row; N may name a caf row"; 02, P1: "N parameters may name either", caf or mcf. T has none
 abbrev pub curtxKey : Category → OptionalCurve → Key
 curtxKey Numeric c = curve (c .name)
 curtxKey Status c = texts (c .name)
@@ -143,6 +148,14 @@ pcfFacts r =
       meets = pcfMeets r;
     }
 
+-- of a curve through points
+abbrev pub cafMeets : Condition → Bool
+cafMeets anyRow = true
+cafMeets raw = false
+cafMeets whole = false
+cafMeets numeric = false
+cafMeets points = true
+
 -- 01: "NCURVE counts cap rows"
 unfoldable pub cafFacts : CafRow → Facts
 cafFacts r =
@@ -151,7 +164,7 @@ cafFacts r =
       names = [];
       counts = record { column = 7; number = r .ncurve; group = curve (r .numbr) } ∷ [];
       groups = [];
-      meets = plainly;
+      meets = cafMeets;
     }
 
 -- 01: "NUMBR 10! (a caf row)"
@@ -159,7 +172,7 @@ unfoldable pub capFacts : CapRow → Facts
 capFacts r =
     record {
       keys = point (r .numbr) (r .xvals) ∷ [];
-      names = record { column = 1; key = curve (r .numbr); kind = itself anyRow; chained = false } ∷ [];
+      names = record { column = 1; key = curve (r .numbr); kind = itself points; chained = false } ∷ [];
       counts = [];
       groups = curve (r .numbr) ∷ [];
       meets = plainly;
@@ -187,7 +200,7 @@ txpFacts r =
       meets = plainly;
     }
 
--- 01: "C needs CURTX in that pcf row (reason 11, column 4)"
+-- 01: "C needs CURTX in that pcf row (reason 11, column 4)"; 02, P1: "a limit with INTER C on a polynomial is reason 11 at column 4"
 abbrev pub ofEngineering : LimitValue → Naming → List Naming
 ofEngineering LV.Raw naming = []
 ofEngineering LV.Engineering naming = naming ∷ []
@@ -199,7 +212,7 @@ ocfFacts r =
       keys = limits (r .name) ∷ [];
       names =
           record { column = 1; key = parameter (r .name); kind = itself numeric; chained = false }
-          ∷ ofEngineering (r .inter) (record { column = 4; key = parameter (r .name); kind = through 12 anyRow; chained = false });
+          ∷ ofEngineering (r .inter) (record { column = 4; key = parameter (r .name); kind = through 12 points; chained = false });
       counts = record { column = 3; number = r .nbool; group = limits (r .name) } ∷ [];
       groups = [];
       meets = plainly;
@@ -218,6 +231,10 @@ ocpFacts r =
       meets = plainly;
     }
 
+-- 02, P1: "IDENT shares its keys with caf NUMBR, so a clash is reason 9 for both"
+unfoldable pub mcfFacts : McfRow → Facts
+mcfFacts r = record { keys = curve (r .ident) ∷ []; names = []; counts = []; groups = []; meets = plainly }
+
 unfoldable pub factsOf : Table → List ℕ → Facts
 factsOf Pid line = pidFacts (pidRow line)
 factsOf Pic line = picFacts (picRow line)
@@ -229,3 +246,4 @@ factsOf Txf line = txfFacts (txfRow line)
 factsOf Txp line = txpFacts (txpRow line)
 factsOf Ocf line = ocfFacts (ocfRow line)
 factsOf Ocp line = ocpFacts (ocpRow line)
+factsOf Mcf line = mcfFacts (mcfRow line)

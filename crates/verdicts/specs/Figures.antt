@@ -2,21 +2,25 @@
 use Prim.Native.Nat.{ℕ}
 use Prim.Native.String.{String}
 use mathlib.Core.Path.{_≡_, refl}
-use mathlib.Core.Bool.{true, false}
+use mathlib.Core.Bool.{Bool, true, false}
 use mathlib.Core.List.{List, [], _∷_, _++_, map}
 use Rattle.laws.specs.Text.{ascii}
 use Rattle.numbers.specs.Number.{digitOf, digitOn, after, spelt, meaning, numberOf}
 use Rattle.lines.specs.Columns.{tab, columnsFrom, columnsOf, printable, allowed, foreignIn}
 use Rattle.lines.specs.Lines.{lineFeed, onFirst, lead, linesOf}
 use Rattle.lines.specs.Names.{nameOf, curveNameOf, sameBytes}
-use Rattle.schemas.specs.Tables.{caf, cap, schema}
+use Rattle.notation.specs.Stages.{onDigit, inDigits, stageAfter, stageFrom, isCoefficient}
+use Rattle.notation.specs.Scientific.{withDigit, withCharacter, scientificFrom, parsed, parsedOf}
+use Rattle.coefficients.specs.Coefficient.{scaled, doubleOf, valued, coefficientOf, coefficientReason}
+use Rattle.schemas.specs.Tables.{caf, cap, mcf, schema}
 use Rattle.schemas.specs.Reasons.{isIn, listed, numberReason, kindReason, columnReason, firstReason, shape}
 use Rattle.rows.specs.Values.{naturalFrom, naturalOr, integerFrom, integerOr, letterOf, formatOf, offEndsOf}
-use Rattle.rows.specs.Records.{column, cafRow, capRow}
+use Rattle.rows.specs.Records.{column, cafRow, capRow, mcfRow}
 use Rattle.formed.specs.Contradictions.{isReal, cafContradiction, contradiction}
 use Rattle.formed.specs.Formed.{orContradiction, formed}
 use Rattle.verdicts.specs.Key.{curve, parameter, limits, keyWords, sameKey}
-use Rattle.verdicts.specs.Facts.{anyRow, whole, Kind, itself, through, Naming, plainly, factsOf, cafFacts, capFacts}
+use Rattle.verdicts.specs.Facts.{Condition, anyRow, whole, points, Kind, itself, through, Naming, plainly, cafMeets}
+use Rattle.verdicts.specs.Facts.{factsOf, cafFacts, capFacts, mcfFacts}
 use Rattle.verdicts.specs.Entries.{Entry, bad, fine, readingOf, entriesOf, entriesFrom, allRows}
 use Rattle.verdicts.specs.Steps.{twin, holds, belongs, rivals, namesAt}
 use Rattle.verdicts.specs.Verdicts.{shared, sound, tally, countCell, follows, next, leads, circle}
@@ -29,9 +33,9 @@ rowOf [] = lineFeed ∷ []
 rowOf (c ∷ []) = ascii c ++ lineFeed ∷ []
 rowOf (c ∷ d ∷ cs) = ascii c ++ tab ∷ rowOf (d ∷ cs)
 
--- tables of which only caf and cap have rows
-abbrev curves : List ℕ → List ℕ → List (List ℕ)
-curves cafs caps = [] ∷ [] ∷ [] ∷ [] ∷ cafs ∷ caps ∷ [] ∷ [] ∷ [] ∷ [] ∷ []
+-- tables of which only caf, cap and mcf have rows
+abbrev curves : List ℕ → List ℕ → List ℕ → List (List ℕ)
+curves cafs caps mcfs = [] ∷ [] ∷ [] ∷ [] ∷ cafs ∷ caps ∷ [] ∷ [] ∷ [] ∷ [] ∷ mcfs ∷ []
 
 abbrev oneCaf : String → List ℕ
 oneCaf ncurve = rowOf ("C1" ∷ "" ∷ "I" ∷ "I" ∷ "" ∷ "" ∷ ncurve ∷ "" ∷ [])
@@ -39,25 +43,47 @@ oneCaf ncurve = rowOf ("C1" ∷ "" ∷ "I" ∷ "I" ∷ "" ∷ "" ∷ ncurve ∷ 
 abbrev twoCaps : List ℕ
 twoCaps = rowOf ("C1" ∷ "0" ∷ "0" ∷ []) ++ rowOf ("C1" ∷ "10" ∷ "-5" ∷ [])
 
+abbrev oneMcf : String → String → List ℕ
+oneMcf ident pol1 = rowOf (ident ∷ "" ∷ pol1 ∷ "" ∷ "" ∷ "" ∷ "" ∷ [])
+
 pub record FromBytes : Type 0 where
   -- 01: "A caf row with NCURVE 3, two sound cap rows of it and nothing else: cells 2567, 2817, 2817; three rows, none good"
-  pub miscounted : verdicts (curves (oneCaf "3") twoCaps) ≡ 2567 ∷ 2817 ∷ 2817 ∷ []
-  pub answered : importOf (curves (oneCaf "3") twoCaps) 3 ≡ taken 3 0
+  pub miscounted : verdicts (curves (oneCaf "3") twoCaps []) ≡ 2567 ∷ 2817 ∷ 2817 ∷ []
+  pub answered : importOf (curves (oneCaf "3") twoCaps []) 3 ≡ taken 3 0
   -- with the right count all are good
-  pub counted : importOf (curves (oneCaf "2") twoCaps) 3 ≡ taken 3 3
+  pub counted : importOf (curves (oneCaf "2") twoCaps []) 3 ≡ taken 3 3
+  -- 02, P1: "a clash is reason 9 for both"; the points then name no good row
+  pub clash : verdicts (curves (oneCaf "2") twoCaps (oneMcf "C1" "0.5")) ≡ 2304 ∷ 2817 ∷ 2817 ∷ 2304 ∷ []
+  -- points of a polynomial: 11 at column 1; a polynomial of another name; a coefficient that is none
+  pub pointsOfPolynomial : verdicts (curves [] twoCaps (oneMcf "C1" "0.5")) ≡ 2817 ∷ 2817 ∷ 0 ∷ []
+  pub polynomial : verdicts (curves (oneCaf "2") twoCaps (oneMcf "C2" "1e22")) ≡ 0 ∷ 0 ∷ 0 ∷ 0 ∷ []
+  pub comma : verdicts (curves [] [] (oneMcf "C2" "0,5")) ≡ 1539 ∷ []
   -- no room for three cells
-  pub noRoom : importOf (curves (oneCaf "2") twoCaps) 2 ≡ refused 3 0
+  pub noRoom : importOf (curves (oneCaf "2") twoCaps []) 2 ≡ refused 3 0
 
 pub fromBytes : FromBytes
 unfolding
     digitOf digitOn after spelt meaning numberOf columnsFrom columnsOf onFirst lead linesOf nameOf curveNameOf sameBytes
-    caf cap schema printable allowed foreignIn isIn listed numberReason kindReason columnReason firstReason shape naturalFrom naturalOr integerFrom
+    caf cap mcf schema coefficientReason coefficientOf valued doubleOf scaled parsedOf parsed isCoefficient scientificFrom withCharacter withDigit
+    stageFrom stageAfter inDigits onDigit printable allowed foreignIn isIn listed numberReason kindReason columnReason firstReason shape
+    naturalFrom naturalOr integerFrom
     integerOr letterOf formatOf offEndsOf
-    column cafRow capRow isReal cafContradiction contradiction orContradiction formed keyWords sameKey factsOf cafFacts capFacts readingOf entriesOf
+    column cafRow capRow mcfRow isReal cafContradiction contradiction orContradiction formed keyWords sameKey factsOf cafFacts capFacts mcfFacts
+    readingOf entriesOf
     entriesFrom allRows
     twin holds belongs rivals shared sound tally countCell follows next leads circle namesAt ofKind asked nameCell judge within verdict verdicts
     firstTable tooLong tooManyRows zeros importOf
-fromBytes = record { miscounted = refl; answered = refl; counted = refl; noRoom = refl }
+fromBytes =
+    record {
+      miscounted = refl;
+      answered = refl;
+      counted = refl;
+      clash = refl;
+      pointsOfPolynomial = refl;
+      polynomial = refl;
+      comma = refl;
+      noRoom = refl;
+    }
 
 -- Rows by their facts, of parameters with one letter for a name
 
@@ -98,20 +124,26 @@ odd r name = record {
   });
 }
 
--- a caf row that meets anyRow alone
-abbrev curveRow : String → Entry
-curveRow name =
+-- a row that holds a curve's key: in caf it is through points, in mcf it isn't
+abbrev curveRow : (table : ℕ) → String → (Condition → Bool) → Entry
+curveRow table name meets =
     record {
-      table = 4;
+      table = table;
       row = 1;
       reading = fine (record {
         keys = curve (curveNameOf (ascii name)) ∷ [];
         names = [];
         counts = [];
         groups = [];
-        meets = plainly;
+        meets = meets;
       });
     }
+
+abbrev cafEntry : String → Entry
+cafEntry name = curveRow 4 name cafMeets
+
+abbrev mcfEntry : String → Entry
+mcfEntry name = curveRow 10 name plainly
 
 -- an ocf row that asks at column 4 for a parameter of this kind
 abbrev limitOn : String → Kind → Entry
@@ -141,12 +173,12 @@ pub record FromFacts : Type 0 where
   pub twoHolders : cellsOf (pcfEntry 1 "A" (valid "B" ∷ []) ∷ pcfEntry 2 "B" (valid "A" ∷ []) ∷ pcfEntry 3 "B" [] ∷ []) ≡ 2824 ∷ 2304 ∷ 2304 ∷ []
   -- the named row is there and good, but not of the kind asked
   pub otherKind : cellsOf (pcfEntry 1 "A" (valid "B" ∷ []) ∷ odd 2 "B" ∷ []) ≡ 2824 ∷ 0 ∷ []
-  -- 01: "C needs CURTX in that pcf row": it names a row; it names none; and a good VALID is no CURTX
-  pub secondRow : cellsOf (limitOn "A" (through 12 anyRow) ∷ pcfEntry 1 "A" (curtx "K" ∷ []) ∷ curveRow "K" ∷ []) ≡ 0 ∷ 0 ∷ 0 ∷ []
-  pub noSecondRow : cellsOf (limitOn "A" (through 12 anyRow) ∷ pcfEntry 1 "A" [] ∷ curveRow "K" ∷ []) ≡ 2820 ∷ 0 ∷ 0 ∷ []
-  pub otherColumn : cellsOf (limitOn "A" (through 12 anyRow) ∷ pcfEntry 1 "A" (valid "B" ∷ []) ∷ pcfEntry 2 "B" [] ∷ []) ≡ 2820 ∷ 0 ∷ 0 ∷ []
-  -- the second row is there and good, but doesn't meet the condition, which the first does
-  pub otherSecond : cellsOf (limitOn "A" (through 12 whole) ∷ pcfEntry 1 "A" (curtx "K" ∷ []) ∷ curveRow "K" ∷ []) ≡ 2820 ∷ 0 ∷ 0 ∷ []
+  -- 01: "C needs CURTX in that pcf row": it names a curve through points; it names none; and a good VALID is no CURTX
+  pub secondRow : cellsOf (limitOn "A" (through 12 points) ∷ pcfEntry 1 "A" (curtx "K" ∷ []) ∷ cafEntry "K" ∷ []) ≡ 0 ∷ 0 ∷ 0 ∷ []
+  pub noSecondRow : cellsOf (limitOn "A" (through 12 points) ∷ pcfEntry 1 "A" [] ∷ cafEntry "K" ∷ []) ≡ 2820 ∷ 0 ∷ 0 ∷ []
+  pub otherColumn : cellsOf (limitOn "A" (through 12 points) ∷ pcfEntry 1 "A" (valid "B" ∷ []) ∷ pcfEntry 2 "B" [] ∷ []) ≡ 2820 ∷ 0 ∷ 0 ∷ []
+  -- 02, P1: "a limit with INTER C on a polynomial is reason 11 at column 4": the second row is there and good, but of another kind
+  pub otherSecond : cellsOf (limitOn "A" (through 12 points) ∷ pcfEntry 1 "A" (curtx "K" ∷ []) ∷ mcfEntry "K" ∷ []) ≡ 2820 ∷ 0 ∷ 0 ∷ []
   -- of two names the lowest column decides
   pub lowestColumn : cellsOf (pcfEntry 1 "A" (valid "B" ∷ curtx "K" ∷ []) ∷ []) ≡ 2824 ∷ []
   -- a row with one of reasons 1 to 8 holds nothing

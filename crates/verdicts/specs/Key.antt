@@ -21,7 +21,7 @@ pub data Key : Type 0 where
   location : Name → (spid : ℕ) → Key
   -- pcf: "Key NAME"
   parameter : Name → Key
-  -- caf: "Key NUMBR"
+  -- caf: "Key NUMBR"; mcf, by 02, P1: "IDENT shares its keys with caf NUMBR"
   curve : CurveName → Key
   -- cap: "Key NUMBR and the value of XVALS"
   point : CurveName → ℤ → Key

@@ -1,5 +1,5 @@
 -- By the row that holds the curve's key, where there is one.
-use Rattle.curve_points.proofs.CurveLaws.{ends-none, ends-some}
+use Rattle.curve_points.proofs.CurveLaws.{ends-none, ends-polynomial, ends-some}
 use borrow.Author.Needs.{needs}
 use Rattle.curve_points.proofs.curve_ends.Statement.{statement}
 use Rattle.curve_points.proofs.curve_ends.Tie as tie
@@ -13,6 +13,19 @@ holder-of-requires c κs = tt
 returns : tie.Need-returns
 returns c = let h = c .before in ends-none _ _ _ _ _ (h .before .curve-key .ensures) (h .holder-of .ensures .0) (c .if1 .taken)
 
+sub-is-polynomial : tie.Need-sub-is-polynomial
+sub-is-polynomial c = search needs
+
+is-polynomial-requires : tie.Need-is-polynomial-requires
+is-polynomial-requires c κs = tt
+
+returns-2 : tie.Need-returns-2
+returns-2 c =
+    let p = c .before in
+    let i = p .before in
+    let h = i .before in
+    ends-polynomial _ _ _ _ _ (h .before .curve-key .ensures) (h .holder-of .ensures .0) (i .if1 .left) (p .is-polynomial .ensures) (c .if2 .taken)
+
 sub-line-of : tie.Need-sub-line-of
 sub-line-of c = search needs
 
@@ -22,12 +35,15 @@ line-of-requires c κs = tt
 caf-of-requires : tie.Need-caf-of-requires
 caf-of-requires c κs = tt
 
-returns-2 : tie.Need-returns-2
-returns-2 c =
+returns-3 : tie.Need-returns-3
+returns-3 c =
     let l = c .before in
-    let i = l .before in
+    let q = l .before in
+    let p = q .before in
+    let i = p .before in
     let h = i .before in
-    ends-some _ _ _ _ _ (h .before .curve-key .ensures) (h .holder-of .ensures .0) (i .if1 .left) (c .caf-of .ensures) (l .line-of .ensures)
+    ends-some _ _ _ _ _ (h .before .curve-key .ensures) (h .holder-of .ensures .0) (i .if1 .left) (p .is-polynomial .ensures) (q .if2 .left)
+    (c .caf-of .ensures) (l .line-of .ensures)
 
 pub curve-ends-spec : {M : Type 1} → statement M
 curve-ends-spec =
@@ -36,7 +52,10 @@ curve-ends-spec =
     curve-key-requires
     holder-of-requires
     returns
+    sub-is-polynomial
+    is-polynomial-requires
+    returns-2
     sub-line-of
     line-of-requires
     caf-of-requires
-    returns-2)
+    returns-3)

@@ -63,6 +63,12 @@ enum-told-10 c = search needs
 ocp-keys-requires : tie.Need-ocp-keys-requires
 ocp-keys-requires c κs = tt
 
+enum-told-11 : tie.Need-enum-told-11
+enum-told-11 c = search needs
+
+mcf-keys-requires : tie.Need-mcf-keys-requires
+mcf-keys-requires c κs = tt
+
 returns : tie.Need-returns
 returns c = rw (c .before .enum-told .given .1) (c .pid-keys .ensures)
 
@@ -93,6 +99,9 @@ returns-9 c = rw (c .before .enum-told9 .given .1) (c .ocf-keys .ensures)
 returns-10 : tie.Need-returns-10
 returns-10 c = rw (c .before .enum-told10 .given .1) (c .ocp-keys .ensures)
 
+returns-11 : tie.Need-returns-11
+returns-11 c = rw (c .before .enum-told11 .given .1) (c .mcf-keys .ensures)
+
 pub column-keys-spec : {M : Type 1} → statement M
 column-keys-spec =
     tie.close
@@ -117,6 +126,8 @@ column-keys-spec =
     ocf-keys-requires
     enum-told-10
     ocp-keys-requires
+    enum-told-11
+    mcf-keys-requires
     returns
     returns-2
     returns-3
@@ -126,4 +137,5 @@ column-keys-spec =
     returns-7
     returns-8
     returns-9
-    returns-10)
+    returns-10
+    returns-11)

@@ -1,6 +1,6 @@
 -- Each table's own headings.
 use borrow.Author.Needs.{needs}
-use Rattle.schemas.specs.declared.Table.the-variants.{Pid, Pic, Plf, Pcf, Caf, Cap, Txf, Txp, Ocf, Ocp}
+use Rattle.schemas.specs.declared.Table.the-variants.{Pid, Pic, Plf, Pcf, Caf, Cap, Txf, Txp, Ocf, Ocp, Mcf}
 use Rattle.table_names.specs.Headings.{columnName, headings}
 use Rattle.table_names.proofs.HeadingLaws.{few}
 use Rattle.table_names.proofs.column_name.Statement.{statement}
@@ -106,6 +106,16 @@ heading-requires-10 : tie.Need-heading-requires-10
 unfolding headings
 heading-requires-10 c κs = few Ocp
 
+enum-told-11 : tie.Need-enum-told-11
+enum-told-11 c = search needs
+
+slice-aggregate-heading-11 : tie.Need-slice-aggregate-heading-11
+slice-aggregate-heading-11 c = search needs
+
+heading-requires-11 : tie.Need-heading-requires-11
+unfolding headings
+heading-requires-11 c κs = few Mcf
+
 returns : tie.Need-returns
 unfolding columnName headings
 returns c = rw (c .before .before .enum-told .given .1) (c .heading .ensures)
@@ -146,6 +156,10 @@ returns-10 : tie.Need-returns-10
 unfolding columnName headings
 returns-10 c = rw (c .before .before .enum-told10 .given .1) (c .heading10 .ensures)
 
+returns-11 : tie.Need-returns-11
+unfolding columnName headings
+returns-11 c = rw (c .before .before .enum-told11 .given .1) (c .heading11 .ensures)
+
 pub column-name-spec : {M : Type 1} → statement M
 column-name-spec =
     tie.close
@@ -180,6 +194,9 @@ column-name-spec =
     enum-told-10
     slice-aggregate-heading-10
     heading-requires-10
+    enum-told-11
+    slice-aggregate-heading-11
+    heading-requires-11
     returns
     returns-2
     returns-3
@@ -189,4 +206,5 @@ column-name-spec =
     returns-7
     returns-8
     returns-9
-    returns-10)
+    returns-10
+    returns-11)

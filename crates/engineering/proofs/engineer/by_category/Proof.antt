@@ -10,11 +10,8 @@ use Rattle.engineering.proofs.engineer.by_category.Tie as tie
 enum-told : tie.Need-enum-told
 enum-told c = search needs
 
-scale-value-requires : tie.Need-scale-value-requires
-scale-value-requires c κs = tt
-
-as-value-requires : tie.Need-as-value-requires
-as-value-requires c κs = tt
+numeric-value-requires : tie.Need-numeric-value-requires
+numeric-value-requires c κs = tt
 
 enum-told-2 : tie.Need-enum-told-2
 enum-told-2 c = search needs
@@ -30,10 +27,9 @@ enum-told-3 c = search needs
 
 returns : tie.Need-returns
 returns c =
-    let v = c .before in
-    let e = v .before in
+    let e = c .before in
     let s = e .before .before .before .before .before in
-    numeric-value _ _ _ (toZ-ofZ (s .fits .raw)) (e .enum-told .given .1) (c .as-value .ensures) (v .scale-value .ensures)
+    numeric-value _ _ _ (toZ-ofZ (s .fits .raw)) (e .enum-told .given .1) (c .numeric-value .ensures)
 
 returns-2 : tie.Need-returns-2
 returns-2 c =
@@ -53,8 +49,7 @@ by-category-spec =
     tie.close
     (tie.spec
     enum-told
-    scale-value-requires
-    as-value-requires
+    numeric-value-requires
     enum-told-2
     text-value-requires
     as-text-requires

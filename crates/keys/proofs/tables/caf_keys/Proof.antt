@@ -1,5 +1,6 @@
 -- The row is read, and each symbol is the definition's.
 use Rattle.verdicts.specs.Facts.{factsOf, cafFacts}
+use Rattle.manners.specs.Manners.{weight, marksOf}
 use Rattle.keys.proofs.CaseLaws.{counter-said}
 use Rattle.keys.proofs.tables.caf_keys.Statement.{statement}
 use Rattle.keys.proofs.tables.caf_keys.Tie as tie
@@ -14,7 +15,7 @@ counter-requires : tie.Need-counter-requires
 counter-requires c κs = tt
 
 returns : tie.Need-returns
-unfolding factsOf cafFacts
+unfolding factsOf cafFacts marksOf weight
 returns c =
     let e = c .before .before .before .before .read-caf .ensures in
     record {

@@ -54,6 +54,7 @@ returns c =
       c .before .before .before .is-whole .ensures,
       c .before .is-numeric .ensures,
     )
+    (omega arith)
 
 pub pcf-marks-spec : {M : Type 1} → statement M
 pcf-marks-spec =

@@ -17,6 +17,12 @@ weigh-requires c κs = search needs
 enum-known-engineered-2 : tie.Need-enum-known-engineered-2
 enum-known-engineered-2 c = search needs
 
+bits-of-requires : tie.Need-bits-of-requires
+bits-of-requires c κs = search needs
+
+enum-known-engineered-3 : tie.Need-enum-known-engineered-3
+enum-known-engineered-3 c = search needs
+
 enum-told : tie.Need-enum-told
 enum-told c = search needs
 
@@ -26,11 +32,15 @@ returns c = rw (c .before .before .engineered .given .1) (ap Weighs (c .weigh .e
 
 returns-2 : tie.Need-returns-2
 unfolding tellEngineered saidEngineered
-returns-2 c = rw (c .before .engineered2 .given .1)
+returns-2 c = rw (c .before .before .engineered2 .given .1) (ap Weighs (c .bits-of .ensures))
 
 returns-3 : tie.Need-returns-3
+unfolding tellEngineered saidEngineered
+returns-3 c = rw (c .before .engineered3 .given .1)
+
+returns-4 : tie.Need-returns-4
 unfolding tellEngineered saidEngineered refusedBy
-returns-3 c = rw (c .enum-told .given .1)
+returns-4 c = rw (c .enum-told .given .1)
 
 pub tell-engineered-spec : {M : Type 1} → statement M
 tell-engineered-spec =
@@ -39,7 +49,10 @@ tell-engineered-spec =
     enum-known-engineered
     weigh-requires
     enum-known-engineered-2
+    bits-of-requires
+    enum-known-engineered-3
     enum-told
     returns
     returns-2
-    returns-3)
+    returns-3
+    returns-4)

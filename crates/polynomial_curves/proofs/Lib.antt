@@ -1,0 +1,2 @@
+pub mod PolynomialLaws
+pub mod FiniteLaws
