@@ -1,10 +1,10 @@
-/* Petrolyaz for C: the import of ten SCOS-2000 tables, and questions and limit steps of packets by them.
+/* Petrolyaz for C: the import of eleven SCOS-2000 tables, and questions and limit steps of packets by them.
  *
  * Link with target/staticlib/libexports.a, which `rt staticlib exports` makes, for x86-64 Linux (64-bit size_t).
  *
  * Tables, packets and names are bytes, each a pointer and a length in bytes. The tables stand in the order
- * pid, pic, plf, pcf, caf, cap, txf, txp, ocf, ocp; an empty table has length 0. They are read only, need no alignment
- * and no end mark, and may overlap each other. No pointer is null, not even where the length is 0.
+ * pid, pic, plf, pcf, caf, cap, txf, txp, ocf, ocp, mcf; an empty table has length 0. They are read only, need no
+ * alignment and no end mark, and may overlap each other. No pointer is null, not even where the length is 0.
  * `cells` (2-byte aligned), `state` (5 numbers) and `answer` (8 numbers, both 8-byte aligned) overlap nothing else
  * that is passed: the state of the next step is copied out of the answer of the last.
  * The functions keep nothing between calls, call nothing but memcpy and memset, and may run in several threads at
@@ -13,7 +13,7 @@
  * The result is 0 for an answer, whose values then stand in the first places of `answer`; further places stay as they
  * were. Else it is refused: the number of the refusal * 2^32 + its place, and nothing is written, neither to `answer`
  * nor to `cells`. petrolyaz_number and petrolyaz_place take a result apart. The place is, for 1 and 2, the first such
- * table, 1 to 10; for 24, 28 and 29 the byte of the packet, from 0, in which the first such field starts; else 0.
+ * table, 1 to 11; for 24, 28 and 29 the byte of the packet, from 0, in which the first such field starts; else 0.
  * The least number decides; a limit step seeks refusals in the order 1, 2, 34, 20 to 25, 33, 26, 36, 35, 28, 30, 31.
  */
 #ifndef PETROLYAZ_H
@@ -21,6 +21,7 @@
 
 #include <stddef.h>
 #include <stdint.h>
+#include <string.h>
 
 #ifdef __cplusplus
 extern "C" {
@@ -28,12 +29,12 @@ extern "C" {
 
 /* Raised with each change of a signature or an answer: a library whose petrolyaz_version() is PETROLYAZ_VERSION is
  * what this header declares. */
-#define PETROLYAZ_VERSION 1
+#define PETROLYAZ_VERSION 2
 
 uint32_t petrolyaz_version(void);
 
-/* The most rows that ten tables have, 1,024 each: so many cells are enough for any tables. */
-#define PETROLYAZ_MOST_CELLS 10240
+/* The most rows that eleven tables have, 1,024 each: so many cells are enough for any tables. */
+#define PETROLYAZ_MOST_CELLS 11264
 
 /* The tables, by the number that is the place of refusals 1 and 2. */
 enum petrolyaz_table {
@@ -46,7 +47,8 @@ enum petrolyaz_table {
     PETROLYAZ_TXF = 7,
     PETROLYAZ_TXP = 8,
     PETROLYAZ_OCF = 9,
-    PETROLYAZ_OCP = 10
+    PETROLYAZ_OCP = 10,
+    PETROLYAZ_MCF = 11
 };
 
 /* Why a row is not good, in the order in which reasons are sought: 12 comes before 11. A row has the first that is
@@ -59,10 +61,10 @@ enum petrolyaz_reason {
     PETROLYAZ_COLUMN_COUNT = 3,   /* the table has another number of columns */
     PETROLYAZ_EMPTY = 4,          /* the column is mandatory, and empty */
     PETROLYAZ_TOO_WIDE = 5,       /* the column is too wide */
-    PETROLYAZ_NOT_LISTED = 6,     /* this is no number, or none of the letters listed */
-    PETROLYAZ_OUT_OF_RANGE = 7,   /* the number is out of range */
+    PETROLYAZ_NOT_LISTED = 6,     /* this is no number, no coefficient, or none of the letters listed */
+    PETROLYAZ_OUT_OF_RANGE = 7,   /* the number, or a coefficient's power of ten, is out of range */
     PETROLYAZ_CONTRADICTION = 8,  /* this contradicts another column, or is not carried; the lowest such column */
-    PETROLYAZ_KEY_SHARED = 9,     /* another row holds the same key: all holders have this reason */
+    PETROLYAZ_KEY_SHARED = 9,     /* another row holds the same key (caf and mcf share theirs): so have all holders */
     PETROLYAZ_COUNT_DIFFERS = 10, /* the rows that this column counts are another number */
     PETROLYAZ_CIRCLE = 12,        /* the VALID chain returns to this row */
     PETROLYAZ_NOT_NAMED = 11      /* no good row of the kind asked has this name; the lowest such column */
@@ -84,7 +86,7 @@ enum petrolyaz_refusal {
     PETROLYAZ_FIELD_LEAVES = 28,         /* a bit of the field lies outside */
     PETROLYAZ_STRING_OFF_BYTE = 29,      /* a string not on a byte */
     PETROLYAZ_OFF_CURVE = 30,            /* raw value off an F curve */
-    PETROLYAZ_CURVE_RESULT = 31,         /* curve result outside -2,147,483,648 to 2,147,483,647 */
+    PETROLYAZ_CURVE_RESULT = 31,         /* result of a caf curve outside -2,147,483,648 to 2,147,483,647 */
     PETROLYAZ_NO_TEXT = 32,              /* no text */
     PETROLYAZ_NO_LIMITS = 33,            /* no good ocf row */
     PETROLYAZ_NO_STATE = 34,             /* no such state: see petrolyaz_limit_step */
@@ -96,7 +98,8 @@ enum petrolyaz_refusal {
 enum petrolyaz_kind {
     PETROLYAZ_INTEGER = 0,
     PETROLYAZ_STRING = 1, /* a part of the packet */
-    PETROLYAZ_TEXT = 2    /* a part of the table txp; of petrolyaz_engineer alone */
+    PETROLYAZ_TEXT = 2,   /* a part of the table txp; of petrolyaz_engineer alone */
+    PETROLYAZ_DOUBLE = 3  /* the value of a polynomial; of petrolyaz_engineer alone */
 };
 
 /* What is announced of a parameter. */
@@ -112,7 +115,8 @@ enum petrolyaz_announced {
     const uint8_t *plf, size_t plf_bytes, const uint8_t *pcf, size_t pcf_bytes, \
     const uint8_t *caf, size_t caf_bytes, const uint8_t *cap, size_t cap_bytes, \
     const uint8_t *txf, size_t txf_bytes, const uint8_t *txp, size_t txp_bytes, \
-    const uint8_t *ocf, size_t ocf_bytes, const uint8_t *ocp, size_t ocp_bytes
+    const uint8_t *ocf, size_t ocf_bytes, const uint8_t *ocp, size_t ocp_bytes, \
+    const uint8_t *mcf, size_t mcf_bytes
 
 /* A packet, and the name of a parameter. */
 #define PETROLYAZ_PACKET const uint8_t *packet, size_t packet_bytes
@@ -144,7 +148,10 @@ uint64_t petrolyaz_extract(PETROLYAZ_TABLES, PETROLYAZ_PACKET, PETROLYAZ_NAME, s
 /* Its engineering value, valid or not.
  * answer: 0, the value;
  *      or 1, the first byte of the string in the packet, from 0, its length in bytes;
- *      or 2, the number of the txp row, from 1, the first byte of its text in txp, from 0, its length in bytes. */
+ *      or 2, the number of the txp row, from 1, the first byte of its text in txp, from 0, its length in bytes;
+ *      or 3, the 64 bits of a double (IEEE 754 binary64), which petrolyaz_double hands back: the value of a polynomial,
+ *         worked out from POL5 down, multiply then add, each rounded once to nearest even. The processor's rounding is
+ *         as a program starts with it, to nearest: one that changes it (fesetround) sets it back before it asks. */
 uint64_t petrolyaz_engineer(PETROLYAZ_TABLES, PETROLYAZ_PACKET, PETROLYAZ_NAME, size_t occurrence, PETROLYAZ_ANSWER);
 
 /* The limit state of a parameter after a packet, by its state before. A state is five numbers: fresh (1) or not (0),
@@ -158,6 +165,14 @@ uint64_t petrolyaz_limit_step(PETROLYAZ_TABLES, PETROLYAZ_PACKET, PETROLYAZ_NAME
 /* The number and the place of a refusal; both are 0 for an answer. */
 static inline unsigned petrolyaz_number(uint64_t result) { return (unsigned)(result >> 32); }
 static inline uint32_t petrolyaz_place(uint64_t result) { return (uint32_t)result; }
+
+/* The double of a number in which its bits stand: of answer[1], where answer[0] is PETROLYAZ_DOUBLE. */
+static inline double petrolyaz_double(int64_t bits)
+{
+    double value;
+    memcpy(&value, &bits, sizeof value);
+    return value;
+}
 
 /* The reason and the column of a cell; both are 0 for a good row. */
 static inline unsigned petrolyaz_reason_of(uint16_t cell) { return cell / 256u; }

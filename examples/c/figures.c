@@ -9,7 +9,7 @@ struct table { const uint8_t *bytes; size_t length; };
 #define TEXT(s) { (const uint8_t *)(s), sizeof(s) - 1 }
 #define NAME(s) (const uint8_t *)(s), sizeof(s) - 1
 #define PAIR(t, i) (t)[i].bytes, (t)[i].length
-#define ALL(t) PAIR(t, 0), PAIR(t, 1), PAIR(t, 2), PAIR(t, 3), PAIR(t, 4), PAIR(t, 5), PAIR(t, 6), PAIR(t, 7), PAIR(t, 8), PAIR(t, 9)
+#define ALL(t) PAIR(t, 0), PAIR(t, 1), PAIR(t, 2), PAIR(t, 3), PAIR(t, 4), PAIR(t, 5), PAIR(t, 6), PAIR(t, 7), PAIR(t, 8), PAIR(t, 9), PAIR(t, 10)
 
 static const uint8_t packet[] = {0x08, 0x0A, 0xC0, 0x00, 0x00, 0x07, 0x10, 0x03, 0x19, 0x00, 0xFF, 0x85, 0x12, 0x34};
 
@@ -17,26 +17,29 @@ static const uint8_t packet[] = {0x08, 0x0A, 0xC0, 0x00, 0x00, 0x07, 0x10, 0x03,
 static const uint8_t last[] = {0x08, 0x0A, 0xFF, 0xFF, 0x00, 0x07, 0x10, 0x03, 0x19, 0x00, 0xFF, 0x85, 0x12, 0x34};
 
 /* A curve with three points announced and two there. */
-static const struct table counted[10] = {
-    TEXT(""), TEXT(""), TEXT(""), TEXT(""), TEXT("C\t\tI\tI\t\t\t3\t\n"), TEXT("C\t0\t0\nC\t10\t5\n"), TEXT(""), TEXT(""), TEXT(""), TEXT(""),
+static const struct table counted[11] = {
+    TEXT(""), TEXT(""), TEXT(""), TEXT(""), TEXT("C\t\tI\tI\t\t\t3\t\n"), TEXT("C\t0\t0\nC\t10\t5\n"), TEXT(""), TEXT(""), TEXT(""), TEXT(""), TEXT(""),
 };
 
-static const struct table asked[10] = {
+static const struct table asked[11] = {
     TEXT("3\t25\t10\t\t\t7\t\t\t\t\t\t\t\t\t\t\n"),
     TEXT(""),
-    TEXT("WORD\t7\t12\t0\t\t\t\t\nBYTE\t7\t10\t0\t\t\t\t\nPAST\t7\t13\t0\t\t\t\t\nPART\t7\t12\t0\t\t\t\t\nCURVE\t7\t7\t4\t\t\t\t\nMODE\t7\t9\t0\t\t\t\t\n"),
+    TEXT("WORD\t7\t12\t0\t\t\t\t\nBYTE\t7\t10\t0\t\t\t\t\nPAST\t7\t13\t0\t\t\t\t\nPART\t7\t12\t0\t\t\t\t\nCURVE\t7\t7\t4\t\t\t\t\nMODE\t7\t9\t0\t\t\t\t\n"
+         "POLY\t7\t10\t0\t\t\t\t\n"),
     TEXT("WORD\t\t\t\t3\t12\t\t\t\tN\tR\t\t\t\t\t\t\t\t\t\t\t\t\n"
          "BYTE\t\t\t\t4\t4\t\t\t\tN\tR\t\t\t\t\t\t\t\t\t\t\t\t\n"
          "PAST\t\t\t\t3\t12\t\t\t\tN\tR\t\t\t\t\t\t\t\t\t\t\t\t\n"
          "PART\t\t\t\t8\t2\t\t\t\tT\tR\t\t\t\t\t\t\t\t\t\t\t\t\n"
          "CURVE\t\t\t\t3\t0\t\t\t\tN\tR\tC\t\t\t\t\t\t\t\t\t\t\t\n"
-         "MODE\t\t\t\t3\t4\t\t\t\tS\tR\tM\t\t\t\t\t\t\t\t\t\t\t\n"),
+         "MODE\t\t\t\t3\t4\t\t\t\tS\tR\tM\t\t\t\t\t\t\t\t\t\t\t\n"
+         "POLY\t\t\t\t4\t4\t\t\t\tN\tR\tQ\t\t\t\t\t\t\t\t\t\t\t\n"),
     TEXT("C\t\tI\tI\t\t\t3\tP\n"),
     TEXT("C\t0\t0\nC\t10\t-5\nC\t20\t100\n"),
     TEXT("M\t\tU\t1\n"),
     TEXT("M\t0\t0\tOFF\n"),
     TEXT("WORD\t2\t2\tU\tI\nPAST\t1\t1\tU\tI\n"),
     TEXT("WORD\t0\tS\t0\t4000\t\t\nWORD\t1\tH\t0\t5000\t\t\nPAST\t0\tS\t0\t9\t\t\n"),
+    TEXT("Q\t\t0.25\t-1.5e0\t1E-1\t\t\n"),
 };
 
 static int64_t answer[8];
@@ -53,6 +56,13 @@ static void expect(const char *what, uint64_t result, unsigned number, uint32_t 
         answer[i] = 77;
 }
 
+static void expect_double(const char *what, double answered, double expected)
+{
+    int ok = memcmp(&answered, &expected, sizeof answered) == 0;
+    printf("%s: %s\n", what, ok ? "ok" : "WRONG");
+    wrong += !ok;
+}
+
 #define VALUES(...) sizeof((int64_t[]){__VA_ARGS__}) / 8, (const int64_t[]){__VA_ARGS__}
 #define NOTHING 0, answer
 #define EXTRACT(name) petrolyaz_extract(ALL(asked), packet, 14, NAME(name), 0, answer)
@@ -63,6 +73,7 @@ int main(void)
 {
     uint16_t cells[4] = {9, 9, 9, 9};
     const uint16_t judged[4] = {2567, 2817, 2817, 9};
+    uint64_t result;
 
     memset(answer, 0, sizeof answer);
     expect("eight places", 0, 0, 0, VALUES(0, 0, 0, 0, 0, 0, 0, 0));
@@ -78,6 +89,9 @@ int main(void)
     expect("3 on the curve", ENGINEER("CURVE"), 0, 0, VALUES(0, -2));
     expect("text of 0", ENGINEER("MODE"), 0, 0, VALUES(2, 1, 6, 3));
     expect("two bytes of text", ENGINEER("PART"), 0, 0, VALUES(1, 12, 2));
+    result = ENGINEER("POLY");
+    expect_double("0.25 - 1.5 x + 0.1 x x at -1", petrolyaz_double(answer[1]), 1.85);
+    expect("its bits", result, 0, 0, VALUES(PETROLYAZ_DOUBLE, 0x3FFD99999999999A));
     expect("no such name", ENGINEER("NONE"), 26, 0, NOTHING);
     expect("count 16,383, a first value above 4,000", STEP(last, "WORD", 1, 0, 0, 0, 0), 0, 0, VALUES(0, 10, 16383, 1, 0));
     expect("next count 0: newer, and soft", STEP(packet, "WORD", 0, 10, 16383, 1, 0), 0, 0, VALUES(0, 10, 0, 2, 1));
