@@ -57,6 +57,7 @@ impl Values for Value {
     fn values(&self) -> Vec<i64> {
         match *self {
             Value::Integer(value) => vec![0, value],
+            Value::Double(value) => vec![3, value.to_bits() as i64],
             Value::String { start, length } => vec![1, start, length],
             Value::Text { row, start, length } => vec![2, row as i64, start as i64, length as i64],
         }

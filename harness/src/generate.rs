@@ -17,10 +17,10 @@ use crate::reference::Tables;
 /// A row as its columns.
 pub type Columns = Vec<Vec<u8>>;
 
-/// Ten tables as rows of columns, in 01's order.
+/// Eleven tables as rows of columns, in their order.
 pub type RowSet = [Vec<Columns>; TABLES];
 
-/// Ten tables as bytes.
+/// Eleven tables as bytes.
 pub type ByteSet = [Vec<u8>; TABLES];
 
 pub const PID: usize = 0;
@@ -33,6 +33,7 @@ pub const TXF: usize = 6;
 pub const TXP: usize = 7;
 pub const OCF: usize = 8;
 pub const OCP: usize = 9;
+pub const MCF: usize = 10;
 
 pub fn borrowed(set: &ByteSet) -> Tables<'_> {
     std::array::from_fn(|table| set[table].as_slice())

@@ -17,6 +17,7 @@ macro_rules! questions {
                 txp: *const u8, txp_length: usize,
                 ocf: *const u8, ocf_length: usize,
                 ocp: *const u8, ocp_length: usize,
+                mcf: *const u8, mcf_length: usize,
                 $($parameter: $kind,)*
                 answer: *mut Places,
             ) -> u64;)*
@@ -43,10 +44,10 @@ questions! {
     );
 }
 
-/// Asks a question of ten tables with these places for its answer.
+/// Asks a question of eleven tables with these places for its answer.
 macro_rules! ask {
     ($question:ident, $tables:expr, $places:expr, $($argument:expr),*) => {{
-        let [pid, pic, plf, pcf, caf, cap, txf, txp, ocf, ocp] = *$tables;
+        let [pid, pic, plf, pcf, caf, cap, txf, txp, ocf, ocp, mcf] = *$tables;
         let mut places = $places;
         // Sound: every pointer goes with the length of its slice, and the mutable ones are lent to this call alone.
         let result = unsafe {
@@ -54,7 +55,7 @@ macro_rules! ask {
                 pid.as_ptr(), pid.len(), pic.as_ptr(), pic.len(), plf.as_ptr(), plf.len(),
                 pcf.as_ptr(), pcf.len(), caf.as_ptr(), caf.len(), cap.as_ptr(), cap.len(),
                 txf.as_ptr(), txf.len(), txp.as_ptr(), txp.len(), ocf.as_ptr(), ocf.len(),
-                ocp.as_ptr(), ocp.len(), $($argument,)* &mut places,
+                ocp.as_ptr(), ocp.len(), mcf.as_ptr(), mcf.len(), $($argument,)* &mut places,
             )
         };
         Answer { result, places }

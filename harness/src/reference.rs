@@ -1,11 +1,13 @@
-//! 01 as an ordinary Rust program: tables are parsed once and judged once, with vectors and hash maps.
+//! 01, with 02's P1, as an ordinary Rust program: tables are parsed once and judged once, with vectors and hash maps.
 
+pub mod coefficients;
 pub mod curves;
 pub mod judging;
 pub mod limits;
 pub mod lines;
 pub mod numbers;
 pub mod packets;
+pub mod polynomials;
 pub mod reach;
 pub mod refusals;
 pub mod rows;

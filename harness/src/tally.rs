@@ -7,7 +7,7 @@ use crate::reference::judging::TABLES;
 use crate::reference::schemas::{verdict, Kind, Verdict, GOOD, SCHEMAS};
 
 pub const TABLE_NAMES: [&str; TABLES] =
-    ["pid", "pic", "plf", "pcf", "caf", "cap", "txf", "txp", "ocf", "ocp"];
+    ["pid", "pic", "plf", "pcf", "caf", "cap", "txf", "txp", "ocf", "ocp", "mcf"];
 
 #[derive(Clone, Copy, Debug, PartialEq, Eq, PartialOrd, Ord)]
 pub enum Question {
@@ -47,6 +47,7 @@ const LATER: [&[(u16, u16)]; TABLES] = [
     &[(8, 3), (11, 1)],
     &[(8, 5), (10, 3), (11, 1), (11, 4)],
     &[(8, 3), (8, 5), (11, 1), (11, 6)],
+    &[],
 ];
 
 /// Every verdict that a row of the table can have.
@@ -55,8 +56,8 @@ fn possible_verdicts(table: usize) -> Vec<Verdict> {
     let mut verdicts = vec![GOOD];
     verdicts.extend(whole);
     for (at, column) in SCHEMAS[table].iter().enumerate() {
-        let (numbers, letters) =
-            (matches!(column.kind, Kind::Number { .. }), matches!(column.kind, Kind::Letter(_)));
+        let numbers = matches!(column.kind, Kind::Number { .. } | Kind::Coefficient);
+        let letters = matches!(column.kind, Kind::Letter(_));
         let reasons = [(4, column.mandatory), (5, true), (6, numbers || letters), (7, numbers)];
         let possible = reasons.iter().filter(|(_, possible)| *possible);
         verdicts.extend(possible.map(|(reason, _)| verdict(*reason, at as u16 + 1)));

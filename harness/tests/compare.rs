@@ -4,7 +4,7 @@ use std::sync::atomic::{AtomicU64, Ordering};
 use std::thread::{available_parallelism, scope, Builder};
 
 use harness::answers::{answer, Answer, Places};
-use harness::generate::full::{full_packet, full_set, last_parameter, Shape};
+use harness::generate::full::{full_packet, full_set, last_by_polynomial, last_parameter, Shape};
 use harness::generate::hostile::hostile_sets;
 use harness::generate::mutations::{mutate_bytes, noise_line};
 use harness::generate::packets::Asked;
@@ -12,11 +12,12 @@ use harness::generate::sets::{large_set, small_set};
 use harness::generate::{borrowed, packets, states, ByteSet};
 use harness::proved;
 use harness::random::Random;
-use harness::reference::judging::TABLES;
+use harness::reference::judging::{MOST_CELLS, TABLES};
 use harness::reference::limits::{limit_step_from, State, HARD, SOFT, WITHIN};
 use harness::reference::lines::{count_lines, lines};
 use harness::reference::packets::{extract, identify, Raw, Reading};
 use harness::reference::reach::reaching;
+use harness::reference::rows::Ocf;
 use harness::reference::values::{engineer, Value};
 use harness::reference::{self, Judged, Refusal, Tables};
 use harness::tally::{Question, Tally};
@@ -32,12 +33,17 @@ const PACKETS: u64 = 3;
 const STACK: usize = 4 << 20;
 
 /// The kinds of answers that must occur.
-const ANSWERS: [(Question, &str); 12] = [
+const ANSWERS: [(Question, &str); 17] = [
+    (Question::Import, SHARED_CURVE),
+    (Question::Import, SHARED_POLYNOMIAL),
+    (Question::Import, POINT),
+    (Question::Import, LIMIT),
     (Question::Extract, "integer, valid"),
     (Question::Extract, "integer, invalid"),
     (Question::Extract, "string, valid"),
     (Question::Extract, "string, invalid"),
     (Question::Engineer, "integer"),
+    (Question::Engineer, "double"),
     (Question::Engineer, "string"),
     (Question::Engineer, "text"),
     (Question::LimitStep, "within"),
@@ -48,6 +54,12 @@ const ANSWERS: [(Question, &str); 12] = [
 ];
 
 const NO_STATE: &str = "numbers that are no state";
+
+/// What the columns of a verdict don't tell.
+const SHARED_CURVE: &str = "caf and mcf rows of one key";
+const SHARED_POLYNOMIAL: &str = "mcf rows of one key";
+const POINT: &str = "cap row of a polynomial";
+const LIMIT: &str = "INTER C on a polynomial";
 
 /// 34 comes after 1 and 2 and before the packet's refusals.
 #[test]
@@ -91,8 +103,8 @@ fn hostile_tables_get_the_same_cells() {
     let judge = || {
         for (title, set) in &hostile_sets() {
             let tables = borrowed(set);
-            let by_reference = reference::import(&tables, 10_240);
-            let mut cells = vec![0; 10_240];
+            let by_reference = reference::import(&tables, MOST_CELLS);
+            let mut cells = vec![0; MOST_CELLS];
             assert_eq!(proved::import(&tables, &mut cells, [0; 8]), answer(&by_reference, [0; 8]), "{title}");
             assert_eq!(cells, by_reference.expect("the tables are taken").cells, "{title}");
         }
@@ -166,8 +178,26 @@ impl<'s> Comparison<'s> {
             self.packet_questions(&tables, &judged);
         }
         if let Ok(judged) = &judged {
+            self.polynomials(judged);
             self.replaced_line(judged);
         }
+    }
+
+    /// Counts what rows have to do with polynomials.
+    fn polynomials(&mut self, judged: &Judged) {
+        let held = |ident: &[u8]| judged.mcf.well_formed().filter(|row| row.ident == ident).count();
+        let is_polynomial = |name: &[u8]| judged.mcf.good(&name).is_some();
+        let by_polynomial = |ocf: &Ocf| {
+            let row = judged.pcf.good(&ocf.name).filter(|_| ocf.inter == b'C');
+            row.is_some_and(|(_, row)| row.categ == b'N' && row.curtx.is_some_and(is_polynomial))
+        };
+        let met = [
+            (SHARED_CURVE, judged.caf.well_formed().any(|row| held(row.numbr) > 0)),
+            (SHARED_POLYNOMIAL, judged.mcf.well_formed().any(|row| held(row.ident) > 1)),
+            (POINT, judged.cap.well_formed().any(|row| is_polynomial(row.numbr))),
+            (LIMIT, judged.ocf.well_formed().any(by_polynomial)),
+        ];
+        met.iter().filter(|(_, met)| *met).for_each(|(kind, _)| self.tally.answer(Question::Import, kind));
     }
 
     /// Places that hold anything.
@@ -222,7 +252,8 @@ impl<'s> Comparison<'s> {
         let packet = if full { full_packet(FULL) } else { packets::packet(&mut self.random, known) };
         let Asked { mut name, occurrence, limited } = packets::asked(&mut self.random, known, &packet);
         if full && self.random.chance(50) {
-            name = last_parameter(FULL).into_bytes();
+            let last = if self.random.chance(50) { last_parameter } else { last_by_polynomial };
+            name = last(FULL).into_bytes();
         }
         self.identify(tables, judged, &packet);
         self.extract(tables, judged, &packet, &name, occurrence);
@@ -346,7 +377,7 @@ impl<'s> Comparison<'s> {
             _ => {
                 let mut bytes = old.to_vec();
                 let at = self.random.below(bytes.len());
-                let new = *self.random.pick(b"\t0123ABa _~PFNSTIUHRYC\r\x7F");
+                let new = *self.random.pick(b"\t0123ABa _~PFNSTIUHRYC.eE-+\r\x7F");
                 bytes.iter_mut().skip(at).take(1).for_each(|byte| *byte = new);
                 bytes
             }
@@ -382,6 +413,7 @@ fn kind_of_reading(reading: &Reading) -> &'static str {
 fn kind_of_value(value: &Value) -> &'static str {
     match value {
         Value::Integer(_) => "integer",
+        Value::Double(_) => "double",
         Value::String { .. } => "string",
         Value::Text { .. } => "text",
     }

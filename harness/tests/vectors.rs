@@ -84,7 +84,7 @@ fn a_line_that_cannot_be_read_is_told() {
         "Import",
         " import",
         "import x",
-        "import 10241",
+        "import 11265",
         "row pid",
         "row pix|1",
         "extract A|x",

@@ -8,7 +8,7 @@ use std::process::{self, Command};
 use std::time::Instant;
 use std::{env, fs};
 
-use harness::generate::full::{full_packet, full_set, last_parameter, Shape};
+use harness::generate::full::{full_packet, full_set, last_by_polynomial, last_parameter, Shape};
 use harness::generate::{borrowed, ByteSet};
 use harness::reference::limits::{limit_step, State};
 use harness::reference::packets::{extract, identify, Raw, Reading};
@@ -20,7 +20,7 @@ const ROUNDS: usize = 5;
 
 fn main() {
     println!("{:52} {:>10} {:>10} {:>7}", "ns for each packet, least of 5", "library", "reference", "ratio");
-    measure("example mission", thermal(), thermal_packet(), "T1PLATE", 100_000);
+    measure("example mission", thermal(), thermal_packet(), ["T1PLATE", "T2RADTR"], 100_000);
     let typical = Shape { rows: 100, chain: 4 };
     measure_shape("typical, VALID chains of 4", typical, 100_000);
     measure_shape("full, VALID chains of 16", Shape { rows: 1_024, chain: 16 }, 20_000);
@@ -28,7 +28,8 @@ fn main() {
 }
 
 fn measure_shape(title: &str, shape: Shape, packets: usize) {
-    measure(title, full_set(shape), full_packet(shape), &last_parameter(shape), packets);
+    let names = [last_parameter(shape), last_by_polynomial(shape)];
+    measure(title, full_set(shape), full_packet(shape), names.each_ref().map(String::as_str), packets);
 }
 
 fn example() -> PathBuf {
@@ -43,11 +44,13 @@ fn thermal_packet() -> Vec<u8> {
     fs::read(example().join("packets.bin")).expect("the example's archive")[..44].to_vec()
 }
 
-fn measure(title: &str, set: ByteSet, packet: Vec<u8>, name: &str, packets: usize) {
+/// Each question of a parameter with a curve, and the engineering value of one with a polynomial.
+fn measure(title: &str, set: ByteSet, packet: Vec<u8>, [name, polynomial]: [&str; 2], packets: usize) {
     let folder = Folder::of(&set, &archive(&packet, packets));
     let tables = borrowed(&set);
     let judged = judged(&tables).expect("the tables are taken");
-    for question in ["step", "identify", "extract", "engineer"] {
+    let of_curve = ["step", "identify", "extract", "engineer"].map(|question| (question, name));
+    for (question, name) in of_curve.into_iter().chain([("polynomial", polynomial)]) {
         let (program, option) = program(question);
         if !program.exists() {
             println!(
@@ -81,7 +84,11 @@ fn timed<T>(mut question: impl FnMut() -> T) -> f64 {
 
 /// The program that asks the question, and its option.
 fn program(question: &str) -> (PathBuf, &str) {
-    let (name, option) = if question == "step" { ("replay", "last") } else { ("survey", question) };
+    let (name, option) = match question {
+        "step" => ("replay", "last"),
+        "polynomial" => ("survey", "engineer"),
+        question => ("survey", question),
+    };
     (Path::new(env!("CARGO_MANIFEST_DIR")).join("../target/bin").join(name), option)
 }
 
@@ -158,9 +165,11 @@ fn weight_of_reading(reading: &Reading) -> u64 {
     }
 }
 
+/// A double weighs its bits.
 fn weight_of_value(value: &Value) -> u64 {
     match *value {
         Value::Integer(value) => value.unsigned_abs(),
+        Value::Double(value) => value.to_bits(),
         Value::String { start, .. } => start as u64,
         Value::Text { start, .. } => start as u64,
     }

@@ -6,11 +6,12 @@ use std::hint::black_box;
 
 use harness::answers::Answer;
 use harness::generate::borrowed;
-use harness::generate::full::{full_packet, full_set, last_parameter, Shape};
+use harness::generate::full::{full_packet, full_set, last_by_polynomial, last_parameter, Shape};
 use harness::proved;
+use harness::reference::judging::MOST_CELLS;
 use harness::reference::Tables;
 
-const USAGE: &str = "usage: ask import|identify|extract|engineer|limit-step CHAIN (the length of the VALID chains, up to 1024)";
+const USAGE: &str = "usage: ask import|identify|extract|engineer|polynomial|limit-step CHAIN (the length of the VALID chains, up to 1024)";
 
 fn main() {
     let arguments: Vec<String> = env::args().collect();
@@ -22,7 +23,8 @@ fn main() {
     };
     let shape = Shape { rows: 1_024, chain };
     let set = full_set(shape);
-    match ask(question, &borrowed(&set), &full_packet(shape), last_parameter(shape).as_bytes()) {
+    let last = if question == "polynomial" { last_by_polynomial } else { last_parameter };
+    match ask(question, &borrowed(&set), &full_packet(shape), last(shape).as_bytes()) {
         Some(answer) => println!("{question}: {:?}", black_box(answer)),
         None => println!("{USAGE}"),
     }
@@ -31,10 +33,10 @@ fn main() {
 fn ask(question: &str, tables: &Tables, packet: &[u8], name: &[u8]) -> Option<Answer> {
     let places = [0; 8];
     Some(match question {
-        "import" => proved::import(tables, &mut [0; 10 * 1_024], places),
+        "import" => proved::import(tables, &mut [0; MOST_CELLS], places),
         "identify" => proved::identify(tables, packet, places),
         "extract" => proved::extract(tables, packet, name, 1, places),
-        "engineer" => proved::engineer(tables, packet, name, 1, places),
+        "engineer" | "polynomial" => proved::engineer(tables, packet, name, 1, places),
         "limit-step" => proved::limit_step(tables, packet, name, [1, 0, 0, 0, 0], places),
         _ => return None,
     })

@@ -6,9 +6,10 @@ use std::time::{Duration, Instant};
 
 use harness::answers::{answer, Answer, Places};
 use harness::generate::borrowed;
-use harness::generate::full::{full_packet, full_set, last_parameter, Shape};
+use harness::generate::full::{full_packet, full_set, last_by_polynomial, last_parameter, Shape};
 use harness::generate::hostile::hostile_sets;
 use harness::proved;
+use harness::reference::judging::MOST_CELLS;
 use harness::reference::limits::{limit_step, State};
 use harness::reference::packets::{extract, identify};
 use harness::reference::values::engineer;
@@ -21,8 +22,6 @@ const SHAPES: [(&str, Shape, usize); 3] = [
 ];
 
 const NO_PLACES: Places = [0; 8];
-
-const CELLS: usize = 10 * 1_024;
 
 fn main() {
     for (title, shape, rounds) in SHAPES {
@@ -39,7 +38,7 @@ fn main() {
 }
 
 fn head(title: &str, tables: &Tables) {
-    let imported = import(tables, CELLS).expect("the tables are taken");
+    let imported = import(tables, MOST_CELLS).expect("the tables are taken");
     let bytes: usize = tables.iter().map(|table| table.len()).sum();
     println!("\n{title}: {bytes} bytes, {} rows, {} good", imported.cells.len(), imported.good);
     println!("{:10} {:>21} {:>21} {:>15} {:>21}", "", "library", "reference", "ratio", "ref., judged once");
@@ -70,6 +69,11 @@ fn measure_all(tables: &Tables, shape: Shape, rounds: usize) {
     let by_reference = |judged: &Judged| answer(&engineer(judged, packet, name, 1), NO_PLACES);
     let by_library = || proved::engineer(tables, packet, name, 1, NO_PLACES);
     measure_packet("engineer", rounds, tables, &once, by_library, by_reference);
+    let polynomial = last_by_polynomial(shape);
+    let by_reference =
+        |judged: &Judged| answer(&engineer(judged, packet, polynomial.as_bytes(), 1), NO_PLACES);
+    let by_library = || proved::engineer(tables, packet, polynomial.as_bytes(), 1, NO_PLACES);
+    measure_packet("polynomial", rounds, tables, &once, by_library, by_reference);
     let fresh = State { fresh: true, ..State::default() };
     let by_reference = |judged: &Judged| answer(&limit_step(judged, packet, name, fresh), NO_PLACES);
     let by_library = || proved::limit_step(tables, packet, name, fresh.numbers(), NO_PLACES);
@@ -77,9 +81,9 @@ fn measure_all(tables: &Tables, shape: Shape, rounds: usize) {
 }
 
 fn measure_import(tables: &Tables, rounds: usize) {
-    let mut cells = vec![0u16; CELLS];
+    let mut cells = vec![0u16; MOST_CELLS];
     let by_library = || proved::import(tables, &mut cells, NO_PLACES);
-    measure("import", rounds, by_library, || answer(&import(tables, CELLS), NO_PLACES), None);
+    measure("import", rounds, by_library, || answer(&import(tables, MOST_CELLS), NO_PLACES), None);
 }
 
 /// A packet question: the reference judges the tables in it, and once apart from it.

@@ -1,8 +1,9 @@
 //! Tables whose rows are good, or nearly all.
 
-use super::spelling::{number, Names};
-use super::{row, RowSet, CAF, CAP, OCF, OCP, PCF, PIC, PID, PLF, TXF, TXP};
+use super::spelling::{coefficient, number, Names};
+use super::{row, RowSet, CAF, CAP, MCF, OCF, OCP, PCF, PIC, PID, PLF, TXF, TXP};
 use crate::random::Random;
+use crate::reference::coefficients::Coefficient;
 use crate::reference::rows::field_width;
 
 /// How many of each to make.
@@ -12,6 +13,7 @@ pub struct Size {
     pub parameters: usize,
     pub curves: usize,
     pub texts: usize,
+    pub polynomials: usize,
 }
 
 impl Size {
@@ -22,6 +24,7 @@ impl Size {
             parameters: 1 + random.below(7),
             curves: random.below(3),
             texts: random.below(3),
+            polynomials: random.below(3),
         }
     }
 
@@ -31,6 +34,7 @@ impl Size {
             parameters: 50 + random.below(300),
             curves: 10 + random.below(60),
             texts: 10 + random.below(60),
+            polynomials: 10 + random.below(60),
         }
     }
 }
@@ -47,6 +51,7 @@ struct Parameter {
     natur: u8,
     categ: u8,
     curtx: Vec<u8>,
+    by_polynomial: bool,
 }
 
 impl Parameter {
@@ -60,9 +65,11 @@ pub fn consistent(random: &mut Random, size: Size) -> RowSet {
     let mut names = Names::default();
     let curves: Vec<_> = (0..size.curves).map(|_| curve(random, &mut rows, &mut names)).collect();
     let texts: Vec<_> = (0..size.texts).map(|_| texts(random, &mut rows, &mut names)).collect();
+    let polynomials: Vec<_> =
+        (0..size.polynomials).map(|_| polynomial(random, &mut rows, &mut names)).collect();
     let mut parameters: Vec<Parameter> = Vec::new();
     for _ in 0..size.parameters {
-        let next = parameter(random, &mut names, &curves, &texts);
+        let next = parameter(random, &mut names, &curves, &texts, &polynomials);
         pcf(random, &mut rows, &next, &parameters);
         parameters.push(next);
     }
@@ -119,6 +126,32 @@ fn texts(random: &mut Random, rows: &mut RowSet, names: &mut Names) -> Vec<u8> {
     name
 }
 
+/// An mcf row, with coefficients as good as they can be.
+fn polynomial(random: &mut Random, rows: &mut RowSet, names: &mut Names) -> Vec<u8> {
+    let name = names.fresh(random, 10);
+    let zero = random.chance(5);
+    let mut columns = vec![(1, name.clone()), (3, good_coefficient(random))];
+    for column in 4..=7 {
+        let text = if random.chance(30) { Vec::new() } else { good_coefficient(random) };
+        columns.push((column, text));
+    }
+    if zero {
+        // minus zero throughout shows where the value starts
+        columns.iter_mut().skip(1).for_each(|(_, text)| *text = b"-0".to_vec());
+    }
+    rows[MCF].push(row(random, MCF, &columns));
+    name
+}
+
+fn good_coefficient(random: &mut Random) -> Vec<u8> {
+    loop {
+        let text = coefficient(random, 14);
+        if Coefficient::read(&text).is_ok() {
+            return text;
+        }
+    }
+}
+
 fn optional(random: &mut Random, letters: &[u8]) -> Vec<u8> {
     if random.chance(50) {
         vec![*random.pick(letters)]
@@ -141,18 +174,27 @@ fn field_type(random: &mut Random) -> (i64, i64) {
     }
 }
 
-fn parameter(random: &mut Random, names: &mut Names, curves: &[Vec<u8>], texts: &[Vec<u8>]) -> Parameter {
+fn parameter(
+    random: &mut Random,
+    names: &mut Names,
+    curves: &[Vec<u8>],
+    texts: &[Vec<u8>],
+    polynomials: &[Vec<u8>],
+) -> Parameter {
     let (ptc, pfc) = field_type(random);
     let integer = (1..=4).contains(&ptc);
-    let (categ, curtx) = match ptc {
-        8 => (b'T', Vec::new()),
-        _ if integer && !texts.is_empty() && random.chance(25) => (b'S', random.pick(texts).clone()),
-        _ if integer && !curves.is_empty() && random.chance(60) => (b'N', random.pick(curves).clone()),
-        _ => (b'N', Vec::new()),
+    let (categ, curtx, by_polynomial) = match ptc {
+        8 => (b'T', Vec::new(), false),
+        _ if integer && !texts.is_empty() && random.chance(25) => (b'S', random.pick(texts).clone(), false),
+        _ if integer && !polynomials.is_empty() && random.chance(30) => {
+            (b'N', random.pick(polynomials).clone(), true)
+        }
+        _ if integer && !curves.is_empty() && random.chance(60) => (b'N', random.pick(curves).clone(), false),
+        _ => (b'N', Vec::new(), false),
     };
     let natur = if random.chance(95) { b'R' } else { *random.pick(b"DPHSC") };
     let width = field_width(ptc, pfc).expect("a type of the table has a width");
-    Parameter { name: names.fresh(random, 8), ptc, width, natur, categ, curtx }
+    Parameter { name: names.fresh(random, 8), ptc, width, natur, categ, curtx, by_polynomial }
 }
 
 /// The PFC of a field of this width.
@@ -318,7 +360,9 @@ fn limits(random: &mut Random, rows: &mut RowSet, parameter: &Parameter, all: &[
     for pos in first..first + count {
         check(random, rows, parameter, pos, all);
     }
-    let under_curve = !parameter.curtx.is_empty() && random.chance(70);
+    // INTER C on a polynomial is a mistake.
+    let often = if parameter.by_polynomial { 4 } else { 70 };
+    let under_curve = !parameter.curtx.is_empty() && random.chance(often);
     let columns = [
         (1, parameter.name.clone()),
         (2, if random.chance(80) { random.between(1, 4) } else { random.between(1, 99) }.to_string().into()),

@@ -18,10 +18,11 @@ pub struct Shape {
     pub chain: usize,
 }
 
-/// Ten tables of that many rows. Half the curves have no points, since each needs two, and every eighth
-/// parameter has texts and so no limits; all other rows are good.
+/// Eleven tables of that many rows. Half the curves have no points, since each needs two, and every eighth
+/// parameter has texts and so no limits; all other rows are good. Every eighth has a polynomial and raw limits.
 pub fn full_set(shape: Shape) -> ByteSet {
-    let row = [pid_row, pic_row, plf_row, pcf_row, caf_row, cap_row, txf_row, txp_row, ocf_row, ocp_row];
+    let row =
+        [pid_row, pic_row, plf_row, pcf_row, caf_row, cap_row, txf_row, txp_row, ocf_row, ocp_row, mcf_row];
     let bytes = |table: usize, at: usize| line(&padded(table, &row[table](shape, at)));
     std::array::from_fn(|table| (0..shape.rows).flat_map(|at| bytes(table, at)).collect())
 }
@@ -59,9 +60,17 @@ fn curve(at: usize) -> String {
     format!("C{at:09}")
 }
 
-/// Every eighth parameter has texts, the others a curve.
+fn polynomial(at: usize) -> String {
+    format!("M{at:09}")
+}
+
+/// Every eighth parameter has texts, every eighth a polynomial, the others a curve.
 fn has_texts(at: usize) -> bool {
     at % 8 == 7
+}
+
+fn has_polynomial(at: usize) -> bool {
+    at % 8 == 3
 }
 
 fn pid_row(_: Shape, at: usize) -> Given {
@@ -80,7 +89,11 @@ fn plf_row(shape: Shape, at: usize) -> Given {
 
 fn pcf_row(shape: Shape, at: usize) -> Given {
     let valid = if at.is_multiple_of(shape.chain) { String::new() } else { parameter(at - 1) };
-    let (categ, curtx) = if has_texts(at) { ("S", curve(at)) } else { ("N", curve(at % (shape.rows / 2))) };
+    let (categ, curtx) = match at {
+        _ if has_texts(at) => ("S", curve(at)),
+        _ if has_polynomial(at) => ("N", polynomial(at)),
+        _ => ("N", curve(at % (shape.rows / 2))),
+    };
     let (name, letter) = (parameter(at), "R");
     let columns: [(usize, &dyn ToString); 8] =
         [(1, &name), (5, &3), (6, &12), (8, &valid), (10, &categ), (11, &letter), (12, &curtx), (18, &RAW)];
@@ -105,13 +118,26 @@ fn txp_row(_: Shape, at: usize) -> Given {
 }
 
 fn ocf_row(_: Shape, at: usize) -> Given {
-    given(&[(1, &parameter(at)), (2, &3), (3, &1), (4, &"C"), (5, &"I")])
+    let inter = if has_polynomial(at) { "U" } else { "C" };
+    given(&[(1, &parameter(at)), (2, &3), (3, &1), (4, &inter), (5, &"I")])
 }
 
 fn ocp_row(_: Shape, at: usize) -> Given {
     let (name, released) = (parameter(at), parameter(0));
     let (low, high) = (-1_000_000_000, 999_999_000);
     given(&[(1, &name), (2, &1), (3, &"H"), (4, &low), (5, &high), (6, &released), (7, &RAW)])
+}
+
+fn mcf_row(_: Shape, at: usize) -> Given {
+    let first = format!("-273.{at:04}");
+    given(&[
+        (1, &polynomial(at)),
+        (3, &first),
+        (4, &"1.5E-3"),
+        (5, &"-2.25e-7"),
+        (6, &"1E-12"),
+        (7, &"-3e-17"),
+    ])
 }
 
 /// The packet of the last pid row.
@@ -126,6 +152,14 @@ pub fn full_packet(shape: Shape) -> Vec<u8> {
 
 /// The last parameter that has a curve and limits.
 pub fn last_parameter(shape: Shape) -> String {
-    let last = (0..shape.rows).rev().find(|&at| !has_texts(at));
-    parameter(last.expect("a shape has rows"))
+    last(shape, |at| !has_texts(at) && !has_polynomial(at))
+}
+
+/// The last parameter that has a polynomial.
+pub fn last_by_polynomial(shape: Shape) -> String {
+    last(shape, has_polynomial)
+}
+
+fn last(shape: Shape, asked: impl Fn(usize) -> bool) -> String {
+    parameter((0..shape.rows).rev().find(|&at| asked(at)).expect("a shape has such rows"))
 }

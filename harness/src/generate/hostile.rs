@@ -1,20 +1,23 @@
 //! Full tables that are made to cost: what a symbol table, counts and names could be slow on.
 
 use super::full::{full_set, Shape};
-use super::{ByteSet, CAF, PCF, TXF};
+use super::{ByteSet, CAF, MCF, PCF, TXF};
 
 const FULL: Shape = Shape { rows: 1_024, chain: 16 };
 
 /// Each with what makes it hostile.
 pub fn hostile_sets() -> [(&'static str, ByteSet); 3] {
     let set = full_set(FULL);
-    let colliding = colliding(FULL.rows);
+    let colliding = colliding(2 * FULL.rows);
     [
         (
             "all names of one bucket, alike in their last bytes",
             renamed(&set, |_, _, name| collide(&colliding, name)),
         ),
-        ("all rows of a table with one name", renamed(&set, |_, _, name| vec![name[0]; name.len()])),
+        (
+            "all rows of a table with one name, of caf and mcf the same",
+            renamed(&set, |_, _, name| vec![letter_of(name); name.len()]),
+        ),
         ("all names lead nowhere", renamed(&set, estrange)),
     ]
 }
@@ -23,7 +26,7 @@ pub fn hostile_sets() -> [(&'static str, ByteSet); 3] {
 fn renamed(set: &ByteSet, rename: impl Fn(usize, usize, &[u8]) -> Vec<u8>) -> ByteSet {
     let is_name = |text: &[u8]| match text {
         [b'P', rest @ ..] => rest.len() == 7 && rest.iter().all(u8::is_ascii_digit),
-        [b'C', rest @ ..] => rest.len() == 9 && rest.iter().all(u8::is_ascii_digit),
+        [b'C' | b'M', rest @ ..] => rest.len() == 9 && rest.iter().all(u8::is_ascii_digit),
         _ => false,
     };
     let column = |table: usize, at: usize, text: &[u8]| match is_name(text) {
@@ -38,18 +41,29 @@ fn renamed(set: &ByteSet, rename: impl Fn(usize, usize, &[u8]) -> Vec<u8>) -> By
     std::array::from_fn(|table| lines(table).map(|text| line(table, text)).collect::<Vec<_>>().join(&b'\n'))
 }
 
-/// What pcf, caf and txf hold is held under another letter than it is named by.
+/// What pcf, caf, txf and mcf hold is held under another letter than it is named by.
 fn estrange(table: usize, at: usize, name: &[u8]) -> Vec<u8> {
-    let held = at == 0 && [PCF, CAF, TXF].contains(&table);
+    let held = at == 0 && [PCF, CAF, TXF, MCF].contains(&table);
     let letter = if held { b'X' } else { name[0] };
     [&[letter], &name[1..]].concat()
 }
 
+/// The letter of a name's key space: caf and mcf have one.
+fn letter_of(name: &[u8]) -> u8 {
+    if name[0] == b'P' {
+        b'P'
+    } else {
+        b'C'
+    }
+}
+
 /// The name of a number, as long as it was: four letters that go with the number, and the same bytes after them.
+/// Those of mcf are none of caf's.
 fn collide(colliding: &[[u8; 4]], name: &[u8]) -> Vec<u8> {
     let number: usize = std::str::from_utf8(&name[1..]).unwrap().parse().unwrap();
-    let mut new = vec![name[0]; name.len()];
-    new[..4].copy_from_slice(&colliding[number]);
+    let first = if name[0] == b'M' { FULL.rows } else { 0 };
+    let mut new = vec![letter_of(name); name.len()];
+    new[..4].copy_from_slice(&colliding[first + number]);
     new
 }
 

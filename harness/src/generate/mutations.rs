@@ -1,7 +1,7 @@
 //! Mistakes: of columns, rows, names and bytes.
 
-use super::spelling::{number, text};
-use super::{row, ByteSet, Columns, RowSet, CAF, CAP, OCF, OCP, PCF, PIC, PID, PLF, TXF, TXP};
+use super::spelling::{coefficient, number, text};
+use super::{row, ByteSet, Columns, RowSet, CAF, CAP, MCF, OCF, OCP, PCF, PIC, PID, PLF, TXF, TXP};
 use crate::random::Random;
 use crate::reference::judging::TABLES;
 use crate::reference::schemas::{Kind, SCHEMAS};
@@ -12,14 +12,20 @@ const SPELLINGS: [&[u8]; 16] = [
     b"1.0", b"9A",
 ];
 
+/// Texts that look like coefficients, with `|` between them: some are, some are none, some are out of range.
+const COEFFICIENTS: &str = "5|5.|1.e5|0.5|08|-0|1E-05|-0.0e-9|.5|-.5|+1|1e|1E|1e+|1e-|1..2|1.2.3|-|--1|1 | 1|0x1|1,5|\
+    1e5.|1e5.0|1e 5|e5|.|inf|NaN|1e22|1e23|1e-22|1e-23|1.0e23|1.0e24|1.0e-21|1.0e-22|0e23|1e0000000022|1e-000000023|\
+    99999999999999|0.000000000001|9999999999e-22|0.1|-273.15|1e4294967297|1e-4294967274|1e9999999999";
+
 /// Bytes that divide lines or columns, stand beside the allowed range, or are foreign.
 const BYTES: [u8; 10] = [b'\n', b'\t', b'\r', 0x00, 0x1F, 0x20, 0x7E, 0x7F, 0x80, 0xFF];
 
 /// The columns that count rows: caf, txf, ocf.
 const COUNTS: [(usize, usize); 3] = [(CAF, 7), (TXF, 4), (OCF, 3)];
 
-/// The columns that name rows: table, column, and the table and column of the key they name.
-const NAMES: [(usize, usize, usize, usize); 12] = [
+/// The columns that name rows: table, column, and the table and column of the key they name. The last two are no
+/// names: a caf and an mcf row get one key.
+const NAMES: [(usize, usize, usize, usize); 17] = [
     (PLF, 1, PCF, 1),
     (PLF, 2, PID, 6),
     (PCF, 8, PCF, 1),
@@ -32,6 +38,11 @@ const NAMES: [(usize, usize, usize, usize); 12] = [
     (OCF, 1, PCF, 1),
     (OCP, 1, OCF, 1),
     (OCP, 6, PCF, 1),
+    (PCF, 12, MCF, 1),
+    (PCF, 12, MCF, 1),
+    (CAP, 1, MCF, 1),
+    (MCF, 1, CAF, 1),
+    (CAF, 1, MCF, 1),
 ];
 
 /// Texts of columns.
@@ -113,6 +124,11 @@ fn column_text(random: &mut Random, table: usize, column: usize) -> Vec<u8> {
         Kind::Text => text(random, schema.width),
         Kind::Letter(letters) if random.chance(80) => vec![*random.pick(letters)],
         Kind::Letter(_) => vec![*random.pick(b"ynrRxX? 0")],
+        Kind::Coefficient if random.chance(60) => {
+            let texts: Vec<&str> = COEFFICIENTS.split('|').collect();
+            random.pick(&texts).as_bytes().to_vec()
+        }
+        Kind::Coefficient => coefficient(random, schema.width),
         Kind::Number { .. } if random.chance(20) => random.pick(&SPELLINGS).to_vec(),
         Kind::Number { least, greatest } => {
             let inside = random.between(least, greatest);
@@ -264,7 +280,7 @@ pub fn noise_line(random: &mut Random) -> Vec<u8> {
     let any = random.chance(30);
     let longest = if random.chance(5) { 700 } else { 60 };
     let length = random.below(longest);
-    let byte = |_| if any { random.byte() } else { *random.pick(b"\t\t\t\t0011-xYNRPIUSHTA ") };
+    let byte = |_| if any { random.byte() } else { *random.pick(b"\t\t\t\t0011-.exYNRPIUSHTA ") };
     (0..length).map(byte).filter(|&byte| byte != b'\n').collect()
 }
 

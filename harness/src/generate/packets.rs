@@ -97,7 +97,9 @@ fn put_interesting(random: &mut Random, judged: &Judged, packet: &mut [u8], plac
     let texts = judged.txp.well_formed().filter(|row| row.numbr == curve).flat_map(|row| [row.from, row.to]);
     let limits =
         judged.ocp.well_formed().filter(|row| row.name == kind.name).flat_map(|row| [row.low, row.high]);
-    let values: Vec<i64> = xs.chain(texts).chain(limits).chain([0]).collect();
+    let ends = [-2_147_483_648, 2_147_483_647, 4_294_967_295];
+    let polynomials = judged.mcf.well_formed().filter(|row| row.ident == curve).flat_map(|_| ends);
+    let values: Vec<i64> = xs.chain(texts).chain(limits).chain(polynomials).chain([0]).collect();
     for occurrence in 0..place.nbocc.min(8) {
         let value = random.pick(&values) + random.between(-3, 3);
         let start = 8 * place.offby + place.offbi + occurrence * place.lgocc;

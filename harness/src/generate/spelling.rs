@@ -24,6 +24,51 @@ pub fn number(random: &mut Random, value: i64, width: usize) -> Vec<u8> {
     }
 }
 
+/// A coefficient of a polynomial that fits the column; its power of ten is now and then out of range.
+pub fn coefficient(random: &mut Random, width: usize) -> Vec<u8> {
+    loop {
+        let spelt = sign(random).to_string() + &mantissa(random) + &exponent(random);
+        if spelt.len() <= width {
+            return spelt.into_bytes();
+        }
+    }
+}
+
+fn sign(random: &mut Random) -> &'static str {
+    if random.chance(40) {
+        "-"
+    } else {
+        ""
+    }
+}
+
+/// One to fourteen digits, with a point or without.
+fn mantissa(random: &mut Random) -> String {
+    let few = random.chance(50);
+    let length = 1 + random.below(if few { 3 } else { 14 });
+    let zeros = random.chance(10);
+    let digit = |_| if zeros { '0' } else { char::from(*random.pick(b"0123456789")) };
+    let mut digits: String = (0..length).map(digit).collect();
+    if random.chance(50) {
+        digits.insert(1 + random.below(length), '.');
+    }
+    digits
+}
+
+/// Mostly none, or a small one; else one near the ends of what is good, or one that is long.
+fn exponent(random: &mut Random) -> String {
+    let value = match random.below(10) {
+        0..=3 => return String::new(),
+        4..=6 => random.between(-9, 9),
+        7 => random.between(-23, 23),
+        8 => *random.pick(&[-24, -23, -22, -21, -10, -9, 21, 22, 23, 24, 30, 33, 36]),
+        _ => random.between(-999, 999),
+    };
+    let plus = if value >= 0 { *random.pick(&["", "", "+"]) } else { "-" };
+    let zeros = *random.pick(&["", "", "", "0", "00"]);
+    format!("{}{plus}{zeros}{}", *random.pick(&["e", "E"]), value.abs())
+}
+
 /// Names that no two calls give alike, over few letters, so that many differ in one byte.
 #[derive(Default)]
 pub struct Names(std::collections::HashSet<Vec<u8>>);

@@ -5,14 +5,17 @@ use std::hash::Hash;
 
 use super::lines::{count_lines, lines};
 use super::refusals::{refuse_at, Refusal};
-use super::rows::{read_row, Caf, Cap, Ocf, Ocp, Pcf, Pic, Pid, Plf, Record, Txf, Txp};
+use super::rows::{read_row, Caf, Cap, Mcf, Ocf, Ocp, Pcf, Pic, Pid, Plf, Record, Txf, Txp};
 use super::schemas::{verdict, Columns, Verdict, GOOD};
 
-pub const TABLES: usize = 10;
+pub const TABLES: usize = 11;
 pub const MOST_BYTES: usize = 65_536;
 pub const MOST_ROWS: usize = 1_024;
 
-/// pid, pic, plf, pcf, caf, cap, txf, txp, ocf, ocp.
+/// So many cells are enough for any tables that are taken.
+pub const MOST_CELLS: usize = TABLES * MOST_ROWS;
+
+/// pid, pic, plf, pcf, caf, cap, txf, txp, ocf, ocp, mcf.
 pub type Tables<'a> = [&'a [u8]; TABLES];
 
 /// A row's verdict, and its fields where it is well-formed: without reasons 1 to 8.
@@ -111,11 +114,16 @@ fn judge_rows<T>(rows: &mut [Row<T>], reason: impl Fn(&T) -> Verdict) {
 }
 
 fn index_by<T, K: Eq + Hash>(rows: &[Row<T>], key: impl Fn(&T) -> Option<K>) -> Index<K> {
-    let mut index = Index::with_capacity(rows.len());
-    for (at, row) in rows.iter().enumerate() {
-        if let Some(key) = row.fields.as_ref().and_then(&key) {
-            index.entry(key).and_modify(|holders| *holders = Holders::Several).or_insert(Holders::One(at));
-        }
+    let held =
+        rows.iter().enumerate().filter_map(|(at, row)| Some((at, row.fields.as_ref().and_then(&key)?)));
+    index_of(held)
+}
+
+/// Who holds which key, of rows by their places.
+fn index_of<K: Eq + Hash>(held: impl Iterator<Item = (usize, K)>) -> Index<K> {
+    let mut index = Index::with_capacity(held.size_hint().1.unwrap_or(0));
+    for (at, key) in held {
+        index.entry(key).and_modify(|holders| *holders = Holders::Several).or_insert(Holders::One(at));
     }
     index
 }
@@ -147,7 +155,7 @@ fn first_unmet(names: &[(bool, u16)]) -> Verdict {
     }
 }
 
-/// Ten tables, every row judged.
+/// Eleven tables, every row judged.
 pub struct Judged<'a> {
     pub pid: Table<Pid, [i64; 5]>,
     pub pic: Table<Pic, (i64, i64, Option<i64>)>,
@@ -159,6 +167,7 @@ pub struct Judged<'a> {
     pub txp: Table<Txp<'a>, (&'a [u8], i64)>,
     pub ocf: Table<Ocf<'a>, &'a [u8]>,
     pub ocp: Table<Ocp<'a>, (&'a [u8], i64)>,
+    pub mcf: Table<Mcf<'a>, &'a [u8]>,
     spids: Index<i64>,
     /// The cap, txp and ocp rows of each name that hold keys for counting.
     pub points: Groups<'a>,
@@ -166,7 +175,7 @@ pub struct Judged<'a> {
     pub checks: Groups<'a>,
 }
 
-/// Refusals 1 and 2, each at its first table, 1 to 10; else the count of all rows.
+/// Refusals 1 and 2, each at its first table, 1 to 11; else the count of all rows.
 pub fn count_rows(tables: &Tables) -> Result<usize, Refusal> {
     if let Some(at) = tables.iter().position(|table| table.len() > MOST_BYTES) {
         return refuse_at(1, at as u64 + 1);
@@ -189,7 +198,7 @@ pub fn judge<'a>(tables: &Tables<'a>) -> Judged<'a> {
 }
 
 fn read<'a>(tables: &Tables<'a>) -> Judged<'a> {
-    let [pid, pic, plf, pcf, caf, cap, txf, txp, ocf, ocp] = *tables;
+    let [pid, pic, plf, pcf, caf, cap, txf, txp, ocf, ocp, mcf] = *tables;
     let pid = Table::<Pid, _>::read(pid);
     let spids = index_by(&pid.rows, Pid::spid_key);
     Judged {
@@ -203,6 +212,7 @@ fn read<'a>(tables: &Tables<'a>) -> Judged<'a> {
         txp: Table::read(txp),
         ocf: Table::read(ocf),
         ocp: Table::read(ocp),
+        mcf: Table::read(mcf),
         spids,
         points: Groups::new(),
         texts: Groups::new(),
@@ -220,7 +230,8 @@ impl<'a> Judged<'a> {
         let curves = of(&self.caf.rows).chain(of(&self.cap.rows));
         let texts = of(&self.txf.rows).chain(of(&self.txp.rows));
         let limits = of(&self.ocf.rows).chain(of(&self.ocp.rows));
-        packets.chain(of(&self.pcf.rows)).chain(curves).chain(texts).chain(limits).collect()
+        let ten = packets.chain(of(&self.pcf.rows)).chain(curves).chain(texts).chain(limits);
+        ten.chain(of(&self.mcf.rows)).collect()
     }
 
     fn judge_keys(&mut self) {
@@ -230,12 +241,21 @@ impl<'a> Judged<'a> {
         self.pic.judge_shared();
         self.plf.judge_shared();
         self.pcf.judge_shared();
-        self.caf.judge_shared();
+        self.judge_curve_keys();
         self.cap.judge_shared();
         self.txf.judge_shared();
         self.txp.judge_shared();
         self.ocf.judge_shared();
         self.ocp.judge_shared();
+    }
+
+    /// 02, P1: "IDENT shares its keys with caf NUMBR, so a clash is reason 9 for both".
+    fn judge_curve_keys(&mut self) {
+        let (caf, mcf) =
+            (self.caf.well_formed().map(|row| row.numbr), self.mcf.well_formed().map(|row| row.ident));
+        let curves = index_of(caf.chain(mcf).enumerate());
+        self.caf.judge(|row| shared_verdict(is_shared(&curves, row.key())));
+        self.mcf.judge(|row| shared_verdict(is_shared(&curves, row.key())));
     }
 
     /// 01: "10 count differs (count column)", over the rows without reasons 1 to 9.
@@ -292,7 +312,8 @@ impl<'a> Judged<'a> {
         let valid_met = row.valid.is_none() || next_row.is_some_and(Pcf::is_integer);
         let curve_met = row.curtx.is_none_or(|name| match row.categ {
             b'S' => self.txf.good(&name).is_some(),
-            _ => self.caf.good(&name).is_some(),
+            // 02, P1: "N parameters may name either".
+            _ => self.caf.good(&name).is_some() || self.mcf.good(&name).is_some(),
         });
         self.pcf.rows[at].cell = first_unmet(&[(valid_met, 8), (curve_met, 12)]);
     }
@@ -310,7 +331,9 @@ impl<'a> Judged<'a> {
         });
         self.ocf.judge(|row| {
             let checkable = named(row.name, |pcf| pcf.is_integer() && pcf.categ == b'N');
-            let curved = row.inter == b'U' || named(row.name, |pcf| pcf.curtx.is_some());
+            // 02, P1: "a limit with INTER C on a polynomial is reason 11 at column 4".
+            let curve = pcf.good(&row.name).and_then(|(_, pcf)| pcf.curtx);
+            let curved = row.inter == b'U' || curve.is_some_and(|name| caf.good(&name).is_some());
             first_unmet(&[(checkable, 1), (curved, 4)])
         });
         let ocf = &self.ocf;

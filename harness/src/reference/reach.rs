@@ -3,7 +3,7 @@
 use std::collections::HashMap;
 
 use super::judging::{Judged, Row};
-use super::rows::{Caf, Cap, Ocf, Ocp, Pcf, Pic, Pid, Plf, Txf, Txp};
+use super::rows::{Caf, Cap, Mcf, Ocf, Ocp, Pcf, Pic, Pid, Plf, Txf, Txp};
 
 /// What a row can be found by: a key that it holds, or the name by which it is counted.
 #[derive(Clone, Copy, PartialEq, Eq, Hash)]
@@ -13,7 +13,8 @@ enum Mark<'a> {
     Pic((i64, i64, Option<i64>)),
     Plf(&'a [u8], i64),
     Pcf(&'a [u8]),
-    Caf(&'a [u8]),
+    /// NUMBR of caf and IDENT of mcf, which are one key space.
+    Curve(&'a [u8]),
     Cap(&'a [u8], i64),
     Txf(&'a [u8]),
     Txp(&'a [u8], i64),
@@ -66,7 +67,7 @@ impl<'a> Leaning<'a> for Plf<'a> {
 
 impl<'a> Leaning<'a> for Pcf<'a> {
     fn marks(&self) -> Marks<'a> {
-        let curve = if self.categ == b'S' { Mark::Txf } else { Mark::Caf };
+        let curve = if self.categ == b'S' { Mark::Txf } else { Mark::Curve };
         let leads = self.valid.map(Mark::Pcf).into_iter().chain(self.curtx.map(curve)).collect();
         Marks { keys: vec![Mark::Pcf(self.name)], leads, counted: None }
     }
@@ -74,7 +75,7 @@ impl<'a> Leaning<'a> for Pcf<'a> {
 
 impl<'a> Leaning<'a> for Caf<'a> {
     fn marks(&self) -> Marks<'a> {
-        Marks { keys: vec![Mark::Caf(self.numbr)], leads: vec![Mark::PointOf(self.numbr)], counted: None }
+        Marks { keys: vec![Mark::Curve(self.numbr)], leads: vec![Mark::PointOf(self.numbr)], counted: None }
     }
 }
 
@@ -82,7 +83,7 @@ impl<'a> Leaning<'a> for Cap<'a> {
     fn marks(&self) -> Marks<'a> {
         Marks {
             keys: vec![Mark::Cap(self.numbr, self.x)],
-            leads: vec![Mark::Caf(self.numbr)],
+            leads: vec![Mark::Curve(self.numbr)],
             counted: Some(Mark::PointOf(self.numbr)),
         }
     }
@@ -122,6 +123,13 @@ impl<'a> Leaning<'a> for Ocp<'a> {
     }
 }
 
+impl<'a> Leaning<'a> for Mcf<'a> {
+    /// It counts nothing, so that it leads to no cap row; a cap row of its IDENT leads to it.
+    fn marks(&self) -> Marks<'a> {
+        Marks { keys: vec![Mark::Curve(self.ident)], ..Marks::default() }
+    }
+}
+
 /// The marks of every row, in the order of the cells; those of a row with reasons 1 to 8 are none.
 fn all_marks<'a>(judged: &Judged<'a>) -> Vec<Marks<'a>> {
     fn add<'a, T: Leaning<'a>>(all: &mut Vec<Marks<'a>>, rows: &[Row<T>]) {
@@ -138,6 +146,7 @@ fn all_marks<'a>(judged: &Judged<'a>) -> Vec<Marks<'a>> {
     add(&mut all, &judged.txp.rows);
     add(&mut all, &judged.ocf.rows);
     add(&mut all, &judged.ocp.rows);
+    add(&mut all, &judged.mcf.rows);
     all
 }
 

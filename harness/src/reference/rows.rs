@@ -1,11 +1,13 @@
-//! The rows of the ten tables, decoded, and reason 8.
+//! The rows of the eleven tables, decoded, and reason 8.
 
 use std::hash::Hash;
 
+use super::coefficients::Coefficient;
 use super::lines::Line;
+use super::polynomials::Polynomial;
 use super::schemas::{self, verdict, Column, Columns, Verdict};
 
-/// A row of one of the ten tables.
+/// A row of one of the eleven tables.
 pub trait Record<'a>: Sized {
     const SCHEMA: &'static [Column];
     type Key: Eq + Hash;
@@ -364,5 +366,31 @@ impl<'a> Record<'a> for Ocp<'a> {
 
     fn key(&self) -> Option<Self::Key> {
         Some((self.name, self.pos))
+    }
+}
+
+#[derive(Debug)]
+pub struct Mcf<'a> {
+    pub ident: &'a [u8],
+    pub polynomial: Polynomial,
+}
+
+impl<'a> Record<'a> for Mcf<'a> {
+    const SCHEMA: &'static [Column] = schemas::MCF;
+    type Key = &'a [u8];
+
+    fn read(columns: &Columns<'a>, _: Line<'a>) -> Result<Self, u16> {
+        let double = |column: u16| match columns.given(column.into()).map(Coefficient::read) {
+            None => Ok(0.0),
+            Some(Ok(coefficient)) => Ok(coefficient.double()),
+            // None is left here, since the schema takes no such text.
+            Some(Err(_)) => Err(column),
+        };
+        let coefficients = [double(3)?, double(4)?, double(5)?, double(6)?, double(7)?];
+        Ok(Mcf { ident: columns.text(1), polynomial: Polynomial(coefficients) })
+    }
+
+    fn key(&self) -> Option<Self::Key> {
+        Some(self.ident)
     }
 }

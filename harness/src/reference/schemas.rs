@@ -1,5 +1,6 @@
-//! The columns of the ten tables, and reasons 1 to 7.
+//! The columns of the eleven tables, and reasons 1 to 7.
 
+use super::coefficients::Coefficient;
 use super::lines::Line;
 use super::numbers::number;
 
@@ -15,8 +16,13 @@ pub const fn verdict(reason: u16, column: u16) -> Verdict {
 #[derive(Clone, Copy, Debug)]
 pub enum Kind {
     Text,
-    Number { least: i64, greatest: i64 },
+    Number {
+        least: i64,
+        greatest: i64,
+    },
     Letter(&'static [u8]),
+    /// A coefficient of a polynomial.
+    Coefficient,
 }
 
 #[derive(Clone, Copy, Debug)]
@@ -42,6 +48,10 @@ const fn ranged(width: usize, least: i64, greatest: i64) -> Column {
 
 const fn letter(letters: &'static [u8]) -> Column {
     Column { width: 1, mandatory: false, kind: Kind::Letter(letters) }
+}
+
+const fn coefficient(width: usize) -> Column {
+    Column { width, mandatory: false, kind: Kind::Coefficient }
 }
 
 const SERVICE: Column = ranged(3, 0, 255).mandatory();
@@ -135,8 +145,19 @@ pub const OCF: &[Column] = &[
 pub const OCP: &[Column] =
     &[NAME, ranged(2, 0, 99).mandatory(), letter(b"SHDCE").mandatory(), BOUND, BOUND, text(8), VALPAR];
 
+/// 02, P1: "IDENT 10!, DESCR 32, POL1 14!, POL2 to POL5 14 each, default 0".
+pub const MCF: &[Column] = &[
+    CURVE,
+    text(32),
+    coefficient(14).mandatory(),
+    coefficient(14),
+    coefficient(14),
+    coefficient(14),
+    coefficient(14),
+];
+
 /// The schemas in the order of the tables.
-pub const SCHEMAS: [&[Column]; 10] = [PID, PIC, PLF, PCF, CAF, CAP, TXF, TXP, OCF, OCP];
+pub const SCHEMAS: [&[Column]; 11] = [PID, PIC, PLF, PCF, CAF, CAP, TXF, TXP, OCF, OCP, MCF];
 
 const MOST_COLUMNS: usize = 23;
 
@@ -198,8 +219,9 @@ impl<'a> Columns<'a> {
     }
 }
 
-/// 01: "4 mandatory and empty, 5 too wide, 6 not a number or not a listed letter, 7 out of range".
-/// The number of a column of numbers, else 0.
+/// 01: "4 mandatory and empty, 5 too wide, 6 not a number or not a listed letter, 7 out of range"; of a
+/// coefficient 02, P1: "other text is reason 6. The exponent less the digits after the point must be −22 to 22, else
+/// reason 7." The number of a column of numbers, else 0.
 fn check_column(text: &[u8], column: &Column) -> Result<i64, u16> {
     if text.is_empty() {
         return if column.mandatory { Err(4) } else { Ok(0) };
@@ -210,6 +232,7 @@ fn check_column(text: &[u8], column: &Column) -> Result<i64, u16> {
     match column.kind {
         Kind::Text => Ok(0),
         Kind::Letter(letters) => letters.contains(&text[0]).then_some(0).ok_or(6),
+        Kind::Coefficient => Coefficient::read(text).map(|_| 0),
         Kind::Number { least, greatest } => {
             let value = number(text).ok_or(6u16)?;
             (least..=greatest).contains(&value).then_some(value).ok_or(7)

@@ -1,4 +1,4 @@
-//! Engineering values: curves and texts.
+//! Engineering values: curves, polynomials and texts.
 
 use super::curves::{curve_at, Point};
 use super::judging::Judged;
@@ -8,6 +8,7 @@ use super::refusals::{refuse, Refusal};
 #[derive(Debug, PartialEq)]
 pub enum Value {
     Integer(i64),
+    Double(f64),
     /// The part of the packet that a string is.
     String {
         start: i64,
@@ -27,7 +28,10 @@ pub fn engineer(judged: &Judged, packet: &[u8], name: &[u8], occurrence: usize) 
         (Raw::Text { start, length }, _) => Ok(Value::String { start, length }),
         (Raw::Integer(raw), None) => Ok(Value::Integer(raw)),
         (Raw::Integer(raw), Some(texts)) if kind.categ == b'S' => text_at(judged, texts, raw),
-        (Raw::Integer(raw), Some(curve)) => by_curve(judged, curve, raw).map(Value::Integer),
+        (Raw::Integer(raw), Some(curve)) => match judged.mcf.good(&curve) {
+            Some((_, row)) => Ok(Value::Double(row.polynomial.at(raw))),
+            None => by_curve(judged, curve, raw).map(Value::Integer),
+        },
     }
 }
 

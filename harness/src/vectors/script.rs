@@ -8,9 +8,9 @@ use crate::reference::limits::State;
 use crate::reference::numbers::number;
 use crate::reference::Tables;
 
-/// The ten tables in their order, and then the packet.
+/// The eleven tables in their order, and then the packet.
 const PLACES: [&[u8]; TABLES + 1] =
-    [b"pid", b"pic", b"plf", b"pcf", b"caf", b"cap", b"txf", b"txp", b"ocf", b"ocp", b"packet"];
+    [b"pid", b"pic", b"plf", b"pcf", b"caf", b"cap", b"txf", b"txp", b"ocf", b"ocp", b"mcf", b"packet"];
 
 const PACKET: usize = TABLES;
 
@@ -18,7 +18,7 @@ const PACKET: usize = TABLES;
 const MOST_BYTES: usize = 65_537;
 
 /// The cells that are lent where a question doesn't say how many, and at most.
-pub const MOST_CELLS: usize = 10_240;
+pub const MOST_CELLS: usize = 11_264;
 
 pub enum Line {
     Comment,

@@ -63,11 +63,12 @@ fn part(start: i64, length: i64) -> String {
     format!("string from {start}, {length} bytes")
 }
 
-/// A text is spelled with its bytes, a part of txp.
+/// A text is spelled with its bytes, a part of txp, and a double by its bits.
 pub fn engineer(answer: &Answer, txp: &[u8]) -> String {
     unless_refused(answer, || match answer.places {
         [0, value, ..] => value.to_string(),
         [1, start, length, ..] => part(start, length),
+        [3, bits, ..] => format!("double {bits:016X}"),
         [_, row, start, length, ..] => {
             let text = txp.get(start as usize..(start + length) as usize).unwrap_or_default();
             let text = String::from_utf8_lossy(text);
