@@ -19,7 +19,8 @@ unfoldable pub stateAfter : LimitState → Outcome LimitState → LimitState
 stateAfter s (refused number place) = s
 stateAfter s (answer t) = t
 
--- a fresh state after a packet of APID 10 and count 5 whose readings left this run; and the same state, where the packet is refused
+-- a fresh state after a packet of APID 10 and count 5 whose readings left this run; and the same state,
+-- where the packet is refused
 abbrev begun : LimitState
 begun = record { fresh = true; apid = 0; count = 0; run = 0; announced = 0 }
 

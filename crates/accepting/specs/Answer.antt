@@ -15,7 +15,8 @@ unfoldable pub saidStep : Answer → LimitState → Outcome LimitState
 saidStep Taken state = answer state
 saidStep (Refused refusal) state = refusedBy refusal
 
--- the answer is this outcome; and the state beside it is the state after the packet: refused, it is the one that was offered
+-- the answer is this outcome; and the state beside it is the state after the packet: refused,
+-- it is the one that was offered
 pub record Answers (offered : LimitState) (outcome : Outcome LimitState) (r : Stepped) : Type 0 where
   pub said : saidStep (r .answer) (r .state) ≡ outcome
   pub after : r .state ≡ stateAfter offered outcome

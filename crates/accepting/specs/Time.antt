@@ -7,11 +7,13 @@ use Rattle.headers.specs.declared.Head.{Head}
 use Rattle.limit_state.specs.State.{isOver, hasNumber, isState, ahead, isNewer}
 use Rattle.limit_state.specs.declared.state.LimitState.{LimitState}
 
--- 01: "34 … state with run over 99, announced over 2, APID over 2,047, count over 16,383, or fresh with any number not 0"
+-- 01: "34 … state with run over 99, announced over 2, APID over 2,047, count over 16,383,
+-- or fresh with any number not 0"
 unfoldable pub stateIn : LimitState → Outcome LimitState
 stateIn s = cond (isState s) (answer s) (refused 34 0)
 
--- 01: "35, 36 … packet not newer; packet of another APID"; "a fresh state takes any count and any APID"; 36 comes before 35
+-- 01: "35, 36 … packet not newer; packet of another APID"; "a fresh state takes any count and any APID";
+-- 36 comes before 35
 unfoldable pub inTime : LimitState → Head → Outcome LimitState
 inTime s head =
     cond (s .fresh) (answer s)

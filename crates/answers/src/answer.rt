@@ -9,8 +9,8 @@ ghost use lib.ListN.{length, drop};
 ghost use Rattle.answers.specs.Answers.{composed, saying, refusing, unreadable, wordsAnswer, integerAnswer};
 ghost use Rattle.answers.specs.Answers.{one as oneOf, two as twoOf};
 
-// A template in which `#` stands for the next number, the first with a minus if it is negative; then so many bytes of txp from a place on,
-// and the first of an import's cells. `readable` says whether the question could be read.
+// A template in which `#` stands for the next number, the first with a minus if it is negative; then so many bytes of
+// txp from a place on, and the first of an import's cells. `readable` says whether the question could be read.
 pub struct Answer {
     pub readable: bool,
     pub template: [u8; 64],

@@ -1,4 +1,5 @@
-// Whether a line is an answer, byte by byte: a walk over both. A place past the line's end says that a byte was another.
+// Whether a line is an answer, byte by byte: a walk over both.
+// A place past the line's end says that a byte was another.
 use crate::answer::Answer;
 use crate::cells::match_cells;
 use crate::decimal::match_decimal;

@@ -37,7 +37,8 @@ module _ (rows : Rows) (p : List ℕ) (spid : ℕ) where
   unfoldable pub firstRaw : Name → Outcome Value
   firstRaw name = andThen (located rows spid name) (λ (at : Located). rawOf p (at .plf) (at .pcf) 0)
 
-  -- 01: "A check applies when RLCHK is empty or the raw value of its occurrence 0, valid or not, equals the check's VALPAR"
+  -- 01: "A check applies when RLCHK is empty or the raw value of its occurrence 0, valid or not,
+  -- equals the check's VALPAR"
   unfoldable pub applies : OcpRow → Bool
   applies row = not (row .rlchk .given) || hasValue (firstRaw (row .rlchk .name)) (row .valpar)
 

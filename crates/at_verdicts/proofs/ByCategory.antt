@@ -1,4 +1,5 @@
--- Refusals 30 and 31 of an engineering value mean exactly what 01 says, "raw value off an F curve" and "curve result outside …".
+-- Refusals 30 and 31 of an engineering value mean exactly what 01 says,
+-- "raw value off an F curve" and "curve result outside …".
 use mathlib.Core.Path.{_≡_, refl, sym, ap, subst, _∙_}
 use mathlib.Core.Logic.{_↔_}
 use mathlib.Core.Bool.{Bool, true, false, cond}

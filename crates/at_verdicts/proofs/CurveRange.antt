@@ -1,4 +1,5 @@
--- Along a curve of sound points 31 comes up exactly where its result is out of range, and the raw value isn't off an F curve.
+-- Along a curve of sound points 31 comes up exactly where its result is out of range,
+-- and the raw value isn't off an F curve.
 use mathlib.Core.Path.{_≡_, refl, sym, ap, _∙_}
 use mathlib.Core.Logic.{_↔_}
 use mathlib.Core.Bool.{Bool, true, false, not, cond, _&&_}

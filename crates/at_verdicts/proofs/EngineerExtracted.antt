@@ -1,4 +1,5 @@
--- An engineering call is refused with a number that no curve and no text gives exactly where the extraction is, and with its place.
+-- An engineering call is refused with a number that no curve and no text gives exactly where the extraction is,
+-- and with its place.
 use mathlib.Core.Path.{_≡_, refl, ap}
 use mathlib.Core.Logic.{_↔_}
 use mathlib.Core.Bool.{true, false}

@@ -1,4 +1,5 @@
--- Refusals 30, 31 and 32 of a call for an engineering value: the value read is off its F curve, the curve's result out of range, or without a text.
+-- Refusals 30, 31 and 32 of a call for an engineering value: the value read is off its F curve,
+-- the curve's result out of range, or without a text.
 use mathlib.Core.Path.{_≡_, refl, sym, ap, _∙_}
 use mathlib.Core.Logic.{_↔_}
 use mathlib.Core.Bool.{true, false}

@@ -1,4 +1,5 @@
--- The raw value of an occurrence by its field: 27 past NBOCC, 28 where a bit lies outside, and of PTC 1-4 else a number.
+-- The raw value of an occurrence by its field: 27 past NBOCC, 28 where a bit lies outside,
+-- and of PTC 1-4 else a number.
 use mathlib.Core.Path.{_≡_, refl, sym, _∙_}
 use mathlib.Core.Bool.{Bool, true, false, cond}
 use mathlib.Core.List.{List}

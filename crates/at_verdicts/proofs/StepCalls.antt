@@ -1,5 +1,6 @@
 -- Refusals 28, 30 and 31 of a limit step mean exactly what 01 says.
--- 01: "In a limit step 28 is sought over all occurrences first, then 30, then 31, these two only on valid occurrences under INTER C"
+-- 01: "In a limit step 28 is sought over all occurrences first, then 30, then 31,
+-- these two only on valid occurrences under INTER C"
 use mathlib.Core.Path.{_≡_, refl}
 use mathlib.Core.Logic.{_↔_}
 use mathlib.Core.List.{List}

@@ -1,4 +1,5 @@
--- 30 and 31 of the values of a packet that is taken: a valid occurrence under INTER C is off its curve, or its result out of range.
+-- 30 and 31 of the values of a packet that is taken: a valid occurrence under INTER C is off its curve,
+-- or its result out of range.
 use mathlib.Core.Path.{_≡_, refl, sym, ap, _∙_}
 use mathlib.Core.Logic.{_↔_}
 use mathlib.Core.Bool.{Bool, true, false, cond}

@@ -1,4 +1,5 @@
--- What a limit step checks before its rows, 34 and 20 to 25: any other refusal comes later, of a packet that is identified.
+-- What a limit step checks before its rows, 34 and 20 to 25: any other refusal comes later,
+-- of a packet that is identified.
 use mathlib.Core.Path.{_≡_, refl, ap, _∙_}
 use mathlib.Core.Bool.{Bool, true, false, cond}
 use mathlib.Core.List.{List, [], _∷_}

@@ -1,4 +1,5 @@
--- Refusals 33 and 26 of a limit step mean exactly what 01 says, "no good ocf row" and "no good plf row for name and SPID".
+-- Refusals 33 and 26 of a limit step mean exactly what 01 says,
+-- "no good ocf row" and "no good plf row for name and SPID".
 use mathlib.Core.Path.{_≡_, refl, sym, ap, subst, _∙_}
 use mathlib.Core.Logic.{_↔_}
 use mathlib.Core.List.{List}

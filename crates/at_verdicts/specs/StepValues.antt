@@ -1,5 +1,6 @@
 -- Packets that a limit step refuses for a value.
--- 01: "In a limit step 28 is sought over all occurrences first, then 30, then 31, these two only on valid occurrences under INTER C"
+-- 01: "In a limit step 28 is sought over all occurrences first, then 30, then 31,
+-- these two only on valid occurrences under INTER C"
 use mathlib.Core.Path.{_≡_}
 use mathlib.Core.Bool.{true, false}
 use mathlib.Core.List.{List}

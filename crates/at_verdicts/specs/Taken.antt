@@ -1,4 +1,5 @@
--- A packet that a limit step takes as far as its values. 01: "a limit step checks 34, 20–25, 33, 26, 36, 35, 28, 30, 31"
+-- A packet that a limit step takes as far as its values. 01: "a limit step checks 34, 20–25, 33, 26, 36, 35, 28,
+-- 30, 31"
 use mathlib.Core.Path.{_≡_}
 use mathlib.Core.Bool.{true}
 use mathlib.Core.List.{List}

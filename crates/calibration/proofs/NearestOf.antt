@@ -1,4 +1,5 @@
--- What is found is on its side of the value, and no other element there is nearer; where nothing is found, none is there.
+-- What is found is on its side of the value, and no other element there is nearer; where nothing is found,
+-- none is there.
 use mathlib.Core.Path.{_≡_, sym, _∙_}
 use mathlib.Core.Bool.{true, false}
 use mathlib.Core.List.{List}

@@ -69,8 +69,8 @@ of-one : (
 unfolding curveAt placed fromLast beforeFirst offEnd through notAbove below above nearestOf better closer nearer passes
 of-one = (refl, refl, refl)
 
--- of (20,100), (0,0) and (10,-5) in this order: 15 gives 47; an end is on the curve; before the first point P uses the first two,
--- so -1 gives 1/2 and so 0, and F refuses
+-- of (20,100), (0,0) and (10,-5) in this order: 15 gives 47; an end is on the curve; before the first point P uses the
+-- first two, so -1 gives 1/2 and so 0, and F refuses
 of-three : (
     let xs = pos 20 ∷ pos 0 ∷ pos 10 ∷ [] in
     let ys = pos 100 ∷ pos 0 ∷ negsuc 4 ∷ [] in

@@ -48,7 +48,8 @@ below xs v = nearestOf Below xs v (length xs)
 unfoldable pub above : List ℤ → ℤ → Found
 above xs v = nearestOf Above xs v (length xs)
 
--- of 20, -5, 10 and 0: not above 10 is 10, below it 0, and above it 20; none is above 20, and -5 is the one not above -1
+-- of 20, -5, 10 and 0: not above 10 is 10, below it 0, and above it 20; none is above 20,
+-- and -5 is the one not above -1
 of-four : (
     let xs = pos 20 ∷ negsuc 4 ∷ pos 10 ∷ pos 0 ∷ [] in
     (notAbove xs (pos 10) ≡ At 2) × (below xs (pos 10) ≡ At 3) × (above xs (pos 10) ≡ At 0) × (above xs (pos 20) ≡ Nothing) × (notAbove xs (negsuc 0) ≡ At 1)

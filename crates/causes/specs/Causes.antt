@@ -19,7 +19,8 @@ columnOfVerdict v = v % 256
 abbrev pub shares : Entry → Entry → Bool
 shares e o = rivals e o
 
--- 01: "10 count differs": the rows that are counted. 01: "Only rows without reasons 1–9 hold keys for counting and chains"
+-- 01: "10 count differs": the rows that are counted. 01:
+-- "Only rows without reasons 1–9 hold keys for counting and chains"
 abbrev pub counted : List Entry → Entry → Entry → Bool
 counted rows e o = counts e o && sound rows o
 
@@ -27,7 +28,8 @@ counted rows e o = counts e o && sound rows o
 abbrev pub follower : List Entry → Entry → Entry → Bool
 follower rows e o = follows e o && sound rows o
 
--- 01: "11 a named row isn't there, good and of the kind asked, lowest column": every row that holds the key which that column names
+-- 01: "11 a named row isn't there, good and of the kind asked, lowest column":
+-- every row that holds the key which that column names
 abbrev pub named : (column : ℕ) → Entry → Entry → Bool
 named column e o = namesAt column e o
 
@@ -40,6 +42,7 @@ speaksOf rows v e o =
     (cond (eqb (reasonOf v) 12) (follower rows e o)
     false)))
 
--- all rows that the verdict of e speaks of, in table order. A good row's, and those of reasons 1 to 8, speak of the row alone
+-- all rows that the verdict of e speaks of, in table order. A good row's, and those of reasons 1 to 8,
+-- speak of the row alone
 unfoldable pub causes : List Entry → Entry → List Entry
 causes rows e = keep (speaksOf rows (verdict rows e) e) rows

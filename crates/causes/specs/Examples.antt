@@ -51,7 +51,8 @@ figure ncurve =
     ∷ (rowOf ("C1" ∷ "0" ∷ "0" ∷ []) ++ rowOf ("C1" ∷ "10" ∷ "-5" ∷ [])) ∷ [] ∷ [] ∷ [] ∷ [] ∷ []
 
 pub record FromBytes : Type 0 where
-  -- 01: "A caf row with NCURVE 3, two sound cap rows of it and nothing else": its verdict speaks of both, and theirs of it
+  -- 01: "A caf row with NCURVE 3, two sound cap rows of it and nothing else": its verdict speaks of both,
+  -- and theirs of it
   pub miscounted : causesIn (allRows (figure "3")) ≡ (rowPlace 5 1 ∷ rowPlace 5 2 ∷ []) ∷ (rowPlace 4 1 ∷ []) ∷ (rowPlace 4 1 ∷ []) ∷ []
   -- with the right count all are good, and lean on nothing
   pub counted : causesIn (allRows (figure "2")) ≡ [] ∷ [] ∷ [] ∷ []

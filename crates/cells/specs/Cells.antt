@@ -41,7 +41,8 @@ noCells = record { start = 0; end = 0 }
 unfoldable pub cellsOf : List (List ℕ) → ℕ → TableCells
 cellsOf texts n = cond (haveCells texts && isTable n) (record { start = rowsBefore texts (n - 1); end = rowsBefore texts n }) noCells
 
--- the cell of row r among a table's cells: that of row 1 is the first. By `cell-is` this is `cellOf` at the cells of `cellsOf`
+-- the cell of row r among a table's cells: that of row 1 is the first.
+-- By `cell-is` this is `cellOf` at the cells of `cellsOf`
 unfoldable pub cellIn : TableCells → ℕ → Cell
 cellIn cells r = cond (ltb 0 r && leb r (cells .end - cells .start)) (At (cells .start + (r - 1))) NoCell
 

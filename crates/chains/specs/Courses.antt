@@ -1,4 +1,5 @@
--- What is remembered of chains, so that none is followed to its end for each of its rows. These are for the code: no promise mentions them.
+-- What is remembered of chains, so that none is followed to its end for each of its rows. These are for the code:
+-- no promise mentions them.
 use Prim.Native.Nat.{ℕ}
 use mathlib.Core.Path.{_≡_}
 use mathlib.Core.Bool.{Bool, true, false}

@@ -23,8 +23,8 @@ fn longer(steps: usize) -> usize
     if steps < 32768 { steps * 2 } else { steps }
 }
 
-// The chain from row i, at most n steps of it, up to a row whose chain is known to end. A row that was passed is kept, after
-// more steps each time a later one: where it is met again, the chain goes round without coming to row i.
+// The chain from row i, at most n steps of it, up to a row whose chain is known to end. A row that was passed is kept,
+// after more steps each time a later one: where it is met again, the chain goes round without coming to row i.
 pub(crate) fn follow(next: &[u16], ended: &[u8; PLACES], n: usize, i: usize) -> Course
     requires { ⌜ KnownEnds (now next) (now ended) ⌝ }
     ensures { λ r. ⌜ Followed (now (next .entry)) n i r ⌝ }

@@ -1,4 +1,5 @@
-// Chains of rows: each row has at most one next row. Whether a chain comes back to its first row, and whether all its rows are firm.
+// Chains of rows: each row has at most one next row. Whether a chain comes back to its first row,
+// and whether all its rows are firm.
 mod circles;
 mod ends;
 mod firm;

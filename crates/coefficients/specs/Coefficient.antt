@@ -1,5 +1,5 @@
--- The double that the text of a coefficient is. `lib.Ieee` says over whole numbers what each operation gives: the exact fraction,
--- rounded once to the nearest double, a tie to the even one.
+-- The double that the text of a coefficient is. `lib.Ieee` says over whole numbers what each operation gives: the exact
+-- fraction, rounded once to the nearest double, a tie to the even one.
 use Prim.Native.Nat.{ℕ, _+_, _-_, _^_}
 use mathlib.Core.Path.{_≡_, refl}
 use mathlib.Core.List.{List, []}
@@ -25,8 +25,8 @@ unfoldable pub withSign : Bool → Float → Float
 withSign false x = x
 withSign true x = neg x
 
--- 02, P1: "The exponent less the digits after the point must be −22 to 22, else reason 7. The number is one rounded product or
--- quotient of two exact doubles"
+-- 02, P1: "The exponent less the digits after the point must be −22 to 22, else reason 7. The number is one rounded
+-- product or quotient of two exact doubles"
 -- the exponent less the digits after the point is up - down
 unfoldable pub scaled : (negative : Bool) (digits up down : ℕ) → Coefficient
 scaled m n up down =

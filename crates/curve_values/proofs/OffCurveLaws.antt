@@ -1,4 +1,5 @@
--- 30 comes up exactly where the raw value is off an F curve: of a curve of two sound points or more, no two of them with one X.
+-- 30 comes up exactly where the raw value is off an F curve: of a curve of two sound points or more,
+-- no two of them with one X.
 use mathlib.Core.Path.{_≡_, refl, sym, ap, _∙_}
 use mathlib.Core.Bool.{Bool, true, false, not, cond, _&&_, _||_}
 use mathlib.Core.List.{List}
@@ -30,7 +31,8 @@ use Rattle.curve_values.specs.Along.{outcomeOf, along}
 use Rattle.curve_values.specs.OffCurve.{isF, isOff, isOffCurve}
 use Rattle.curve_values.proofs.OrderLaws.{not-lt, not-le, lt-le, le-lt}
 
--- as the rows of a good curve are. 01: "NCURVE 3! 2–100"; "XVALS 14! and YVALS 14!, each −1,073,741,824 to 1,073,741,823"; "Key NUMBR and the value of XVALS"
+-- as the rows of a good curve are. 01: "NCURVE 3! 2–100"; "XVALS 14! and YVALS 14!, each −1,073,741,824 to
+-- 1,073,741,823"; "Key NUMBR and the value of XVALS"
 pub record Sound (xs ys : List ℤ) : Type 0 where
   pub two : 2 ≤ length xs
   pub points : (i : ℕ) → i < length xs → isPoint (pointAt xs ys i) ≡ true

@@ -30,7 +30,8 @@ pub fn value_on(scale: Scale, xs: &[i64], ys: &[i64], raw: i64) -> CurveResult
     }
 }
 
-// The scale of a parameter with this CURTX. The points of its curve are the first of the arrays; what stands behind them stays.
+// The scale of a parameter with this CURTX. The points of its curve are the first of the arrays;
+// what stands behind them stays.
 pub fn gather_scale(
     tables: [&[u8]; TABLES],
     words: &[u64],

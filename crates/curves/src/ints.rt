@@ -1,4 +1,5 @@
-// The operations on i64, each with what it gives as an integer, so that a caller's proof speaks of integers and not of their bits.
+// The operations on i64, each with what it gives as an integer,
+// so that a caller's proof speaks of integers and not of their bits.
 ghost use mathlib.Core.Path.{_≡_};
 ghost use mathlib.Core.Bool.{not};
 ghost use Prim.Native.Nat.{ℕ, _^_, _<_};

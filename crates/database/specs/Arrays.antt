@@ -1,5 +1,5 @@
--- The database: tables in lent arrays, in which a row is found by its key, and rows are followed by their group. What they answer, whatever they hold;
--- that after loading they answer what the tables do is a law of `loading`.
+-- The database: tables in lent arrays, in which a row is found by its key, and rows are followed by their group. What
+-- they answer, whatever they hold; that after loading they answer what the tables do is a law of `loading`.
 use Prim.Native.Nat.{ℕ, _+_, _*_, _-_}
 use mathlib.Core.Bool.{cond}
 use mathlib.Core.Path.{_≡_, refl}
@@ -31,14 +31,16 @@ abbrev pub database : (texts : List (List ℕ)) → (words links columns : List 
 database texts words links columns = record { texts = texts; words = words; links = links; columns = columns }
 
 -- a column of keys has a place for each symbol, and a column of rows one for each row.
--- Where the columns of keys start: one more than the good row that holds the key, and than the first row of the group that goes by it
+-- Where the columns of keys start: one more than the good row that holds the key,
+-- and than the first row of the group that goes by it
 abbrev pub holderColumn : ℕ
 holderColumn = 0
 
 abbrev pub firstColumn : ℕ
 firstColumn = holderColumn + mostSymbols
 
--- and those of rows: one more than the next row of the same group, the row's number, its table, and where its line starts
+-- and those of rows: one more than the next row of the same group, the row's number, its table,
+-- and where its line starts
 abbrev pub nextColumn : ℕ
 nextColumn = firstColumn + mostSymbols
 

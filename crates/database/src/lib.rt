@@ -22,7 +22,8 @@ ghost use Rattle.database.specs.Arrays.{rowAt, keyed, groupPlaces, holde
 pub const MOST_MEMBERS: usize = MOST_ROWS;
 
 // A column of keys has a place for each symbol, and a column of rows one for each row.
-// Where the columns of keys start: one more than the good row that holds a key, and than the first of the group that goes by it.
+// Where the columns of keys start: one more than the good row that holds a key,
+// and than the first of the group that goes by it.
 pub const HOLDER: usize = 0;
 
 pub const FIRST: usize = HOLDER + SYMBOLS;

@@ -58,7 +58,8 @@ isRead (Bytes count) = true
 isRead Missing = true
 isRead (Failed e) = false
 
--- the space and the ends before and after table t is loaded, and whether it could be read: all by one answer of the system
+-- the space and the ends before and after table t is loaded, and whether it could be read:
+-- all by one answer of the system
 pub record TableLoaded (t : ℕ) (read : Bool) (before after ends ends′ : List ℕ) : Type 0 where
   pub answer : Got
   pub into : TableInto t answer before after
@@ -87,7 +88,8 @@ answerFor gots t = getD gots t Missing
 abbrev pub SamePart : (before after : List ℕ) → ℕ → Type 0
 SamePart before after t = (k : ℕ) → k < partSize → getD after (t * partSize + k) 0 ≡ getD before (t * partSize + k) 0
 
--- the space before and after the tables are loaded, and what is answered: all by one answer of the system for each table
+-- the space before and after the tables are loaded, and what is answered:
+-- all by one answer of the system for each table
 pub record LoadedInto (loaded : Loaded) (before after : List ℕ) : Type 0 where
   pub answers : List Got
   pub count : length answers ≡ tableCount

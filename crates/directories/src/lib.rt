@@ -21,7 +21,8 @@ ghost use Rattle.tables.specs.Parts.{tablesIn};
 ghost use Rattle.directories.specs.Space.{endOf};
 ghost use Rattle.directories.specs.Space.{DirectoryInto, LoadedInto, TableInto, TableLoaded};
 
-// 0 where there is such a directory, else the number of the system's error. Reading a directory fails, by which it is told from a file.
+// 0 where there is such a directory, else the number of the system's error. Reading a directory fails,
+// by which it is told from a file.
 pub fn directory_error(directory: &[u8]) -> i32 {
     let fd = os::open_read(directory);
     if fd < 0 {

@@ -23,8 +23,8 @@ ghost use Rattle.curve_values.specs.Along.{saidResult};
 ghost use Rattle.texts.specs.Texts.{saidText};
 ghost use Rattle.engineering.specs.Engineering.{asValue, asText, numericValue, byCategory, engineered, saidEngineered};
 
-// A value; the value of a polynomial; a text as its txp row, and ALTXT's place in that table and its length; or why there
-// is none.
+// A value; the value of a polynomial; a text as its txp row, and ALTXT's place in that table and its length; or why
+// there is none.
 pub enum Engineered {
     Is(Value),
     Double(f64),

@@ -10,7 +10,8 @@ use Rattle.causes.specs.Causes.{speaksOf, causes}
 use Rattle.meaning.specs.Kept.{keptEntry}
 use Rattle.pointing.specs.Pointing.{pointsTo}
 
--- the cells hold the verdicts, and row i points to row j just where its verdict speaks of it: one after the other they are the causes
+-- the cells hold the verdicts, and row i points to row j just where its verdict speaks of it:
+-- one after the other they are the causes
 pub record Explains (texts : List (List ℕ)) (halves bytes cells : List ℕ) (rows : ℕ) : Type 0 where
   pub count : rows ≡ length (allRows texts)
   pub judged : (i : ℕ) → i < rows → getD cells i 0 ≡ verdict (allRows texts) (keptEntry (allRows texts) i)

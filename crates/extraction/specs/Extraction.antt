@@ -11,7 +11,8 @@ use Rattle.database.specs.GoodRows.{among}
 use Rattle.identification.specs.Identification.{identifyBy}
 use Rattle.readings.specs.Readings.{Reading, reading}
 
--- 01: "no good plf row for name and SPID": once the packet is identified, the reading of occurrence k in a packet of its SPID
+-- 01: "no good plf row for name and SPID": once the packet is identified,
+-- the reading of occurrence k in a packet of its SPID
 unfoldable pub extractBy : Rows → (p name : List ℕ) → (k : ℕ) → Outcome Reading
 extractBy rows p name k = andThen (identifyBy rows p) (λ id. reading rows p (id .spid) (nameOf name) k)
 

@@ -1,5 +1,5 @@
--- Laws of the number that a run of bits makes, over the width: its bound, runs one after the other, a run within one byte, and
--- what it depends on.
+-- Laws of the number that a run of bits makes, over the width: its bound, runs one after the other, a run within one
+-- byte, and what it depends on.
 use mathlib.Core.Path.{_≡_, refl, sym, ap, ap₂, _∙_, subst}
 use mathlib.Core.List.{List}
 use Prim.Native.Nat.{ℕ, zero, suc, _+_, _-_, _*_, _/_, _%_, _^_, _<_, _≤_}

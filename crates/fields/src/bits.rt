@@ -18,7 +18,8 @@ fn part(b: u8, lead: usize, take: usize) -> u64
     ((b as u64) >> (8 - (lead + take))) % (1u64 << take)
 }
 
-// The number that `width` bits make, from bit `lead` of the byte `first` on. Byte and bit stay apart: a length in bits can pass a word.
+// The number that `width` bits make, from bit `lead` of the byte `first` on. Byte and bit stay apart:
+// a length in bits can pass a word.
 pub(crate) fn gather(p: &[u8], first: usize, lead: usize, width: usize) -> u64
     requires { ⌜ (width ≤ 64) × (lead < 8) × (first * 8 + lead + width ≤ length (now p) * 8) ⌝ }
     ensures { λ r. ⌜ r ≡ numberAt (now (p .entry)) (first * 8 + lead) width ⌝ }

@@ -37,7 +37,8 @@ pub fn string_at(p: &[u8], at: BitOffset, bytes: usize) -> StringAt
     StringAt::OffByte
 }
 
-// The part of p that is `bytes` bytes from the byte `from`, as `string_at` found it; empty where such a part isn't inside.
+// The part of p that is `bytes` bytes from the byte `from`, as `string_at` found it;
+// empty where such a part isn't inside.
 pub fn string_part(p: &[u8], from: ByteOffset, bytes: usize) -> &[u8]
     ensures { λ r. ⌜ now r ≡ partAt (now (p .entry)) (from .0) bytes ⌝ }
 {

@@ -33,7 +33,8 @@ curveXs = pos 0 ∷ pos 10 ∷ pos 20 ∷ []
 unfoldable pub curveYs : List ℤ
 curveYs = pos 0 ∷ negsuc 4 ∷ pos 100 ∷ []
 
--- the APID, type or subtype of 01's packet; a field of it by width, byte and bit of that byte; the curve at a raw value, under
+-- the APID, type or subtype of 01's packet; a field of it by width, byte and bit of that byte;
+-- the curve at a raw value, under
 -- P (extrapolate) or F (refuse); or the number that a text is
 pub data Asked : Type 0 where
   apid ptype subtype : Asked

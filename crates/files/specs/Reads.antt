@@ -12,8 +12,8 @@ Within (Bytes n) room = n ≤ room
 Within Missing room = Unit {0}
 Within (Failed e) room = Unit {0}
 
--- a buffer before and after a file is read into it: the bytes that were read are in it; of a file that isn't there none is put there;
--- one that failed may have left any
+-- a buffer before and after a file is read into it: the bytes that were read are in it; of a file that isn't there none
+-- is put there; one that failed may have left any
 abbrev pub ReadInto : Got → (before after : List ℕ) → Type 0
 ReadInto (Bytes n) before after = n ≤ length after
 ReadInto Missing before after = after ≡ before

@@ -53,7 +53,8 @@ pub fn numbers_of(p: &[u8], head: Head, pair: Identifiers) -> FiveNumbers
     }
 }
 
-// One more than the place of the pic row with this APID, else of the one with none; 0 where there is neither, or no data field header.
+// One more than the place of the pic row with this APID, else of the one with none; 0 where there is neither,
+// or no data field header.
 fn find_pic(words: &[u64], links: &[u16], columns: &[u16], p: &[u8], head: Head) -> usize
     ensures { λ r. ⌜ ((texts : List (List ℕ)) → rowFor texts (now (columns .entry)) r
         ≡ picRowOf (answers (database texts (now (words .entry)) (now (links .entry)) (now (columns .entry)))) head (now (p .entry))) ⌝ }

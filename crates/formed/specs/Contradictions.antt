@@ -1,4 +1,5 @@
--- Reason 8: columns that contradict each other. Each answer is the lowest such column, from 1, or 0 where there is none.
+-- Reason 8: columns that contradict each other. Each answer is the lowest such column, from 1,
+-- or 0 where there is none.
 use Prim.Native.Nat.{ℕ}
 use mathlib.Core.Path.{_≡_, refl}
 use mathlib.Core.List.{List}

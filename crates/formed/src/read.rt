@@ -1,4 +1,5 @@
-// The line that starts at a place of a table read: its verdict of reasons 1 to 8, what it says, and where the next one starts.
+// The line that starts at a place of a table read: its verdict of reasons 1 to 8, what it says,
+// and where the next one starts.
 use crate::contradictions::caf_contradiction;
 use crate::contradictions::ocf_contradiction;
 use crate::contradictions::ocp_contradiction;

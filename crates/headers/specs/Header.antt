@@ -32,7 +32,8 @@ sequenceCount p = numberAt p 18 14
 unfoldable pub lengthField : List ℕ → ℕ
 lengthField p = numberAt p 32 16
 
--- 01: "20 packet under 7 or over 8,192 bytes"; "21 version not 0, or the type bit set"; "22 length field plus 7 isn't the packet's length";
+-- 01: "20 packet under 7 or over 8,192 bytes"; "21 version not 0, or the type bit set";
+-- "22 length field plus 7 isn't the packet's length";
 -- "23 data field header flagged, under 9 bytes"; "The least number decides". These refusals have no place: "else 0"
 unfoldable pub headOf : List ℕ → Outcome Head
 headOf p =

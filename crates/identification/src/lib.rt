@@ -61,7 +61,8 @@ fn choose(
     Identified::Is(number_of(columns, i), spid, numbers)
 }
 
-// Which packet it is, by the good rows of the database, where its header is known. Bytes past the packet's end read as 0, whatever the header says.
+// Which packet it is, by the good rows of the database, where its header is known.
+// Bytes past the packet's end read as 0, whatever the header says.
 pub fn identify_headed(
     tables: [&[u8]; TABLES],
     words: &[u64],

@@ -1,4 +1,5 @@
-// The questions of what can be seen only inside: a number's text, a field's width, a field of the packet, a line through two points.
+// The questions of what can be seen only inside: a number's text, a field's width, a field of the packet,
+// a line through two points.
 use answers::answer::Answer;
 use answers::answer::one;
 use answers::answer::say_integer;

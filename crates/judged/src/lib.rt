@@ -1,4 +1,5 @@
-// The passes over what is kept of the rows, one after the other: the verdict of each row. Arrays by row and by key are lent whole.
+// The passes over what is kept of the rows, one after the other: the verdict of each row.
+// Arrays by row and by key are lent whole.
 use crate::parts::CODE1;
 use crate::parts::CODE2;
 use crate::parts::COUNT;

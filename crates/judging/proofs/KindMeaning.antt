@@ -1,4 +1,5 @@
--- The kinds that good rows are of, by conditions on them and on the second rows that they lead to, and what meets a naming.
+-- The kinds that good rows are of, by conditions on them and on the second rows that they lead to,
+-- and what meets a naming.
 use mathlib.Core.Path.{_≡_, refl, ap, sym, subst, _∙_}
 use mathlib.Core.Bool.{Bool, true, false, not, _&&_, _||_}
 use mathlib.Core.List.{List, [], _∷_, _++_, List·Memᴰ, List·Memᴰ·head, List·Memᴰ·tail, List·Memᴰ·not-nil, List·Memᴰ·eq-of-singleton}

@@ -65,7 +65,8 @@ module _ (rows : List Entry) (w : Arrays) (layer : ℕ → ℕ) (v : Resolved ro
   chained : Says rows w layer v 1 chaineds
   chained = chained-says rows w layer v cleans nexts firms cleans-are nexts-are firms-are chaineds (λ j q. filled-at 0 _ n j 0 (v .few) q)
 
-  -- a row's verdict by marks that say of what it names which rows are good: those of lower layers, and of its own along a chain
+  -- a row's verdict by marks that say of what it names which rows are good: those of lower layers,
+  -- and of its own along a chain
   by-marks : (most : ℕ) (g : List ℕ) → Says rows w layer v most g → 1 ≤ most → (i : ℕ) → i < n → layer i ≤ most + 1
       → finalAt kinds bases (w .codes1) (w .found1) (w .codes2) (w .found2) g i ≡ verdict rows (rowAt rows i)
   by-marks most g says some i p l =

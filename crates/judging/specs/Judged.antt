@@ -1,5 +1,5 @@
--- The verdicts of rows from what their namings found, over arrays by row. These definitions are for the code: what they mean for the
--- tables is `judged-are`.
+-- The verdicts of rows from what their namings found, over arrays by row. These definitions are for the code: what they
+-- mean for the tables is `judged-are`.
 use Prim.Native.Nat.{ℕ, suc}
 use mathlib.Core.Path.{_≡_, refl}
 use mathlib.Core.Bool.{cond, _&&_}
@@ -19,7 +19,8 @@ use Rattle.names.specs.Names.{finalAt, firmAt}
 
 -- ---- reasons 1 to 10 and 12
 
--- 01: "Only rows without reasons 1–9 hold keys for counting and chains": the row that a chained naming found, where it is sound
+-- 01: "Only rows without reasons 1–9 hold keys for counting and chains": the row that a chained naming found,
+-- where it is sound
 unfoldable pub nextOf : (sound : List ℕ) → (code found : ℕ) → ℕ
 nextOf sound code found = cond (mannerAt code .chained && eqb (getD sound found 0) 1) found noRow
 

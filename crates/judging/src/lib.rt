@@ -179,8 +179,9 @@ fn judge_kinds(
     );
 }
 
-// The verdicts of the first n rows, put to the cells. own: reasons 1 to 8; sound: 1 without reasons 1 to 9; counts: 0 or
-// reason 10; codes and found: what each row names in its two places, and the rows found; marks: the conditions that rows meet.
+// The verdicts of the first n rows, put to the cells. own: reasons 1 to 8; sound: 1 without reasons 1 to 9; counts: 0
+// or reason 10; codes and found: what each row names in its two places, and the rows found; marks:
+// the conditions that rows meet.
 pub fn judge_rows(
     own: &[u16],
     sound: &[u8],

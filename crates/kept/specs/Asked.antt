@@ -27,8 +27,8 @@ unfoldable pub asksOf : List Table → ℕ
 asksOf [] = 0
 asksOf (table ∷ tables) = asks table + asksOf tables
 
--- WHAT TIES THE ARRAYS TO THE TABLES: they have a place for each row of the tables carried, room for the symbols that these rows ask for,
--- and a byte for the number of each table
+-- WHAT TIES THE ARRAYS TO THE TABLES: they have a place for each row of the tables carried, room for the symbols that
+-- these rows ask for, and a byte for the number of each table
 pub record Roomy : Type 0 where
   pub rows : mostCells ≤ mostPlaces
   pub symbols : mostRows * asksOf carried ≤ mostSymbols

@@ -67,7 +67,8 @@ slotId ls s = cond (s .given) (idOf (s .key) ls) noId
 unfoldable pub namedId : List Symbol → Named → ℕ
 namedId ls n = cond (eqb (n .code) 0) noId (idOf (n .key) ls)
 
--- row i has its own columns' verdict, the ids of what it holds, names and is counted in, and the rest of its keys at its place
+-- row i has its own columns' verdict, the ids of what it holds, names and is counted in,
+-- and the rest of its keys at its place
 pub record StoredRow (ls : List Symbol) (r : RowKeys) (halves bytes : List ℕ) (i : ℕ) : Type 0 where
   pub own : at halves ownColumn i ≡ r .verdict
   pub key1 : at halves key1Column i ≡ slotId ls (r .first)

@@ -16,7 +16,8 @@ mod columns;
 mod interning;
 mod kept;
 
-// What is lent needs the words and the links of all symbols, eight columns of numbers below 65,536 and five of numbers below 256.
+// What is lent needs the words and the links of all symbols,
+// eight columns of numbers below 65,536 and five of numbers below 256.
 pub const WORDS: usize = symbols::WORDS;
 
 pub const LINKS: usize = symbols::LINKS;

@@ -1,4 +1,5 @@
--- Rows that hold a key, and sound rows of a group, by the columns that are kept of the rows and the cells of their verdicts.
+-- Rows that hold a key, and sound rows of a group,
+-- by the columns that are kept of the rows and the cells of their verdicts.
 use Prim.Native.Nat.{ℕ}
 use mathlib.Core.Path.{_≡_, refl}
 use mathlib.Core.Bool.{Bool, true, false, not, _&&_, _||_}

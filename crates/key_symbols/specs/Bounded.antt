@@ -1,4 +1,5 @@
--- Keys that their symbols tell apart, see `symbol-exact`: all keys of rows, and all that can be asked for but packets of a large PI1.
+-- Keys that their symbols tell apart, see `symbol-exact`: all keys of rows,
+-- and all that can be asked for but packets of a large PI1.
 use mathlib.Core.Path.{_≡_, refl}
 use mathlib.Core.Bool.{Bool, true, false, _&&_}
 use mathlib.Core.List.{List, [], _∷_}

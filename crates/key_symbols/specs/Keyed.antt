@@ -58,7 +58,8 @@ unfoldable pub apidWord : OptionalApid → ℕ
 apidWord (Only apid) = apid + 1
 apidWord Any = 0
 
--- a key's symbol tells it apart from every other key: see `symbol-exact`. The key spaces are numbered by the key alone, whatever table holds it
+-- a key's symbol tells it apart from every other key: see `symbol-exact`.
+-- The key spaces are numbered by the key alone, whatever table holds it
 unfoldable pub symbolOf : Key → Symbol
 symbolOf (packet ptype stype apid pi1 pi2) = symbol 0 (halves ptype stype) (halves apid pi1) pi2
 symbolOf (structure spid) = symbol 1 spid 0 0

@@ -1,4 +1,5 @@
--- What a row says fits into symbols: few enough keys, each bounded, and namings of listed manners, which go down in rank.
+-- What a row says fits into symbols: few enough keys, each bounded, and namings of listed manners,
+-- which go down in rank.
 use mathlib.Core.Path.{_≡_, sym, _∙_}
 use mathlib.Core.Bool.{Bool, true, false, cond}
 use mathlib.Core.List.{List, [], _∷_, _++_, List·Memᴰ, List·Memᴰ·head, List·Memᴰ·tail}

@@ -67,7 +67,8 @@ columnKeys table line = keysOf (formed table line) (factsOf table (line .bytes))
 unfoldable pub rowKeysOf : Table → Line → RowKeys
 rowKeysOf table line = keysOf (own (readingOf table line)) (factsIn (readingOf table line))
 
--- what is read of the line that starts at a place of a table: its keys, as its columns say them, and where the next line starts
+-- what is read of the line that starts at a place of a table: its keys, as its columns say them,
+-- and where the next line starts
 pub record ColumnsRead (table : Table) (bytes : List ℕ) (at : ℕ) (read : LineKeys) : Type 0 where
   pub keys : read .keys ≡ columnKeys table (lineFrom bytes at)
   pub next : read .next ≡ nextLine bytes at .next

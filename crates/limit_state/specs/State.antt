@@ -13,7 +13,8 @@ isOver s = ltb 99 (s .run) || (ltb 2 (s .announced) || (ltb 2047 (s .apid) || lt
 unfoldable pub hasNumber : LimitState → Bool
 hasNumber s = not (eqb (s .apid) 0) || (not (eqb (s .count) 0) || (not (eqb (s .run) 0) || not (eqb (s .announced) 0)))
 
--- 01: "34 … state with run over 99, announced over 2, APID over 2,047, count over 16,383, or fresh with any number not 0"
+-- 01: "34 … state with run over 99, announced over 2, APID over 2,047, count over 16,383,
+-- or fresh with any number not 0"
 unfoldable pub isState : LimitState → Bool
 isState s = not (isOver s || (s .fresh && hasNumber s))
 

@@ -76,7 +76,8 @@ abbrev pub closed : (bytes end n : ℕ) → (foreign : Bool) → Scanned
 closed bytes end n foreign =
     record { end = end; ended = ltb end bytes; next = cond (ltb end bytes) (end + 1) end; count = n; foreign = foreign }
 
--- what a walk over a line tells that starts at a place of a text: where it ends, its columns, and whether it has a foreign byte
+-- what a walk over a line tells that starts at a place of a text: where it ends, its columns,
+-- and whether it has a foreign byte
 unfoldable pub scanned : (feeds : Bool) → List ℕ → (from : ℕ) → Scanned
 scanned feeds text from =
     let line : List ℕ = walked feeds (drop from text) in closed (length text) (from + length line) (length (columnsOf line)) (foreignIn line)

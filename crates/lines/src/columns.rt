@@ -75,7 +75,8 @@ fn closed(text: &[u8], end: usize, count: usize, foreign: bool) -> Scanned
     }
 }
 
-// One walk from a place on, to a line feed where these end lines. It keeps where each column ends, from the line's start.
+// One walk from a place on, to a line feed where these end lines. It keeps where each column ends,
+// from the line's start.
 pub fn scan(text: &[u8], from: usize, feeds: bool, ends: &mut [usize]) -> Scanned
     ensures { λ r. ⌜ r ≡ scanned feeds (now (text .entry)) from ⌝ }
     ensures { λ _. ⌜ now (ends .exit) ≡ sets (now (ends .entry)) 0 (endsOf (walked feeds (drop from (now (text .entry))))) ⌝ }

@@ -15,7 +15,8 @@ use Rattle.kept.specs.Stored.{at, key1Column, key2Column, groupColumn}
 use Rattle.judged.specs.Passes.{columnOf}
 use Rattle.database.specs.Arrays.{holderColumn, firstColumn, nextColumn, numberColumn, tableColumn, startColumn}
 
--- by what was kept of the rows (halves, bytes) and by the cells of their verdicts: only good rows are marked, and what is marked is indexed
+-- by what was kept of the rows (halves, bytes) and by the cells of their verdicts: only good rows are marked,
+-- and what is marked is indexed
 pub record Indexed (texts : List (List ℕ)) (halves bytes cells columns : List ℕ) (n : ℕ) : Type 0 where
   pub marks : List ℕ
   pub once : List ℕ

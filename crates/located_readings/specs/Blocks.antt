@@ -19,7 +19,8 @@ abbrev pub chainEnd : (count : ℕ) → (free : Bool) → PcfRow → BlockEnd
 chainEnd count free row = record { count = count; on = false; free = free; row = row }
 
 module _ (rows : Rows) (p : List ℕ) (spid : ℕ) where
-  -- the rows that were read, and the row after them where the chain goes on, tell whether a row is valid by a chain of a block or more
+  -- the rows that were read, and the row after them where the chain goes on,
+  -- tell whether a row is valid by a chain of a block or more
   pub record Followed (row : PcfRow) (values valpars : List ℤ) (r : BlockEnd) : Type 0 where
     pub few : r .count ≤ blockRows
     pub whole : (left : ℕ) → blockRows ≤ left

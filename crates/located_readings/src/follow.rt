@@ -30,8 +30,8 @@ pub(crate) struct Asked {
     pub row: PcfRow,
 }
 
-// How a block of a chain ends: after so many rows with a VALID that can be read, and whether the chain goes on from a row;
-// else whether it ends by a row without VALID.
+// How a block of a chain ends: after so many rows with a VALID that can be read, and whether the chain goes on from a
+// row; else whether it ends by a row without VALID.
 pub(crate) struct BlockEnd {
     pub count: usize,
     pub on: bool,
@@ -110,7 +110,8 @@ fn ask(
     raw_asked(raw_of(p, plf, pcf, 0), pcf)
 }
 
-// Stores of each row with VALID, from this one on, what its validity parameter reads and its VALPAR, as far as a block goes.
+// Stores of each row with VALID, from this one on, what its validity parameter reads and its VALPAR,
+// as far as a block goes.
 pub(crate) fn follow(
     tables: [&[u8]; TABLES],
     words: &[u64],

@@ -28,7 +28,8 @@ ghost use Rattle.located_readings.specs.Blocks.{Decides};
 // A chain has at most so many blocks, as pcf has at most so many rows.
 const MOST_BLOCKS: usize = MOST_ROWS / BLOCK_ROWS;
 
-// What a block of a chain says of the row that it starts with: valid as the row is that the chain goes on from, else valid or not.
+// What a block of a chain says of the row that it starts with: valid as the row is that the chain goes on from,
+// else valid or not.
 pub(crate) struct Block {
     pub on: bool,
     pub valid: bool,
@@ -86,7 +87,8 @@ fn valid_block(
     }
 }
 
-// Whether readings of the parameter with this pcf row are valid: its VALID chain is followed to its end, or to a row that disagrees.
+// Whether readings of the parameter with this pcf row are valid: its VALID chain is followed to its end,
+// or to a row that disagrees.
 pub fn validity(
     tables: [&[u8]; TABLES],
     words: &[u64],

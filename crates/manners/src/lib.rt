@@ -11,7 +11,8 @@ const KINDS: [u8; 10] = [1, 2, 1, 4, 1, 1, 8, 32, 4, 16];
 
 const CHAINED: [u8; 10] = [0, 0, 0, 1, 0, 0, 0, 0, 0, 0];
 
-// The second row that is asked about: the column that names it, the weight of the condition on it, and that of having one.
+// The second row that is asked about: the column that names it, the weight of the condition on it,
+// and that of having one.
 const SECOND_COLUMN: u8 = 12;
 
 const SECOND_CONDITION: u8 = 16;

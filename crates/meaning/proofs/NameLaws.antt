@@ -34,7 +34,8 @@ module _ (rows : List Entry) (k : Key) where
   abbrev pub foundRow : ℕ → Entry
   foundRow found = keptEntry rows (found - 1)
 
-  -- of the rows that hold the key, one that passes a test is good just where the row found does and is; good rows are sound
+  -- of the rows that hold the key, one that passes a test is good just where the row found does and is;
+  -- good rows are sound
   module _ (test good : Entry → Bool) (lone : (o : Entry) → good o ≡ true → sound rows o ≡ true) where
     abbrev f : Entry → Bool
     f o = (holds o k && test o) && good o

@@ -14,7 +14,8 @@ use Rattle.verdicts.specs.Key.{Key, sameKey}
 use Rattle.verdicts.specs.Entries.{Entry, bad, own, facts}
 use Rattle.verdicts.specs.Steps.{twin}
 
--- keys as symbols, which are the same just where the keys are. `Fit` is what that asks of a key, such as names of eight bytes
+-- keys as symbols, which are the same just where the keys are. `Fit` is what that asks of a key,
+-- such as names of eight bytes
 pub record Coding : Type 1 where
   pub symbolOf : Key → Symbol
   pub Fit : Key → Type 0

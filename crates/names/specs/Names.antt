@@ -1,4 +1,5 @@
--- What the names of a row say, over arrays by row. 01: "11 a named row isn't there, good and of the kind asked, lowest column"
+-- What the names of a row say, over arrays by row. 01: "11 a named row isn't there, good and of the kind asked,
+-- lowest column"
 use Prim.Native.Nat.{ℕ}
 use mathlib.Core.Path.{_≡_, refl}
 use mathlib.Core.Bool.{Bool, true, false, not, cond, _&&_, _||_}
@@ -28,7 +29,8 @@ unfoldable pub finalOf : (kinds good : List ℕ) → (base code1 found1 code2 fo
 finalOf kinds good base code1 found1 code2 found2 =
     orElse base (orElse (nameAt kinds good code1 found1) (nameAt kinds good code2 found2))
 
--- a row of a chain is firm: it has no reason, the next row is of the kind asked, and what it names beside is met by rows without reasons
+-- a row of a chain is firm: it has no reason, the next row is of the kind asked,
+-- and what it names beside is met by rows without reasons
 unfoldable pub firmOf : (kinds clean : List ℕ) → (base code1 found1 next code2 found2 : ℕ) → Bool
 firmOf kinds clean base code1 found1 next code2 found2 =
     eqb base 0

@@ -17,8 +17,8 @@ onDigit s c = cond (between (char "0") (char "9") c) s Stuck
 unfoldable pub inDigits : Stage → ℕ → Stage
 inDigits s c = cond (eqb c (char "e") || eqb c (char "E")) ExponentMark (onDigit s c)
 
--- 02, P1: "optional minus, digits, at least one, with an optional point among or after them, optionally e or E, a sign or none,
--- and at least one digit"
+-- 02, P1: "optional minus, digits, at least one, with an optional point among or after them, optionally e or E, a sign
+-- or none, and at least one digit"
 -- the stage with one more character, c
 unfoldable pub stageAfter : Stage → ℕ → Stage
 stageAfter Start c = cond (eqb c (char "-")) Minus (onDigit Whole c)

@@ -17,8 +17,8 @@ pub enum Stage {
     Stuck,
 }
 
-// The numbers that a text writes: a minus before the digits, all digits without the point, how many stand after it, a minus
-// before the exponent, and the exponent's digits.
+// The numbers that a text writes: a minus before the digits, all digits without the point, how many stand after it, a
+// minus before the exponent, and the exponent's digits.
 pub struct Scientific {
     pub negative: bool,
     pub digits: u64,

@@ -35,8 +35,8 @@ pub data Spelling : Type 0 where
 unfoldable pub digitOn : ℕ → Bool → ℕ → ℕ → Spelling
 digitOn base negative value c = cond (ltb (digitOf c) base) (digits base negative (value * base + digitOf c)) stuck
 
--- 01: "A number is decimal, octal after a leading 0, or hexadecimal, either case, after 0x or 0X. A minus may stand before a
--- decimal that is "0" or starts with 1 to 9. No plus, no spaces."
+-- 01: "A number is decimal, octal after a leading 0, or hexadecimal, either case, after 0x or 0X. A minus may stand
+-- before a decimal that is "0" or starts with 1 to 9. No plus, no spaces."
 -- What the characters are with one more, c
 unfoldable pub after : Spelling → ℕ → Spelling
 after start c = cond (eqb c (char "-")) minus (cond (eqb c (char "0")) leadingZero (digitOn 10 false 0 c))

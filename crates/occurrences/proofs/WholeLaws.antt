@@ -1,4 +1,5 @@
--- The raw value of a parameter that has checks is an integer, or is refused by 28: a good ocf row names a pcf row of PTC 1-4.
+-- The raw value of a parameter that has checks is an integer, or is refused by 28:
+-- a good ocf row names a pcf row of PTC 1-4.
 use mathlib.Core.Path.{_≡_}
 use mathlib.Core.Bool.{true, false}
 use mathlib.Core.List.{List}

@@ -23,12 +23,14 @@ unfoldable pub occurrencesFrom : (k n : ℕ) → List ℕ
 occurrencesFrom k zero = []
 occurrencesFrom k (suc n) = k ∷ occurrencesFrom (suc k) n
 
--- a parameter that has limits is of PTC 1-4, and no string: see `whole-raw`. A string is answered by 26, as what has no field
+-- a parameter that has limits is of PTC 1-4, and no string: see `whole-raw`. A string is answered by 26,
+-- as what has no field
 unfoldable pub integerIn : Value → Outcome ℤ
 integerIn (number z) = answer z
 integerIn (part start bytes) = refused 26 0
 
--- 01: "In a limit step 28 is sought over all occurrences first": the raw values of all, or the refusal of the first that has one
+-- 01: "In a limit step 28 is sought over all occurrences first": the raw values of all,
+-- or the refusal of the first that has one
 unfoldable pub rawsOf : (raw : ℕ → Outcome Value) → (occurrences : List ℕ) → Outcome (List ℤ)
 rawsOf raw [] = answer []
 rawsOf raw (k ∷ later) =

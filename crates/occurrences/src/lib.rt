@@ -129,7 +129,8 @@ fn end_pass(pass: Pass) -> Checked
     Checked::Is(progress)
 }
 
-// By the line of the parameter's plf row, and its pcf row. A field that leaves the packet is refused wherever it stands, valid or not.
+// By the line of the parameter's plf row, and its pcf row.
+// A field that leaves the packet is refused wherever it stands, valid or not.
 pub fn check_occurrences(
     p: &[u8],
     plf: &[u8],

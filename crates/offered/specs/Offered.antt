@@ -16,8 +16,8 @@ unfoldable pub isWithin : (most : ℕ) → ℤ → Bool
 isWithin most (pos n) = leb n most
 isWithin most (negsuc n) = false
 
--- 01: "The state is: fresh or not, APID, sequence count, run, announced". Fresh is 1 or not, 0; a state has places for 16 bits
--- of APID and of count, and for 8 bits of run and of announced
+-- 01: "The state is: fresh or not, APID, sequence count, run, announced". Fresh is 1 or not, 0; a state has places for
+-- 16 bits of APID and of count, and for 8 bits of run and of announced
 unfoldable pub areFields : List ℤ → Bool
 areFields zs =
     isWithin 1 (getD zs 0 (pos 0)) && (isWithin 65535 (getD zs 1 (pos 0)) && (isWithin 65535 (getD zs 2 (pos 0))

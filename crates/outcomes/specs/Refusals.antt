@@ -49,7 +49,8 @@ refusalNumber NoState = 34
 refusalNumber NotNewer = 35
 refusalNumber OtherApid = 36
 
--- 01: "for 1 and 2 the first such table, 1 to 10; for 24, 28 and 29 the byte in which the first such field starts; else 0".
+-- 01: "for 1 and 2 the first such table, 1 to 10; for 24, 28 and 29 the byte in which the first such field starts;
+-- else 0".
 -- 02, P1: "places count eleven tables"
 unfoldable pub refusalPlace : Refusal → ℕ
 refusalPlace (TableTooLong table) = table .0

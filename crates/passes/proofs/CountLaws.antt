@@ -50,7 +50,8 @@ module _ (marks ids before : List ℕ) where
     counted-more mark id y x m k is more ys put =
         one-more x y (is ∙ ap (λ (j : ℕ). getD xs j 0) k) more ys (put ∙ ap₂ (λ (a b : ℕ). putMarked a b x xs) m k)
 
-  -- THE LAW OF COUNTERS: after the loop an id has what it had and how many of the rows have it, where so many can be counted
+  -- THE LAW OF COUNTERS: after the loop an id has what it had and how many of the rows have it,
+  -- where so many can be counted
   pub counts : (after : List ℕ) (n : ℕ) → Counted marks ids before after n → (id : ℕ) → id < length before → getD before id 0 + n < 65536
       → getD after id 0 ≡ getD before id 0 + countWith (hasId marks ids id) n
   counts after n w id h room = omega (arith, w .at id h, count-within (hasId marks ids id) n)

@@ -9,7 +9,8 @@ use Rattle.laws.specs.Lists.{orElse}
 use Rattle.laws.specs.Prefix.{lastWith}
 use Rattle.passes.specs.Marked.{hasId}
 
--- each id leads to one more than the last of the first n rows that is marked and has it; where there is none, to what it led to
+-- each id leads to one more than the last of the first n rows that is marked and has it; where there is none,
+-- to what it led to
 pub record Noted (marks ids before after : List ℕ) (n : ℕ) : Type 0 where
   pub size : length after ≡ length before
   pub at : (id : ℕ) → id < length before → getD after id 0 ≡ orElse (lastWith (hasId marks ids id) n) (getD before id 0)

@@ -7,7 +7,8 @@ use arrays::put_half;
 ghost use Prim.Native.Nat.{min};
 ghost use Rattle.passes.specs.Groups.{Chained};
 
-// `firsts` has one more than the first marked row of each id, `nexts` one more than the row after each row, 0 where there is none.
+// `firsts` has one more than the first marked row of each id, `nexts` one more than the row after each row,
+// 0 where there is none.
 pub fn chain_rows(marks: &[u8], ids: &[u16], firsts: &mut [u16], nexts: &mut [u16], n: usize)
     ensures { λ _. ⌜ Chained (now (marks .entry)) (now (ids .entry)) (now (firsts .entry)) (now (nexts .entry)) (now (firsts .exit)) (now (nexts .exit)) 0
         (min n 65535) ⌝ }

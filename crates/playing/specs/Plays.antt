@@ -18,8 +18,8 @@ freshState = record { fresh = true; apid = 0; count = 0; run = 0; announced = 0 
 abbrev pub cappedSum : ℕ → ℕ → ℕ
 cappedSum n more = min (n + more) 18446744073709551615
 
--- Each packet that stands in the bytes was offered in its turn, and no other: the state that they lead to, how many they are, and where
--- the bytes begin that are left over.
+-- Each packet that stands in the bytes was offered in its turn, and no other: the state that they lead to, how many
+-- they are, and where the bytes begin that are left over.
 pub record Plays (rows : Rows) (name : List ℕ) (begun : Replay) (bytes : List ℕ) (after : Replay) (used : ℕ) : Type 0 where
   pub state : after .state ≡ afterPackets rows name (begun .state) (packetsIn bytes)
   pub packets : after .packets ≡ cappedSum (begun .packets) (length (packetsIn bytes))

@@ -1,4 +1,5 @@
--- With coefficients as they are read from good columns, and a raw value of 32 bits, no operation gives an infinity or a NaN.
+-- With coefficients as they are read from good columns, and a raw value of 32 bits,
+-- no operation gives an infinity or a NaN.
 use mathlib.Core.Path.{_≡_, refl, sym, ap, _∙_, subst}
 use mathlib.Core.List.{List}
 use mathlib.Core.Bool.{Bool, true, false, not}

@@ -1,4 +1,5 @@
--- The sizes of doubles: what is rounded from a number that isn't too large is no infinity and no NaN, and no larger than a power of two.
+-- The sizes of doubles: what is rounded from a number that isn't too large is no infinity and no NaN,
+-- and no larger than a power of two.
 use mathlib.Core.Path.{_≡_, refl, sym, ap, _∙_, subst}
 use mathlib.Core.Bool.{Bool, true, false, cond, not, _&&_, _||_, Bool·beq}
 use Prim.Native.Nat.{ℕ, zero, suc, _+_, _-_, _*_, _^_, _≤_, _<_}

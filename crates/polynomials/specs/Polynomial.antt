@@ -1,5 +1,5 @@
--- The value of a polynomial curve. `lib.Ieee` says over whole numbers what each operation gives: the exact value, rounded once to
--- the nearest double, a tie to the even one.
+-- The value of a polynomial curve. `lib.Ieee` says over whole numbers what each operation gives: the exact value,
+-- rounded once to the nearest double, a tie to the even one.
 use mathlib.Core.Path.{_≡_, refl}
 use Prim.Native.Nat.{ℕ}
 use lib.IntN.{ℤ, pos, negsuc}

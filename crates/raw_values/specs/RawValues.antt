@@ -38,7 +38,8 @@ pub record TypeWidth (ptc n : ℕ) : Type 0 where
   pub string : isString ptc ≡ true → 8 ≤ n
   pub other : isString ptc ≡ false → n ≤ 32
 
--- what is made of a field that starts at bit `at`. 01: "for 24, 28 and 29 the byte in which the first such field starts"
+-- what is made of a field that starts at bit `at`. 01: "for 24,
+-- 28 and 29 the byte in which the first such field starts"
 unfoldable pub valueAt : (at : ℕ) → (ℤ → Value) → Said → Outcome Value
 valueAt at make (value z) = answer (make z)
 valueAt at make (refusedWith n) = refused n (at / 8)
@@ -68,7 +69,8 @@ unfoldable pub saidRaw : RawValue → Outcome Value
 saidRaw (Is v) = answer (valueOf v)
 saidRaw (Refused refusal) = refusedBy refusal
 
--- 01: "unsigned 16 at byte 12: 4,660": PTC 3 and PFC 12. A string that starts at a bit is refused, and so is a second occurrence of one
+-- 01: "unsigned 16 at byte 12: 4,660": PTC 3 and PFC 12. A string that starts at a bit is refused,
+-- and so is a second occurrence of one
 abbrev at12 : (bit : ℕ) → PlfRow
 at12 bit = record { name = nameOf []; spid = record { 0 = 1 }; offby = record { 0 = 12 }; offbi = record { 0 = bit }; nbocc = 1; lgocc = record { 0 = 0 } }
 

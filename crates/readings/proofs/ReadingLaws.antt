@@ -1,4 +1,5 @@
--- Laws of readings: integers as their words hold them, a reading by the rows of its parameter, and one step of its validity.
+-- Laws of readings: integers as their words hold them, a reading by the rows of its parameter,
+-- and one step of its validity.
 use mathlib.Core.Path.{_≡_, refl, sym, ap, _∙_}
 use mathlib.Core.Bool.{Bool, true, false, not}
 use mathlib.Core.List.{List}

@@ -167,7 +167,8 @@ module _ (rows : Rows) (h : FewParameters rows) (p : List ℕ) (spid : ℕ) wher
   at-most : Resting mostRows
   at-most = resting (mostRows - length (h .pcf)) mostRows (omega (arith, h .few))
 
--- 01: "A reading is valid only when its validity parameter's own reading, occurrence 0 of the same packet, is valid and equals the
+-- 01: "A reading is valid only when its validity parameter's own reading, occurrence 0 of the same packet,
+-- is valid and equals the
 -- VALPAR of the reading's own pcf row; then it is valid, as is any reading whose row has no VALID"
 pub validity-law : (rows : Rows) → FewParameters rows → (p : List ℕ) (spid : ℕ) (row : PcfRow)
     → validity rows p spid row ≡ cond (row .valid .given) (agrees (reading rows p spid (row .valid .name) 0) (row .valpar)) true

@@ -1,4 +1,5 @@
--- Rows of a VALID chain that were read: what the validity parameter of each row says, and the VALPAR that it must equal.
+-- Rows of a VALID chain that were read: what the validity parameter of each row says,
+-- and the VALPAR that it must equal.
 use Prim.Native.Nat.{ℕ, zero, suc}
 use mathlib.Core.Path.{_≡_, refl}
 use mathlib.Core.Bool.{Bool, true, false, _&&_}
@@ -12,7 +13,8 @@ use Rattle.readings.specs.Readings.{sameInteger}
 abbrev pub blockRows : ℕ
 blockRows = 16
 
--- whether readings of row `at` are valid, with `left` rows that have VALID from it on, and then one that is valid or not.
+-- whether readings of row `at` are valid, with `left` rows that have VALID from it on,
+-- and then one that is valid or not.
 -- 01: "is valid and equals the VALPAR of the reading's own pcf row"
 unfoldable pub validAlong : (values valpars : List ℤ) (last : Bool) → (at left : ℕ) → Bool
 validAlong values valpars last at zero = last

@@ -72,7 +72,8 @@ module _ (rows : Rows) (p : List ℕ) (spid : ℕ) where
   abbrev pub readingWithin : ℕ → Name → (k : ℕ) → Outcome Reading
   readingWithin n name k = readingWith (validWithin n) name k
 
-  -- 01: "A reading is valid only when its validity parameter's own reading, occurrence 0 of the same packet, is valid and equals the
+  -- 01: "A reading is valid only when its validity parameter's own reading, occurrence 0 of the same packet,
+  -- is valid and equals the
   -- VALPAR of the reading's own pcf row; then it is valid, as is any reading whose row has no VALID".
   -- 01 takes no table of over 1,024 rows, so that a chain of good rows has at most as many; the laws `validity-law` and
   -- `validity-of-tables` say it with no number
@@ -87,7 +88,8 @@ unfoldable pub saidReading : code.Reading → Outcome Reading
 saidReading (Is v valid) = answer (record { value = valueOf v; valid = valid })
 saidReading (Refused refusal) = refusedBy refusal
 
--- An example in 01's packet: TWO, unsigned 16 at byte 12, has VALID ONE, which is signed 8 at byte 10 and -1. Here ";" stands for TAB
+-- An example in 01's packet: TWO, unsigned 16 at byte 12, has VALID ONE, which is signed 8 at byte 10 and -1.
+-- Here ";" stands for TAB
 abbrev line : (table : ℕ) → String → Row
 line table text = record { table = table; number = 1; start = 0; bytes = map (λ b. cond (eqb b (char ";")) 9 b) (ascii text) }
 

@@ -1,4 +1,5 @@
-// Validity along rows of a VALID chain that have been read: validity asks for a reading, and the reading asks for validity.
+// Validity along rows of a VALID chain that have been read: validity asks for a reading,
+// and the reading asks for validity.
 use crate::BLOCK_ROWS;
 use crate::Reading;
 use crate::equals;

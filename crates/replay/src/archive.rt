@@ -14,7 +14,8 @@ ghost use mathlib.Core.List.{map};
 ghost use Rattle.database.specs.Arrays.{database, answers};
 ghost use Rattle.replaying.specs.Replayed.{Replayed};
 
-// From a fresh state to the file's end, which is said; of a file that can't be opened nothing is read, which is said too.
+// From a fresh state to the file's end, which is said; of a file that can't be opened nothing is read,
+// which is said too.
 pub(crate) fn replay_archive(
     tables: [&[u8]; TABLES],
     words: &[u64; WORDS],

@@ -1,5 +1,5 @@
--- What is known of the packets of a file that is read in blocks. No contract can say which bytes the system's read puts into a block;
--- but they stand in it, and it is said of them that none is passed over, taken twice or put elsewhere.
+-- What is known of the packets of a file that is read in blocks. No contract can say which bytes the system's read puts
+-- into a block; but they stand in it, and it is said of them that none is passed over, taken twice or put elsewhere.
 use Prim.Native.Nat.{ℕ, _-_}
 use mathlib.Core.Path.{_≡_}
 use mathlib.Core.List.{List}
@@ -19,7 +19,8 @@ pub record AtStart (s : Standing) : Type 0 where
   pub from : s .from ≡ 0
   pub to : s .to ≡ 0
 
--- one block: what was left over stands in front of what was read, and each packet that stands in both together was offered
+-- one block: what was left over stands in front of what was read,
+-- and each packet that stands in both together was offered
 pub record BlockReplayed (rows : Rows) (name : List ℕ) (begun after : Standing) (before block : List ℕ) : Type 0 where
   pub refilled : Refilled (begun .from) (begun .to) (after .to) before block
   pub plays : Plays rows name (begun .replay) (partOf block 0 (after .to)) (after .replay) (after .from)

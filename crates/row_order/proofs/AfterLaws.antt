@@ -1,4 +1,5 @@
--- A cause is told before its consequences: each row of reason 11 comes after the row that it names, unless that one leads back to it.
+-- A cause is told before its consequences: each row of reason 11 comes after the row that it names,
+-- unless that one leads back to it.
 use mathlib.Core.Path.{_≡_, refl, ap, sym, subst, _∙_}
 use mathlib.Core.Bool.{Bool, true, false, not, cond, _&&_, _||_}
 use mathlib.Core.List.{List, [], _∷_, _++_, append-nil}

@@ -1,4 +1,5 @@
--- The order in which rows that aren't good are told: a cause before what leans on it. Rows go by their place among all rows, from 0.
+-- The order in which rows that aren't good are told: a cause before what leans on it.
+-- Rows go by their place among all rows, from 0.
 use Prim.Native.Nat.{ℕ, zero, suc, _+_, _/_}
 use mathlib.Core.Path.{_≡_, refl}
 use mathlib.Core.Bool.{Bool, true, not, cond, _&&_}
@@ -12,7 +13,8 @@ use Rattle.pointing.specs.Pointing.{pointsTo, firstOf}
 use Rattle.pointing.specs.declared.Cause.{Cause}
 use Rattle.pointing.specs.declared.Cause.the-variants.{Row, NoMore}
 
--- the turn of a row: 0 for a good one, 1 for reasons 1 to 8, 3 for reason 11, which names a row, and 2 for reasons 9, 10 and 12
+-- the turn of a row: 0 for a good one, 1 for reasons 1 to 8, 3 for reason 11, which names a row,
+-- and 2 for reasons 9, 10 and 12
 unfoldable pub turnOf : ℕ → ℕ
 turnOf verdict =
     cond (ltb (verdict / 256) 1) 0
@@ -37,7 +39,8 @@ onRow way NoMore = []
 
 -- which rows name others, and the first row that each points to
 module _ (first : ℕ → Cause) (naming : ℕ → Bool) where
-  -- a row that names another comes after it, and that one after the row that it names in turn, as far as none of them was told
+  -- a row that names another comes after it, and that one after the row that it names in turn,
+  -- as far as none of them was told
   unfoldable pub wayTo : (steps : ℕ) → (told : List ℕ) → ℕ → List ℕ
   wayTo zero told i = []
   wayTo (suc steps) told i = cond (naming i && not (isIn i told)) (onRow (wayTo steps (i ∷ told)) (first i) ++ i ∷ []) []
@@ -47,7 +50,8 @@ module _ (first : ℕ → Cause) (naming : ℕ → Bool) where
   toldBefore n zero = []
   toldBefore n (suc i) = toldBefore n i ++ wayTo n (toldBefore n i) i
 
--- rows of reasons 1 to 8 come first, then those of 9, 10 and 12, both in table order, and those of 11 last, each after the row that it names
+-- rows of reasons 1 to 8 come first, then those of 9, 10 and 12, both in table order, and those of 11 last,
+-- each after the row that it names
 unfoldable pub orderOf : (halves bytes cells : List ℕ) → (n : ℕ) → List ℕ
 orderOf halves bytes cells n =
     allFrom (inTurn cells 1) 0 n
@@ -64,7 +68,8 @@ pub data Leads (first : ℕ → Cause) : ℕ → ℕ → Type 0 where
   here : {i : ℕ} → Leads first i i
   on : {i j k : ℕ} → first i ≡ Row j → Leads first j k → Leads first i k
 
--- these rows are told one after the other: of the first row that each points to, if it isn't good, it was told before, or leads back here
+-- these rows are told one after the other: of the first row that each points to, if it isn't good,
+-- it was told before, or leads back here
 abbrev pub AllAfter : (first : ℕ → Cause) → (bad : ℕ → Bool) → (told rows : List ℕ) → Type 0
 AllAfter first bad told [] = Unit {0}
 AllAfter first bad told (k ∷ rows) =

@@ -1,4 +1,5 @@
--- What telling a row, and telling all rows of reason 11, leaves in the arrays: the order, and marks of the rows that were told.
+-- What telling a row, and telling all rows of reason 11, leaves in the arrays: the order,
+-- and marks of the rows that were told.
 use Prim.Native.Nat.{ℕ, _+_, _≤_, _<_}
 use mathlib.Core.Path.{_≡_}
 use mathlib.Core.Bool.{Bool, true, not}

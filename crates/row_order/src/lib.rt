@@ -157,7 +157,8 @@ fn least(a: usize, b: usize) -> usize
     if a < b { a } else { b }
 }
 
-// Puts the rows of n that aren't good to the array, as far as it has room: how many they are. Of rows past the arrays' places nothing is told.
+// Puts the rows of n that aren't good to the array, as far as it has room: how many they are.
+// Of rows past the arrays' places nothing is told.
 pub fn order_rows(
     halves: &[u16],
     bytes: &[u8],

@@ -1,4 +1,5 @@
--- What a line of each table says, by its columns: `at k` is the text of column k, counted from 0, so that 01's column k is `at (k - 1)`.
+-- What a line of each table says, by its columns: `at k` is the text of column k, counted from 0,
+-- so that 01's column k is `at (k - 1)`.
 use Prim.Native.Nat.{ℕ}
 use mathlib.Core.List.{List}
 use mathlib.Core.Path.{_≡_, refl}

@@ -39,7 +39,8 @@ use Rattle.rows.specs.declared.letters.LimitCoding.{LimitCoding}
 use Rattle.rows.specs.declared.letters.CheckType.{CheckType}
 use Rattle.rows.specs.declared.letters.CheckType.the-variants.{Soft, Hard, Delta, Consistency, Event}
 
--- a number from 0 to 4,294,967,295, or else the default. In a well-formed row it is the number itself: see `natural-exact`
+-- a number from 0 to 4,294,967,295, or else the default. In a well-formed row it is the number itself:
+-- see `natural-exact`
 unfoldable pub naturalFrom : ℕ → Option ℤ → ℕ
 naturalFrom default none = default
 naturalFrom default (some (pos n)) = cond (ltb n (2 ^ 32)) n default
@@ -48,7 +49,8 @@ naturalFrom default (some (negsuc n)) = default
 unfoldable pub naturalOr : ℕ → List ℕ → ℕ
 naturalOr default text = naturalFrom default (numberOf text)
 
--- a number below 2 ^ 60 in magnitude, or else the default. In a well-formed row it is the number itself: see `integer-exact`
+-- a number below 2 ^ 60 in magnitude, or else the default. In a well-formed row it is the number itself:
+-- see `integer-exact`
 unfoldable pub integerFrom : ℤ → Option ℤ → ℤ
 integerFrom default none = default
 integerFrom default (some v) = cond (ltb (natAbs v) (2 ^ 60)) v default

@@ -1,5 +1,5 @@
-// What later layers need of a row, a struct for each table with the names of its columns: numbers after defaults, letters as enums,
-// names, and whether an optional column was given.
+// What later layers need of a row, a struct for each table with the names of its columns: numbers after defaults,
+// letters as enums, names, and whether an optional column was given.
 use crate::letters::Category;
 use crate::letters::CheckType;
 use crate::letters::Format;

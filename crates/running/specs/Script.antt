@@ -1,4 +1,5 @@
--- What a vector file means: line by line, how many questions of each kind are asked, how many answers differ, and how many lines can't be read.
+-- What a vector file means: line by line, how many questions of each kind are asked, how many answers differ,
+-- and how many lines can't be read.
 use Prim.Native.Nat.{ℕ}
 use mathlib.Core.Path.{_≡_, refl}
 use mathlib.Core.Bool.{true, false, cond}

@@ -1,5 +1,5 @@
-// The check of a row of each table, driven by its constants. Each has its own function: one for all would make the arrays of all
-// tables anew for each row.
+// The check of a row of each table, driven by its constants. Each has its own function: one for all would make the
+// arrays of all tables anew for each row.
 use crate::check_row;
 use crate::tables::CAF_KIND;
 use crate::tables::CAF_MANDATORY;

@@ -7,7 +7,8 @@ ghost use mathlib.Core.Path.{_≡_};
 ghost use Rattle.schemas.specs.Reasons.{kindReason, columnReason};
 ghost use Rattle.schemas.specs.Constants.{kindAt, columnFrom};
 
-// The kind of a column of any text; the numbers' kinds follow it, from FIRST_LETTERS on the letters', and COEFFICIENT is the last.
+// The kind of a column of any text; the numbers' kinds follow it, from FIRST_LETTERS on the letters',
+// and COEFFICIENT is the last.
 pub(crate) const TEXT: u8 = 0;
 
 const FIRST_LETTERS: u8 = 128;

@@ -66,7 +66,8 @@ fn range_reason(text: &[u8], lowest: i64, highest: i64) -> u8
     }
 }
 
-// The same by the kind of the column. Each range stands in the code: an array of them would be made anew for each number.
+// The same by the kind of the column. Each range stands in the code:
+// an array of them would be made anew for each number.
 pub(crate) fn number_reason(text: &[u8], kind: u8) -> u8
     requires { ⌜ 1 ≤ kind ⌝ }
     ensures { λ r. ⌜ r ≡ numberReason (getD lowests kind (pos 0)) (getD highests kind (pos 0)) (numberOf (now (text .entry))) ⌝ }

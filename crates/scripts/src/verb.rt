@@ -57,7 +57,8 @@ fn place_in(list: &[u8], word: &[u8]) -> usize
     k
 }
 
-// The tables in the specification's order, the packet, and the other lines that set something; their number for no such word.
+// The tables in the specification's order, the packet, and the other lines that set something;
+// their number for no such word.
 pub fn setting_of(word: &[u8]) -> usize
     ensures { λ r. ⌜ r ≡ settingOf (now (word .entry)) ⌝ }
 {

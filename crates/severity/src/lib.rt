@@ -45,7 +45,8 @@ fn limit_at(limits: &[i64], i: usize) -> i64
     if i < limits.len() { limits[i] } else { 0 }
 }
 
-// Hard before soft. There are as many checks as levels: LVALU, HVALU, and the level 2 for an H check and 1 for an S one.
+// Hard before soft. There are as many checks as levels: LVALU, HVALU,
+// and the level 2 for an H check and 1 for an S one.
 pub fn severity_in(lows: &[i64], highs: &[i64], levels: &[u8], value: i64) -> Severity
     ensures { λ r. ⌜ r ≡ severityIn (checksIn (now (lows .entry)) (now (highs .entry)) (now (levels .entry))) value ⌝ }
 {

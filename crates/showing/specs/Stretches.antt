@@ -12,7 +12,8 @@ use Rattle.showing.specs.declared.stretches.Showing.the-variants.{Each, 
 use Rattle.showing.specs.declared.lines.Line.{Line}
 use Rattle.showing.specs.declared.stretches.Stretch.{Stretch}
 
--- the next packet has the same answer: refused with the same number and place, or taken with the same announced while run doesn't fall
+-- the next packet has the same answer: refused with the same number and place,
+-- or taken with the same announced while run doesn't fall
 unfoldable pub joins : Line → Line → Bool
 joins a b =
     eqb (a .refusal) (b .refusal) && eqb (a .place) (b .place) && eqb (a .announced) (b .announced) && leb (a .run) (b .run)

@@ -10,7 +10,8 @@ ghost use mathlib.Core.Path.{_≡_};
 ghost use Rattle.showing.specs.Count.{sequenceCountIn};
 ghost use Rattle.showing.specs.Lines.{printedLine};
 
-// The packet's number, from 1, and its sequence count; the number and place of its refusal, 0 of one that is taken; and the state's run and announced.
+// The packet's number, from 1, and its sequence count; the number and place of its refusal, 0 of one that is taken; and
+// the state's run and announced.
 pub struct Line {
     pub number: usize,
     pub count: u64,

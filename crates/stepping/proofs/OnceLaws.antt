@@ -1,4 +1,5 @@
--- A packet is accepted once: offered again it is refused, at once or after the next, and packets played again change nothing.
+-- A packet is accepted once: offered again it is refused, at once or after the next,
+-- and packets played again change nothing.
 use mathlib.Core.Path.{_≡_, refl, sym, _∙_}
 use mathlib.Core.Bool.{true, false}
 use mathlib.Core.List.{List, [], _∷_, List·Memᴰ}

@@ -70,7 +70,8 @@ use Rattle.accepting.specs.Accepted.{progressOf, accepted}
 abbrev line : (table : ℕ) → String → Row
 line table text = record { table = table; number = 1; start = 0; bytes = map (λ b. cond (eqb b (char ";")) 9 b) (ascii text) }
 
--- In 01's packet, of APID 10 and count 0, TEMP is signed 8 at byte 10, so -1, and ON is unsigned 4 at byte 11, bit 4, so 5.
+-- In 01's packet, of APID 10 and count 0, TEMP is signed 8 at byte 10, so -1, and ON is unsigned 4 at byte 11,
+-- bit 4, so 5.
 -- TEMP has a soft check from 0 to 9 and another check, and a curve by which -1 is -10
 abbrev rowsWith : (plf pcf ocf ocp : String) → Rows
 rowsWith place kind limit check =

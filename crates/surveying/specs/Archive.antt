@@ -1,5 +1,5 @@
--- What is known of the packets of a file that is read in blocks. No contract can say which bytes the system's read puts into a block;
--- but they stand in it, and it is said of them that none is passed over, taken twice or put elsewhere.
+-- What is known of the packets of a file that is read in blocks. No contract can say which bytes the system's read puts
+-- into a block; but they stand in it, and it is said of them that none is passed over, taken twice or put elsewhere.
 use Prim.Native.Nat.{ℕ, _-_}
 use mathlib.Core.Path.{_≡_}
 use mathlib.Core.List.{List}
@@ -17,7 +17,8 @@ use Rattle.surveying.specs.Surveys.{tallied, surveyed, Surveys}
 abbrev pub nothingRead : Standing
 nothingRead = record { tally = tallied 0 0 0; from = 0; to = 0 }
 
--- one block: what was left over stands in front of what was read, and of each packet that stands in both together it was asked
+-- one block: what was left over stands in front of what was read,
+-- and of each packet that stands in both together it was asked
 pub record BlockSurveyed (rows : Rows) (name : List ℕ) (question : Question) (begun after : Standing) (before block : List ℕ) : Type 0 where
   pub refilled : Refilled (begun .from) (begun .to) (after .to) before block
   pub surveys : Surveys rows name question (begun .tally) (partOf block 0 (after .to)) (after .tally) (after .from)

@@ -24,7 +24,8 @@ putSymbol words n k = set (set (set (set words (4 * n) (k .space)) (4 * n + 1) (
 unfoldable pub bucketOf : Symbol → ℕ
 bucketOf k = k .space % 16 * 1024 + (k .a % 65521 + k .b % 65521 * 31 + k .c % 65521 * 37) % 1021
 
--- a bucket is a tree: the links of the buckets come first, and then two for each symbol. A link is one more than an id, 0 where it leads nowhere
+-- a bucket is a tree: the links of the buckets come first, and then two for each symbol.
+-- A link is one more than an id, 0 where it leads nowhere
 abbrev pub heads : ℕ
 heads = 16384
 
@@ -47,7 +48,8 @@ putLink links n place = set (set (set links (heads + 2 * n) 0) (heads + 2 * n + 
 unfoldable pub hasRoom : List ℕ → List ℕ → ℕ → Bool
 hasRoom words links n = ltb n 65535 && (ltb (4 * n + 3) (length words) && ltb (heads + 2 * n + 1) (length links))
 
--- the room of arrays by key: two keys for each row that arrays have a place for, as many as a row holds and names on the average
+-- the room of arrays by key: two keys for each row that arrays have a place for,
+-- as many as a row holds and names on the average
 abbrev pub mostSymbols : ℕ
 mostSymbols = 2 * mostPlaces
 

@@ -10,7 +10,8 @@ use Rattle.symbols.specs.declared.Trace.{Trace}
 use Rattle.symbols.specs.Symbols.{sameSymbol, noId}
 use Rattle.symbols.specs.Arrays.{symbolAt, bucketOf, heads, linkFrom, turned}
 
--- from the link at a place on: one more than the id under which k is found, or 0, and the place of the last link that was followed
+-- from the link at a place on: one more than the id under which k is found, or 0,
+-- and the place of the last link that was followed
 unfoldable pub follow : List ℕ → List ℕ → Symbol → (steps : ℕ) → (trail : Symbol) → (place : ℕ) → Trace
 follow words links k zero trail place = record { at = 0; place = place }
 follow words links k (suc steps) trail place =

@@ -1,7 +1,8 @@
--- The names of the tables and of their columns. 01 prints those of the ICD without the table's prefix: PCF_VALID is VALID.
+-- The names of the tables and of their columns. 01 prints those of the ICD without the table's prefix:
+-- PCF_VALID is VALID.
 use Prim.Native.Nat.{ℕ}
 use mathlib.Core.Path.{_≡_, refl}
-use mathlib.Core.List.{List, [], _∷_}
+use mathlib.Core.List.{List, [], _∷_, _++_}
 use lib.ListN.{length}
 use Rattle.laws.specs.Text.{ascii}
 use Rattle.lines.specs.Columns.{columnsOf, columnsFrom, columnAt}
@@ -17,8 +18,8 @@ headings Pid = ascii "TYPE\tSTYPE\tAPID\tPI1_VAL\tPI2_VAL\tSPID\tDESCR\tUNIT\tTP
 headings Pic = ascii "TYPE\tSTYPE\tPI1_OFF\tPI1_WID\tPI2_OFF\tPI2_WID\tAPID"
 headings Plf = ascii "NAME\tSPID\tOFFBY\tOFFBI\tNBOCC\tLGOCC\tTIME\tTDOCC"
 headings Pcf =
-    ascii
-    "NAME\tDESCR\tPID\tUNIT\tPTC\tPFC\tWIDTH\tVALID\tRELATED\tCATEG\tNATUR\tCURTX\tINTER\tUSCON\tDECIM\tPARVAL\tSUBSYS\tVALPAR\tSPTYPE\tCORR\tOBTID\tDARC\tENDIAN"
+    ascii "NAME\tDESCR\tPID\tUNIT\tPTC\tPFC\tWIDTH\tVALID\tRELATED\tCATEG\tNATUR\tCURTX\t"
+    ++ ascii "INTER\tUSCON\tDECIM\tPARVAL\tSUBSYS\tVALPAR\tSPTYPE\tCORR\tOBTID\tDARC\tENDIAN"
 headings Caf = ascii "NUMBR\tDESCR\tENGFMT\tRAWFMT\tRADIX\tUNIT\tNCURVE\tINTER"
 headings Cap = ascii "NUMBR\tXVALS\tYVALS"
 headings Txf = ascii "NUMBR\tDESCR\tRAWFMT\tNALIAS"

@@ -40,7 +40,8 @@ pub fn column_name(table: Table, k: usize) -> Name
         Table::Pic => heading(b"TYPE\tSTYPE\tPI1_OFF\tPI1_WID\tPI2_OFF\tPI2_WID\tAPID", k),
         Table::Plf => heading(b"NAME\tSPID\tOFFBY\tOFFBI\tNBOCC\tLGOCC\tTIME\tTDOCC", k),
         Table::Pcf => heading(
-            b"NAME\tDESCR\tPID\tUNIT\tPTC\tPFC\tWIDTH\tVALID\tRELATED\tCATEG\tNATUR\tCURTX\tINTER\tUSCON\tDECIM\tPARVAL\tSUBSYS\tVALPAR\tSPTYPE\tCORR\tOBTID\tDARC\tENDIAN",
+            b"NAME\tDESCR\tPID\tUNIT\tPTC\tPFC\tWIDTH\tVALID\tRELATED\tCATEG\tNATUR\tCURTX\t\
+              INTER\tUSCON\tDECIM\tPARVAL\tSUBSYS\tVALPAR\tSPTYPE\tCORR\tOBTID\tDARC\tENDIAN",
             k,
         ),
         Table::Caf => heading(

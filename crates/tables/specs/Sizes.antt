@@ -19,8 +19,8 @@ saidSizes Fit = fit
 saidSizes (TooLong table) = refusedBy 1 (table .0)
 saidSizes (TooManyRows table) = refusedBy 2 (table .0)
 
--- 01: "1, 2 … any call with tables, before all else: a table over 65,536 bytes; over 1,024 rows"; "for 1 and 2 the first such table, 1 to 10",
--- and by 02, P1, to 11: "cells and places count eleven tables"
+-- 01: "1, 2 … any call with tables, before all else: a table over 65,536 bytes; over 1,024 rows"; "for 1 and 2 the
+-- first such table, 1 to 10", and by 02, P1, to 11: "cells and places count eleven tables"
 unfoldable pub sizesOf : List (List ℕ) → Sized
 sizesOf texts =
     cond (eqb (tooLong texts) 0) (cond (eqb (tooManyRows texts) 0) fit (refusedBy 2 (tooManyRows texts))) (refusedBy 1 (tooLong texts))

@@ -26,7 +26,8 @@ plainOf valuesOf (answer a) = withValues (valuesOf a)
 unfoldable pub toldPlainly : Telling → Plain
 toldPlainly t = record { number = t .number; place = t .place; values = take (t .count) (t .values) }
 
--- number and place as one number: 0 with values. Every place is below 2 ^ 32 (crate refusal_places), so both are read back from it (`read-back`)
+-- number and place as one number: 0 with values. Every place is below 2 ^ 32 (crate refusal_places),
+-- so both are read back from it (`read-back`)
 unfoldable pub code : (number place : ℕ) → ℕ
 code number place = number * 2 ^ 32 + place
 

@@ -3,7 +3,8 @@ pub mod deliver;
 pub mod tell;
 mod words;
 
-// The number and the place of a refusal, both 0 where there are values; and the first `count` of these, which are the answer's.
+// The number and the place of a refusal, both 0 where there are values; and the first `count` of these,
+// which are the answer's.
 pub struct Telling {
     pub number: u8,
     pub place: usize,

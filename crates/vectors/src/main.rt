@@ -1,4 +1,5 @@
-// Asks the questions of vector files, and says which answers differ from those that stand under them. docs/VECTORS.md has the format.
+// Asks the questions of vector files, and says which answers differ from those that stand under them.
+// docs/VECTORS.md has the format.
 mod totals;
 
 use areas::SPACE;

@@ -1,9 +1,10 @@
 -- DEMAND 3: a bad row costs only the rows that lean on it.
 --
--- For all tables, any line of any table that a line feed ends, and any new bytes without a line feed in its place (`Edit`): every
--- other row from which the line is reached by no steps, neither in the old tables nor in the new (`Apart`), keeps its verdict. So
--- says `verdict-kept`. And where import takes the old tables and the new (`Takes`), whatever the cells it is lent, the row has its
--- cell at the same place in both, and the cell holds the same. So says `demand-3`, of the very cells that import writes.
+-- For all tables, any line of any table that a line feed ends, and any new bytes without a line feed in its place
+-- (`Edit`): every other row from which the line is reached by no steps, neither in the old tables nor in the new
+-- (`Apart`), keeps its verdict. So says `verdict-kept`. And where import takes the old tables and the new (`Takes`),
+-- whatever the cells it is lent, the row has its cell at the same place in both, and the cell holds the same. So says
+-- `demand-3`, of the very cells that import writes.
 use mathlib.Core.Path.{_≡_, sym, ap, _∙_}
 use mathlib.Core.List.{List}
 use Prim.Native.Nat.{ℕ}

@@ -1,4 +1,5 @@
--- The core of demand 3, over lists of rows: where some rows are replaced, a row that reaches none of them keeps its verdict.
+-- The core of demand 3, over lists of rows: where some rows are replaced,
+-- a row that reaches none of them keeps its verdict.
 use mathlib.Core.Path.{_≡_, refl, sym, ap, ap₂, _∙_}
 use mathlib.Core.Bool.{Bool, true, false, cond, _&&_, _||_}
 use mathlib.Core.List.{List, [], _∷_, _++_, List·Memᴰ, List·Memᴰ·head, List·Memᴰ·tail}

@@ -1,4 +1,5 @@
--- The kind that ocf asks for under INTER C: CURTX of the pcf row is given, and a curve through points holds the key that it names.
+-- The kind that ocf asks for under INTER C: CURTX of the pcf row is given,
+-- and a curve through points holds the key that it names.
 use mathlib.Core.Path.{_≡_, refl, ap, _∙_}
 use mathlib.Core.Bool.{Bool, true, false, cond, _&&_, _||_}
 use mathlib.Core.List.{List, [], _∷_, _++_}

@@ -81,7 +81,8 @@ of-table Mcf line k m = of-one Mcf k _ (List·Memᴰ·tail (List·Memᴰ·head r
 
 -- Groups
 
--- the table whose rows are counted in a group: the points of a curve, the ranges of texts, the checks of limits; no group goes by another key
+-- the table whose rows are counted in a group: the points of a curve, the ranges of texts, the checks of limits;
+-- no group goes by another key
 unfoldable pub groupTable : Key → Table
 groupTable (packet ptype stype apid pi1 pi2) = Ocp
 groupTable (structure spid) = Ocp

@@ -1,4 +1,5 @@
--- What a well-formed row says of itself and of others: the columns of 01 under "Columns" that speak of keys, names and counts.
+-- What a well-formed row says of itself and of others: the columns of 01 under "Columns" that speak of keys,
+-- names and counts.
 use Prim.Native.Nat.{ℕ}
 use mathlib.Core.Bool.{Bool, true, false, cond, _&&_}
 use mathlib.Core.List.{List, [], _∷_, _++_}
@@ -49,7 +50,8 @@ pub data Kind : Type 0 where
   -- what its own column names meets a condition, as in 01: "C needs CURTX in that pcf row"
   through : (column : ℕ) → Condition → Kind
 
--- a column that names a row: the key it names and the kind it asks for. Through a column of the VALID chain circles are sought
+-- a column that names a row: the key it names and the kind it asks for.
+-- Through a column of the VALID chain circles are sought
 pub record Naming : Type 0 where
   pub column : ℕ
   pub key : Key
@@ -85,7 +87,8 @@ plainly points = false
 abbrev when : Bool → Naming → List Naming
 when given naming = cond given (naming ∷ []) []
 
--- 01: "Among well-formed VALID Y rows the first five numbers are unique, and so is SPID. N rows have no key and are never named"
+-- 01: "Among well-formed VALID Y rows the first five numbers are unique, and so is SPID.
+-- N rows have no key and are never named"
 unfoldable pub pidKeys : Valid → PidRow → List Key
 pidKeys Yes r = packet (r .ptype) (r .stype) (r .apid) (r .pi1) (r .pi2) ∷ structure (r .spid .0) ∷ []
 pidKeys No r = []
@@ -129,7 +132,8 @@ pcfMeets r whole = isWhole (r .ptc)
 pcfMeets r numeric = isWhole (r .ptc) && isNumeric (r .categ)
 pcfMeets r points = false
 
--- 01: "S needs CURTX, naming a txf row; N may name a caf row"; 02, P1: "N parameters may name either", caf or mcf. T has none
+-- 01: "S needs CURTX, naming a txf row; N may name a caf row"; 02, P1: "N parameters may name either", caf or mcf.
+-- T has none
 abbrev pub curtxKey : Category → OptionalCurve → Key
 curtxKey Numeric c = curve (c .name)
 curtxKey Status c = texts (c .name)
@@ -200,7 +204,8 @@ txpFacts r =
       meets = plainly;
     }
 
--- 01: "C needs CURTX in that pcf row (reason 11, column 4)"; 02, P1: "a limit with INTER C on a polynomial is reason 11 at column 4"
+-- 01: "C needs CURTX in that pcf row (reason 11, column 4)"; 02, P1:
+-- "a limit with INTER C on a polynomial is reason 11 at column 4"
 abbrev pub ofEngineering : LimitValue → Naming → List Naming
 ofEngineering LV.Raw naming = []
 ofEngineering LV.Engineering naming = naming ∷ []

@@ -47,7 +47,8 @@ abbrev oneMcf : String → String → List ℕ
 oneMcf ident pol1 = rowOf (ident ∷ "" ∷ pol1 ∷ "" ∷ "" ∷ "" ∷ "" ∷ [])
 
 pub record FromBytes : Type 0 where
-  -- 01: "A caf row with NCURVE 3, two sound cap rows of it and nothing else: cells 2567, 2817, 2817; three rows, none good"
+  -- 01: "A caf row with NCURVE 3, two sound cap rows of it and nothing else: cells 2567, 2817, 2817; three rows,
+  -- none good"
   pub miscounted : verdicts (curves (oneCaf "3") twoCaps []) ≡ 2567 ∷ 2817 ∷ 2817 ∷ []
   pub answered : importOf (curves (oneCaf "3") twoCaps []) 3 ≡ taken 3 0
   -- with the right count all are good
@@ -164,7 +165,8 @@ abbrev cellsOf : List Entry → List ℕ
 cellsOf rows = map (verdict rows) rows
 
 pub record FromFacts : Type 0 where
-  -- a circle of three: reason 12, which outranks 11, also where CURTX names no row. One that leads into it: 11 at column 8
+  -- a circle of three: reason 12, which outranks 11, also where CURTX names no row. One that leads into it:
+  -- 11 at column 8
   pub circleOfThree : cellsOf (pcfEntry 1 "A" (valid "B" ∷ []) ∷ pcfEntry 2 "B" (valid "C" ∷ curtx "K" ∷ []) ∷ pcfEntry 3 "C" (valid "A" ∷ [])
       ∷ pcfEntry 4 "D" (valid "A" ∷ []) ∷ []) ≡ 3080 ∷ 3080 ∷ 3080 ∷ 2824 ∷ []
   -- one that names itself is on a circle
@@ -177,7 +179,8 @@ pub record FromFacts : Type 0 where
   pub secondRow : cellsOf (limitOn "A" (through 12 points) ∷ pcfEntry 1 "A" (curtx "K" ∷ []) ∷ cafEntry "K" ∷ []) ≡ 0 ∷ 0 ∷ 0 ∷ []
   pub noSecondRow : cellsOf (limitOn "A" (through 12 points) ∷ pcfEntry 1 "A" [] ∷ cafEntry "K" ∷ []) ≡ 2820 ∷ 0 ∷ 0 ∷ []
   pub otherColumn : cellsOf (limitOn "A" (through 12 points) ∷ pcfEntry 1 "A" (valid "B" ∷ []) ∷ pcfEntry 2 "B" [] ∷ []) ≡ 2820 ∷ 0 ∷ 0 ∷ []
-  -- 02, P1: "a limit with INTER C on a polynomial is reason 11 at column 4": the second row is there and good, but of another kind
+  -- 02, P1: "a limit with INTER C on a polynomial is reason 11 at column 4": the second row is there and good,
+  -- but of another kind
   pub otherSecond : cellsOf (limitOn "A" (through 12 points) ∷ pcfEntry 1 "A" (curtx "K" ∷ []) ∷ mcfEntry "K" ∷ []) ≡ 2820 ∷ 0 ∷ 0 ∷ []
   -- of two names the lowest column decides
   pub lowestColumn : cellsOf (pcfEntry 1 "A" (valid "B" ∷ curtx "K" ∷ []) ∷ []) ≡ 2824 ∷ []

@@ -1,4 +1,5 @@
--- Rows by the number of their table and their own, their cells, and a line that is replaced: the words in which demand 3 is claimed.
+-- Rows by the number of their table and their own, their cells, and a line that is replaced:
+-- the words in which demand 3 is claimed.
 use Prim.Native.Nat.{ℕ, zero, suc, _+_, _-_, _≤_, _<_}
 use mathlib.Core.Path.{_≡_}
 use mathlib.Core.Bool.{true, false}
@@ -85,7 +86,8 @@ pub record Takes (texts : List (List ℕ)) (cells : List ℕ) : Type 0 where
 abbrev pub imported : List (List ℕ) → List ℕ → List ℕ
 imported texts cells = cellsAfter texts cells (importOf texts (length cells))
 
--- import writes a cell for row r of table u, of the tables here and of those there; it is the same cell, and holds the same
+-- import writes a cell for row r of table u, of the tables here and of those there; it is the same cell,
+-- and holds the same
 pub record SameCell (texts texts′ : List (List ℕ)) (cells cells′ : List ℕ) (u r : ℕ) : Type 0 where
   pub written : place texts u r < length (verdicts texts)
   pub written′ : place texts′ u r < length (verdicts texts′)

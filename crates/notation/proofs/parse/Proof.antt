@@ -1,4 +1,5 @@
--- `notation::parse` meets its contract. The invariant: what is left, after the stage and the numbers so far, gives what the whole text gives.
+-- `notation::parse` meets its contract. The invariant: what is left, after the stage and the numbers so far,
+-- gives what the whole text gives.
 use borrow.Author.Needs.{needs}
 use native.Mathlib.Omega.{arith}
 use mathlib.Core.Path.{sym, _∙_}

@@ -1,4 +1,5 @@
--- `numbers::after_zero` meets its contract: x or X is the hexadecimal mark, and any other character must be an octal digit.
+-- `numbers::after_zero` meets its contract: x or X is the hexadecimal mark,
+-- and any other character must be an octal digit.
 use mathlib.Core.Path.{sym, _∙_}
 use Rattle.numbers.specs.Number.{leadingZero, meaning, answerOf}
 use Rattle.numbers.proofs.Firsts.{no-first, first-then, first-alike, zero-mark, zero-digit}

@@ -1,4 +1,5 @@
--- `numbers::read_digits` meets its contract. The invariant: what is left, after the magnitude so far, is answered as the whole is.
+-- `numbers::read_digits` meets its contract. The invariant: what is left, after the magnitude so far,
+-- is answered as the whole is.
 use borrow.Author.Needs.{needs}
 use native.Mathlib.Omega.{arith}
 use mathlib.Core.Path.{_≡_, refl, sym, _∙_}

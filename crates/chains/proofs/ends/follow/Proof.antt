@@ -1,5 +1,5 @@
--- The invariant: what is left of the steps comes to row i where all of them do, the row kept was passed without coming to it, and
--- where the chain ends from here on it ends from row i on.
+-- The invariant: what is left of the steps comes to row i where all of them do, the row kept was passed without coming
+-- to it, and where the chain ends from here on it ends from row i on.
 use mathlib.Core.Path.{_≡_, refl, sym, _∙_}
 use native.Mathlib.Omega.{arith}
 use Rattle.chains.specs.Chains.{comesTo}

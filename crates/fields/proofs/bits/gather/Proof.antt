@@ -1,4 +1,5 @@
--- `fields::bits::gather` meets its contract. The loop's invariant: `acc` is the number of the bits passed, and byte and bit are where the next one lies.
+-- `fields::bits::gather` meets its contract. The loop's invariant: `acc` is the number of the bits passed, and byte and
+-- bit are where the next one lies.
 use mathlib.Core.Path.{_≡_, ap, _∙_}
 use Prim.Native.Nat.{ℕ, _+_, _-_, _*_, _%_, _^_, _<_, _≤_}
 use native.Mathlib.Omega.{arith}

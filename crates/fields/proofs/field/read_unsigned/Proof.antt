@@ -1,4 +1,5 @@
--- `fields::field::read_unsigned` meets its contract: the tests that led to each answer say whether the field's end lies in the packet.
+-- `fields::field::read_unsigned` meets its contract:
+-- the tests that led to each answer say whether the field's end lies in the packet.
 use mathlib.Core.Path.{ap, _∙_}
 use Prim.Native.Nat.{ℕ}
 use native.Mathlib.Omega.{arith}

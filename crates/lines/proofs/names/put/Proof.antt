@@ -1,4 +1,5 @@
--- `lines::names::put` meets its contract. The invariant: the bytes passed are written, and the further ones are as before.
+-- `lines::names::put` meets its contract. The invariant: the bytes passed are written,
+-- and the further ones are as before.
 use mathlib.Core.Path.{_≡_, refl, _∙_}
 use mathlib.Core.List.{_++_}
 use Prim.Native.Nat.{_-_, _≤_}

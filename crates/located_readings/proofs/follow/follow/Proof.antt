@@ -1,4 +1,5 @@
--- The invariant: with the validity of the row that comes next, the rows stored give that of the row that the block starts with.
+-- The invariant: with the validity of the row that comes next,
+-- the rows stored give that of the row that the block starts with.
 use mathlib.Core.Path.{_≡_}
 use mathlib.Core.List.{map}
 use Prim.Native.Nat.{_-_}

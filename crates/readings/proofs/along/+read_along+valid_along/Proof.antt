@@ -1,4 +1,5 @@
--- The cycle of readings and validity: the measure of validity is twice the rows that are left, and that of a reading one more.
+-- The cycle of readings and validity: the measure of validity is twice the rows that are left,
+-- and that of a reading one more.
 use mathlib.Core.Path.{ap, _∙_}
 use Prim.Native.Nat.{ℕ, _+_, _*_, _<_}
 use lib.IntN.{pos}
