@@ -10,7 +10,7 @@ use lib.ListN.{length, getD, take, drop, set, drop-of-length-le, length-set}
 use lib.Seq.{sets, length-take-le}
 use borrow.Author.Tests.{eq-eqb, ne-eqb, eqb-true}
 use Rattle.laws.proofs.Lists.{split}
-use Rattle.laws.proofs.Cases.{cond-cases₂, and-left, and-right, or-right, false≢true}
+use Rattle.laws.proofs.Cases.{cond-cases₂, and-left, and-right, or-right, or-false, false≢true}
 use Rattle.lines.specs.declared.columns.Scanned.{Scanned}
 use Rattle.lines.specs.Lines.{lineFeed, lineLength, nextLine, lineFrom}
 use Rattle.lines.specs.Columns.{tab, columnsFrom, columnsOf, endsFrom, endsOf, printable, allowed, foreignIn, walked, closed, scanned, partOf}
@@ -70,10 +70,6 @@ no-tab b p e = false≢true (rw e at p)
 no-feed : (feeds : Bool) (b : ℕ) → printable b ≡ true → (Stops feeds b → ⊥)
 unfolding printable
 no-feed feeds b p s = let e : b ≡ 10 = eqb-true b 10 (and-right feeds (eqb b 10) s) in false≢true (rw e at p)
-
-or-false : (t : Bool) → (t || false) ≡ t
-or-false true = refl
-or-false false = refl
 
 module _ (feeds : Bool) (text : List ℕ) (from : ℕ) where
   pub walk-start : (ends : List ℕ) → Walk feeds text from ends ends 0 from false

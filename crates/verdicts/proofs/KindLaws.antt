@@ -1,10 +1,11 @@
 -- The kind that ocf asks for under INTER C: CURTX of the pcf row is given,
 -- and a curve through points holds the key that it names.
 use mathlib.Core.Path.{_≡_, refl, ap, _∙_}
-use mathlib.Core.Bool.{Bool, true, false, cond, _&&_, _||_}
+use mathlib.Core.Bool.{Bool, true, false, cond, _&&_}
 use mathlib.Core.List.{List, [], _∷_, _++_}
 use lib.Dec.{eqb}
 use Rattle.laws.specs.Lists.{any}
+use Rattle.laws.proofs.Cases.{or-false}
 use Rattle.laws.proofs.Tests.{any-never, any-keep}
 use Rattle.rows.specs.declared.records.PcfRow.{PcfRow}
 use Rattle.verdicts.specs.Key.{Key, parameter}
@@ -12,10 +13,6 @@ use Rattle.verdicts.specs.Facts.{anyRow, whole, points, itself, through,
 use Rattle.verdicts.specs.Entries.{Entry, fine, facts}
 use Rattle.verdicts.specs.Steps.{holds, namesAt}
 use Rattle.verdicts.specs.Verdicts.{ofKind}
-
-or-false : (b : Bool) → (b || false) ≡ b
-or-false true = refl
-or-false false = refl
 
 -- of two names, each given or not, of which the second alone is at column 12
 at-12 : (v w : Bool) (m n : Naming) (q : Entry) → eqb (m .column) 12 ≡ false → eqb (n .column) 12 ≡ true
