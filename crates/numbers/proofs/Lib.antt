@@ -5,3 +5,4 @@ pub mod Firsts
 pub mod Digits
 pub mod Magnitudes
 pub mod Signs
+pub mod WrongLaws

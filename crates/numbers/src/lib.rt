@@ -1,4 +1,6 @@
-// The text of a number and its value.
+// The text of a number and its value, or where it goes wrong.
+pub mod wrong;
+
 ghost use Prim.Native.Nat.{_≤_};
 ghost use mathlib.Core.Path.{_≡_};
 ghost use Rattle.numbers.specs.Number.{minus, leadingZero, hexMark, digits, digitOf, spelt, meaning, numberOf, answerOf};
