@@ -1,103 +1,91 @@
--- Laws of the walk over a text: how far it is the beginning of a coefficient.
-use mathlib.Core.Path.{_≡_, refl, ap, _∙_}
-use mathlib.Core.Logic.{_⊎_, inl, inr, ⊎-elim}
-use mathlib.Core.List.{List, [], _∷_, _++_}
+-- How far a text is the beginning of a coefficient.
+use mathlib.Core.Path.{_≡_, refl, sym, ap, _∙_}
+use mathlib.Core.List.{List, [], _∷_}
 use mathlib.Core.Bool.{Bool, true, false}
-use Prim.Native.Nat.{ℕ, suc, _<_}
+use Prim.Native.Nat.{ℕ, suc, _+_, _<_, _≤_}
 use native.Mathlib.Omega.{arith}
-use lib.ListN.{length, take}
-use Rattle.laws.specs.Text.{ascii}
+use lib.Dec.{eqb}
+use lib.ListN.{length, getD, drop, drop-of-length-le}
+use Rattle.laws.specs.Text.{ascii, char}
+use Rattle.laws.specs.Walks.{Longest, through, accepts, leadOn}
 use Rattle.laws.proofs.Cases.{false≢true}
+use Rattle.laws.proofs.Lists.{split}
+use Rattle.laws.proofs.Walks.{Faithful, longest}
 use Rattle.notation.specs.Stages.{onDigit, inDigits, stageAfter, stageFrom, isCoefficient}
+use Rattle.notation.specs.Positions.{isStuck, coefficientWalk, loneMinus}
 use Rattle.notation.specs.declared.Stage.{Stage}
 use Rattle.notation.specs.declared.Stage.the-variants.{Start, Minus, Whole, DecimalPoint, Fraction, ExponentMark, ExponentSign, Exponent, Stuck}
 
--- no character leads on from where no coefficient can go on
-pub stuck-stays : (t : List ℕ) → stageFrom Stuck t ≡ Stuck
-unfolding stageFrom stageAfter
-stuck-stays [] = refl
-stuck-stays (c ∷ t) = stuck-stays t
+-- ---- the walk and its language
 
--- a text in two parts is walked part by part
-pub stage-append : (s : Stage) (a b : List ℕ) → stageFrom s (a ++ b) ≡ stageFrom (stageFrom s a) b
-unfolding stageFrom
-stage-append s [] b = refl
-stage-append s (c ∷ a) b = stage-append (stageAfter s c) a b
+pub through-stages : (s : Stage) (text : List ℕ) → through coefficientWalk s text ≡ stageFrom s text
+unfolding through stageFrom
+through-stages s [] = refl
+through-stages s (c ∷ text) = through-stages (stageAfter s c) text
+
+-- its words are the texts that are coefficients
+pub words-coefficients : (text : List ℕ) → accepts coefficientWalk text ≡ isCoefficient (stageFrom Start text)
+unfolding accepts
+words-coefficients text = ap isCoefficient (through-stages Start text)
 
 -- a text that makes a stage the end of a coefficient
-pub record GoesOn (s : Stage) : Type 0 where
-  pub text : List ℕ
-  pub whole : isCoefficient (stageFrom s text) ≡ true
+goes-on : (s : Stage) → isStuck s ≡ false → (text : List ℕ) × (isCoefficient (through coefficientWalk s text) ≡ true)
+unfolding isStuck isCoefficient through stageAfter inDigits onDigit
+goes-on Start f = (ascii "1", refl)
+goes-on Minus f = (ascii "1", refl)
+goes-on Whole f = ([], refl)
+goes-on DecimalPoint f = ([], refl)
+goes-on Fraction f = ([], refl)
+goes-on ExponentMark f = (ascii "1", refl)
+goes-on ExponentSign f = (ascii "1", refl)
+goes-on Exponent f = ([], refl)
+goes-on Stuck f = absurd (false≢true (sym f))
 
--- a stage that isn't stuck is in a coefficient
-pub goes-on : (s : Stage) → (s ≡ Stuck → ⊥) → GoesOn s
-unfolding isCoefficient stageFrom stageAfter inDigits onDigit
-goes-on Start h = record { text = ascii "1"; whole = refl }
-goes-on Minus h = record { text = ascii "1"; whole = refl }
-goes-on Whole h = record { text = []; whole = refl }
-goes-on DecimalPoint h = record { text = []; whole = refl }
-goes-on Fraction h = record { text = []; whole = refl }
-goes-on ExponentMark h = record { text = ascii "1"; whole = refl }
-goes-on ExponentSign h = record { text = ascii "1"; whole = refl }
-goes-on Exponent h = record { text = []; whole = refl }
-goes-on Stuck h = absurd (h refl)
-
--- what to write after a text to make it a coefficient
-pub record Beginning (a : List ℕ) : Type 0 where
-  pub text : List ℕ
-  pub whole : isCoefficient (stageFrom Start (a ++ text)) ≡ true
-
--- a text that doesn't get stuck is the beginning of a coefficient
-pub begins : (a : List ℕ) → (stageFrom Start a ≡ Stuck → ⊥) → Beginning a
-begins a h =
-    let g = goes-on (stageFrom Start a) h in
-    record { text = g .text; whole = ap isCoefficient (stage-append Start a (g .text)) ∙ g .whole }
-
--- a text that gets stuck is the beginning of none
-pub begins-none : (a b : List ℕ) → stageFrom Start a ≡ Stuck → isCoefficient (stageFrom Start (a ++ b)) ≡ false
-unfolding isCoefficient
-begins-none a b e = rw (stage-append Start a b, e, stuck-stays b)
-
--- ---- the first character at which no coefficient can go on
-
-isStuck : Stage → Bool
-isStuck Start = false
-isStuck Minus = false
-isStuck Whole = false
-isStuck DecimalPoint = false
-isStuck Fraction = false
-isStuck ExponentMark = false
-isStuck ExponentSign = false
-isStuck Exponent = false
-isStuck Stuck = true
-
--- a stage is stuck or not
-stuck-or-not : (s : Stage) → (s ≡ Stuck) ⊎ (s ≡ Stuck → ⊥)
+stuck-is : (s : Stage) → isStuck s ≡ true → s ≡ Stuck
 unfolding isStuck
-stuck-or-not Start = inr (λ e. false≢true (ap isStuck e))
-stuck-or-not Minus = inr (λ e. false≢true (ap isStuck e))
-stuck-or-not Whole = inr (λ e. false≢true (ap isStuck e))
-stuck-or-not DecimalPoint = inr (λ e. false≢true (ap isStuck e))
-stuck-or-not Fraction = inr (λ e. false≢true (ap isStuck e))
-stuck-or-not ExponentMark = inr (λ e. false≢true (ap isStuck e))
-stuck-or-not ExponentSign = inr (λ e. false≢true (ap isStuck e))
-stuck-or-not Exponent = inr (λ e. false≢true (ap isStuck e))
-stuck-or-not Stuck = inl refl
+stuck-is Start t = absurd (false≢true t)
+stuck-is Minus t = absurd (false≢true t)
+stuck-is Whole t = absurd (false≢true t)
+stuck-is DecimalPoint t = absurd (false≢true t)
+stuck-is Fraction t = absurd (false≢true t)
+stuck-is ExponentMark t = absurd (false≢true t)
+stuck-is ExponentSign t = absurd (false≢true t)
+stuck-is Exponent t = absurd (false≢true t)
+stuck-is Stuck t = refl
 
--- its place, counted from 0: what stands before it goes on, and with it nothing does
-pub record FirstWrong (s : Stage) (t : List ℕ) : Type 0 where
-  pub place : ℕ
-  pub inside : place < length t
-  pub goes : stageFrom s (take place t) ≡ Stuck → ⊥
-  pub ends : stageFrom s (take (suc place) t) ≡ Stuck
+pub coefficient-faithful : Faithful coefficientWalk
+unfolding isStuck stageAfter isCoefficient
+coefficient-faithful =
+    record { free = refl; stays = λ s c t. rw (stuck-is s t); none = λ s t. rw (stuck-is s t); some = goes-on }
 
--- a text that gets stuck has one
-pub first-wrong : (s : Stage) (t : List ℕ) → (s ≡ Stuck → ⊥) → stageFrom s t ≡ Stuck → FirstWrong s t
-unfolding stageFrom
-first-wrong s [] h e = absurd (h e)
-first-wrong s (c ∷ t) h e =
-    ⊎-elim
-    (λ q. record { place = 0; inside = omega arith; goes = h; ends = q })
-    (λ q. let w = first-wrong (stageAfter s c) t q e in
-    record { place = suc (w .place); inside = omega arith; goes = w .goes; ends = w .ends })
-    (stuck-or-not (stageAfter s c))
+-- THE LAW OF POSITIONS of coefficients: what leads on is the longest beginning of a coefficient
+pub coefficient-longest : (text : List ℕ) → Longest (accepts coefficientWalk) text (leadOn coefficientWalk Start text)
+coefficient-longest text = longest coefficientWalk coefficient-faithful text
+
+-- ---- the characters that lead on, one after the other
+
+module _ (s next : Stage) (t : List ℕ) (i : ℕ) (h : i < length t) (e : next ≡ stageAfter s (getD t i 0)) where
+  pub leads-more : isStuck next ≡ false → leadOn coefficientWalk s (drop i t) ≡ suc (leadOn coefficientWalk next (drop (i + 1) t))
+  unfolding leadOn
+  leads-more f = rw (split t i 0 h, ← e, f)
+
+  pub leads-none : isStuck next ≡ true → leadOn coefficientWalk s (drop i t) ≡ 0
+  unfolding leadOn
+  leads-none f = rw (split t i 0 h, ← e, f)
+
+pub leads-past : (s : Stage) (t : List ℕ) (i : ℕ) → length t ≤ i → leadOn coefficientWalk s (drop i t) ≡ 0
+unfolding leadOn
+leads-past s t i h = rw (drop-of-length-le t h)
+
+-- a minus alone, by the text's length
+pub minus-one : (t : List ℕ) → length t ≡ 1 → loneMinus t ≡ eqb (getD t 0 0) (char "-")
+unfolding loneMinus
+minus-one [] h = absurd (omega arith)
+minus-one (a ∷ []) h = refl
+minus-one (a ∷ b ∷ t) h = absurd (omega arith)
+
+pub minus-other : (t : List ℕ) → (length t ≡ 1 → ⊥) → loneMinus t ≡ false
+unfolding loneMinus
+minus-other [] h = refl
+minus-other (a ∷ []) h = absurd (h refl)
+minus-other (a ∷ b ∷ t) h = refl

@@ -1,4 +1,6 @@
 // The text of a coefficient: how far its characters are one, and the numbers that they write.
+pub mod wrong;
+
 ghost use Prim.Native.Nat.{_<_, _^_};
 ghost use mathlib.Core.Path.{_≡_};
 ghost use Rattle.notation.specs.Stages.{onDigit, inDigits, stageAfter, isCoefficient};
