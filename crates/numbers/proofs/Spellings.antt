@@ -1,27 +1,20 @@
 -- Laws of the walk over a text: how far it is the beginning of a number.
-use mathlib.Core.Path.{_≡_, refl, ap, _∙_}
-use mathlib.Core.List.{List, [], _∷_, _++_}
+use mathlib.Core.Path.{_≡_, refl}
+use mathlib.Core.List.{List, [], _∷_}
 use mathlib.Core.Bool.{true, false}
-use mathlib.Core.Option.{some, none}
+use mathlib.Core.Option.{some}
 use Prim.Native.Nat.{ℕ, _+_, _<_}
 use lib.IntN.{ℤ, pos, negsuc, negℤ}
 use lib.ListN.{length, getD, drop}
 use Rattle.laws.proofs.Lists.{split}
 use Rattle.laws.specs.Text.{ascii}
 use Rattle.numbers.specs.Number.{Spelling, start, minus, leadingZero, minusZero, hexMark, digits, stuck, digitOf, digitOn, after, spelt, meaning}
-use Rattle.numbers.specs.Number.{numberOf}
 
 -- no character leads on from where no number can go on
 pub stuck-stays : (t : List ℕ) → spelt stuck t ≡ stuck
 unfolding spelt after
 stuck-stays [] = refl
 stuck-stays (c ∷ t) = stuck-stays t
-
--- a text in two parts is walked part by part
-pub spelt-append : (s : Spelling) (a b : List ℕ) → spelt s (a ++ b) ≡ spelt (spelt s a) b
-unfolding spelt
-spelt-append s [] b = refl
-spelt-append s (c ∷ a) b = spelt-append (after s c) a b
 
 -- what is left of a text at i is walked by its first character, and then by what is left at i + 1
 pub spelt-next : (s : Spelling) (t : List ℕ) (i : ℕ) → i < length t → spelt s (drop i t) ≡ spelt (after s (getD t i 0)) (drop (i + 1) t)
@@ -45,21 +38,3 @@ goes-on hexMark h = record { text = ascii "1"; value = pos 1; number = refl }
 goes-on (digits base false value) h = record { text = []; value = pos value; number = refl }
 goes-on (digits base true value) h = record { text = []; value = negℤ (pos value); number = refl }
 goes-on stuck h = absurd (h refl)
-
--- what to write after a text to make it a number, and that number
-pub record Beginning (a : List ℕ) : Type 0 where
-  pub text : List ℕ
-  pub value : ℤ
-  pub number : numberOf (a ++ text) ≡ some value
-
--- a text that doesn't get stuck is the beginning of a number
-pub begins : (a : List ℕ) → (spelt start a ≡ stuck → ⊥) → Beginning a
-unfolding numberOf
-begins a h =
-    let g = goes-on (spelt start a) h in
-    record { text = g .text; value = g .value; number = ap meaning (spelt-append start a (g .text)) ∙ g .number }
-
--- a text that gets stuck is the beginning of none
-pub begins-none : (a b : List ℕ) → spelt start a ≡ stuck → numberOf (a ++ b) ≡ none
-unfolding numberOf meaning
-begins-none a b e = rw (spelt-append start a b, e, stuck-stays b)
