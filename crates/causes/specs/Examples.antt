@@ -5,6 +5,7 @@ use mathlib.Core.Path.{_≡_, refl}
 use mathlib.Core.Bool.{Bool, true, false}
 use mathlib.Core.List.{List, [], _∷_, _++_, map}
 use Rattle.laws.specs.Text.{ascii}
+use Rattle.numbers.specs.Positions.{noDigits}
 use Rattle.numbers.specs.Number.{digitOf, digitOn, after, spelt, meaning, numberOf}
 use Rattle.lines.specs.Columns.{tab, columnsFrom, columnsOf, printable, allowed, foreignIn}
 use Rattle.lines.specs.Lines.{lineFeed, onFirst, lead, linesOf}
@@ -60,7 +61,7 @@ pub record FromBytes : Type 0 where
 pub fromBytes : FromBytes
 unfolding
     digitOf digitOn after spelt meaning numberOf columnsFrom columnsOf onFirst lead linesOf nameOf curveNameOf sameBytes
-    caf cap schema printable allowed foreignIn isIn listed numberReason kindReason columnReason firstReason shape
+    caf cap schema printable allowed foreignIn isIn listed numberReason noDigits kindReason columnReason firstReason shape
     naturalFrom naturalOr integerFrom integerOr letterOf formatOf offEndsOf column cafRow capRow isReal cafContradiction contradiction orContradiction formed
     keyWords sameKey factsOf cafFacts capFacts readingOf entriesOf entriesFrom allRows twin holds belongs rivals namesAt counts
     shared sound tally countCell follows next leads circle ofKind asked nameCell judge within verdict speaksOf causes

@@ -53,12 +53,13 @@ valued written.TooWide = TooWide
 unfoldable pub coefficientOf : List ℕ → Coefficient
 coefficientOf text = valued (parsedOf text)
 
--- 02, P1: "other text is reason 6 … else reason 7"; 01: "5 too wide". 0 where it is good
-unfoldable pub coefficientReason : Coefficient → ℕ
-coefficientReason (Double x) = 0
-coefficientReason NotCoefficient = 6
-coefficientReason PowerOutOfRange = 7
-coefficientReason TooWide = 5
+-- 02, P1: "else reason 7"; 02, P2: '6 becomes "no digits", for "-" …, 13 "a wrong digit", for any other bad number'; 01: "5 too wide".
+-- 0 where it is good. bare: the text is a minus alone
+unfoldable pub coefficientReason : (bare : Bool) → Coefficient → ℕ
+coefficientReason bare (Double x) = 0
+coefficientReason bare NotCoefficient = cond bare 6 13
+coefficientReason bare PowerOutOfRange = 7
+coefficientReason bare TooWide = 5
 
 -- a double by its bits
 abbrev bits : ℕ → Coefficient
@@ -114,7 +115,7 @@ pub record BadTexts : Type 0 where
   pub zero-too : coefficientOf (ascii "0e23") ≡ PowerOutOfRange
   pub far : coefficientOf (ascii "1e999999999999") ≡ PowerOutOfRange
   pub wide : coefficientOf (ascii "0.1000000000000") ≡ TooWide
-  pub reasons : (coefficientReason NotCoefficient ≡ 6) × (coefficientReason PowerOutOfRange ≡ 7)
+  pub reasons : (coefficientReason true NotCoefficient ≡ 6) × (coefficientReason false NotCoefficient ≡ 13)
 
 pub bad-texts : BadTexts
 unfolding coefficientReason coefficientOf valued doubleOf scaled

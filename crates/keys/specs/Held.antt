@@ -5,6 +5,7 @@ use mathlib.Core.List.{List, [], _∷_, _++_}
 use Prim.Native.Nat.{ℕ}
 use lib.ListN.{drop}
 use Rattle.laws.specs.Text.{ascii}
+use Rattle.numbers.specs.Positions.{noDigits}
 use Rattle.numbers.specs.Number.{numberOf, meaning, spelt, after, digitOn, digitOf}
 use Rattle.lines.specs.Lines.{Line, lineFrom, nextLine}
 use Rattle.lines.specs.Names.{curveNameOf}
@@ -95,5 +96,5 @@ pub examples : Examples
 unfolding rowKeysOf keysOf slotOf namedOf countOf marksOf symbolOf curveSymbol valueSymbol digitsNumber numberFrom integerWord
     codeOf codeFrom sameManner manners weight
     readingOf factsOf capFacts capRow curveNameOf integerOr integerFrom formed orContradiction contradiction shape schema cap foreignIn allowed printable
-    column columnsOf columnsFrom firstReason columnReason kindReason numberReason numberOf meaning spelt after digitOn digitOf
+    column columnsOf columnsFrom firstReason columnReason kindReason numberReason noDigits numberOf meaning spelt after digitOn digitOf
 examples = record { point = refl; unended = refl }

@@ -1,3 +1,4 @@
 pub mod Meaning
 pub mod ReasonLaws
 pub mod ShapeLaws
+pub mod PositionLaws

@@ -13,6 +13,7 @@ use lib.Signed.{leZ}
 use borrow.Author.Tests.{eq-eqb, eqb-true, eqb-false, le-ltb, ltb-false, not-false}
 use Rattle.laws.proofs.Cases.{bool-cases, false≢true, and-left, and-right}
 use Rattle.numbers.specs.Number.{numberOf}
+use Rattle.numbers.specs.Positions.{noDigits}
 use Rattle.lines.specs.Lines.{Line}
 use Rattle.lines.specs.Columns.{columnsOf, columnAt, foreignIn}
 use Rattle.schemas.specs.Schema.{aNumber, aLetter, Column, text}
@@ -143,10 +144,11 @@ pub record InRange (lowest highest : ℤ) (n : Option ℤ) : Type 0 where
   pub low : leZ lowest value ≡ true
   pub high : leZ value highest ≡ true
 
-number-inside : (lowest highest : ℤ) (n : Option ℤ) → numberReason lowest highest n ≡ 0 → InRange lowest highest n
+number-inside : (lowest highest : ℤ) (bare : Bool) (n : Option ℤ) → numberReason lowest highest bare n ≡ 0 → InRange lowest highest n
 unfolding numberReason
-number-inside lowest highest none e = absurd (omega arith)
-number-inside lowest highest (some v) e =
+number-inside lowest highest true none e = absurd (omega arith)
+number-inside lowest highest false none e = absurd (omega arith)
+number-inside lowest highest bare (some v) e =
     bool-cases (leZ lowest v && leZ v highest)
     (λ t. record { value = v; is = refl; low = and-left (leZ lowest v) (leZ v highest) t; high = and-right (leZ lowest v) (leZ v highest) t })
     (λ f. let z : _≡_ {A = ℕ} 7 0 = rw f at e in absurd (omega arith))
@@ -154,7 +156,7 @@ number-inside lowest highest (some v) e =
 -- a text of the kind of numbers is a number in the range
 pub number-fine : (lowest highest : ℤ) (t : List ℕ) → kindReason (aNumber lowest highest) t ≡ 0 → InRange lowest highest (numberOf t)
 unfolding kindReason
-number-fine lowest highest t e = number-inside lowest highest (numberOf t) e
+number-fine lowest highest t e = number-inside lowest highest (noDigits t) (numberOf t) e
 
 -- one byte, which is one of the letters
 pub record OneOf (letters t : List ℕ) : Type 0 where
@@ -174,4 +176,4 @@ unfolding kindReason
 letter-fine letters t e =
     bool-cases (listed letters t)
     (λ l. one-of letters t l)
-    (λ f. let z : _≡_ {A = ℕ} 6 0 = rw f at e in absurd (omega arith))
+    (λ f. let z : _≡_ {A = ℕ} 14 0 = rw f at e in absurd (omega arith))

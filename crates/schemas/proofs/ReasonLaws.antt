@@ -1,24 +1,19 @@
 -- The reasons of a column, case by case as the code tells them apart.
 use mathlib.Core.Path.{_≡_, refl, sym}
 use mathlib.Core.List.{List, [], _∷_}
-use mathlib.Core.Bool.{true, false, cond, _&&_}
+use mathlib.Core.Bool.{Bool, true, false, cond}
 use mathlib.Core.Option.{Option, some, none}
 use Prim.Native.Nat.{ℕ, _+_, _-_, _^_, _≤_, _<_}
 use native.Mathlib.Numerals.{add-one}
 use native.Mathlib.Omega.{arith}
-use lib.Dec.{ltb, lit≤}
+use lib.Dec.{ltb}
 use lib.ListN.{length, getD, take, drop-of-length-le, List·getD-eq-default}
 use lib.Seq.{slice, slice-cons, length-take-le}
 use borrow.Author.Tests.{eq-eqb, ne-eqb}
 use lib.IntN.{ℤ, natAbs}
 use lib.Signed.{leZ}
-use Rattle.laws.proofs.Cases.{cond-cases}
-use Rattle.numbers.specs.Number.{numberOf}
 use Rattle.numbers.proofs.Answers.{Large, large-outside}
-use Rattle.coefficients.specs.Coefficient.{coefficientOf, coefficientReason}
-use Rattle.coefficients.specs.declared.Coefficient.{Coefficient}
-use Rattle.coefficients.specs.declared.Coefficient.the-variants.{Double, NotCoefficient, PowerOutOfRange, TooWide}
-use Rattle.schemas.specs.Schema.{ColumnKind, anyText, aNumber, aLetter, aCoefficient, Column}
+use Rattle.schemas.specs.Schema.{Column}
 use Rattle.schemas.specs.Reasons.{isIn, listed, numberReason, kindReason, columnReason}
 use Rattle.schemas.specs.Constants.{letterLists, lettersAt}
 
@@ -70,50 +65,28 @@ unfolding columnReason
 full-reason column [] h = absurd (h refl)
 full-reason column (b ∷ bs) h = refl
 
--- no reason of a column is above 7
-number-small : (lowest highest : ℤ) (n : Option ℤ) → numberReason lowest highest n ≤ 7
-unfolding numberReason
-number-small lowest highest none = lit≤ tt
-number-small lowest highest (some v) = cond-cases (λ (x : ℕ). x ≤ 7) (leZ lowest v && leZ v highest) (λ _. lit≤ tt) (λ _. lit≤ tt)
-
-coefficient-small : (c : Coefficient) → coefficientReason c ≤ 7
-unfolding coefficientReason
-coefficient-small (Double x) = lit≤ tt
-coefficient-small NotCoefficient = lit≤ tt
-coefficient-small PowerOutOfRange = lit≤ tt
-coefficient-small TooWide = lit≤ tt
-
-kind-small : (k : ColumnKind) (text : List ℕ) → kindReason k text ≤ 7
-unfolding kindReason
-kind-small anyText text = lit≤ tt
-kind-small (aNumber lowest highest) text = number-small lowest highest (numberOf text)
-kind-small (aLetter letters) text = cond-cases (λ (x : ℕ). x ≤ 7) (listed letters text) (λ _. lit≤ tt) (λ _. lit≤ tt)
-kind-small aCoefficient text = coefficient-small (coefficientOf text)
-
-pub reason-small : (column : Column) (text : List ℕ) → columnReason column text ≤ 7
-unfolding columnReason
-reason-small column [] = cond-cases (λ (x : ℕ). x ≤ 7) (column .mandatory) (λ _. lit≤ tt) (λ _. lit≤ tt)
-reason-small column (b ∷ bs) =
-    cond-cases (λ (x : ℕ). x ≤ 7) (ltb (column .width) (length (b ∷ bs))) (λ _. lit≤ tt) (λ _. kind-small (column .kind) (b ∷ bs))
-
 -- the reason of a number by the tests of its range
-module _ (lowest highest : ℤ) {n : Option ℤ} where
-  pub in-range : {v : ℤ} → n ≡ some v → leZ lowest v ≡ true → leZ v highest ≡ true → 0 ≡ numberReason lowest highest n
+module _ (lowest highest : ℤ) (bare : Bool) {n : Option ℤ} where
+  pub in-range : {v : ℤ} → n ≡ some v → leZ lowest v ≡ true → leZ v highest ≡ true → 0 ≡ numberReason lowest highest bare n
   unfolding numberReason
   in-range e p q = rw (e, p, q)
 
-  pub too-high : {v : ℤ} → n ≡ some v → leZ lowest v ≡ true → leZ v highest ≡ false → 7 ≡ numberReason lowest highest n
+  pub too-high : {v : ℤ} → n ≡ some v → leZ lowest v ≡ true → leZ v highest ≡ false → 7 ≡ numberReason lowest highest bare n
   unfolding numberReason
   too-high e p q = rw (e, p, q)
 
-  pub too-low : {v : ℤ} → n ≡ some v → leZ lowest v ≡ false → 7 ≡ numberReason lowest highest n
+  pub too-low : {v : ℤ} → n ≡ some v → leZ lowest v ≡ false → 7 ≡ numberReason lowest highest bare n
   unfolding numberReason
   too-low e p = rw (e, p)
 
-  pub no-number : n ≡ none → 6 ≡ numberReason lowest highest n
+  pub without-digits : n ≡ none → bare ≡ true → 6 ≡ numberReason lowest highest bare n
   unfolding numberReason
-  no-number e = rw e
+  without-digits e b = rw (e, b)
 
-  pub too-large : natAbs lowest < 2 ^ 60 → natAbs highest < 2 ^ 60 → Large n → 7 ≡ numberReason lowest highest n
+  pub wrong-digit : n ≡ none → bare ≡ false → 13 ≡ numberReason lowest highest bare n
+  unfolding numberReason
+  wrong-digit e b = rw (e, b)
+
+  pub too-large : natAbs lowest < 2 ^ 60 → natAbs highest < 2 ^ 60 → Large n → 7 ≡ numberReason lowest highest bare n
   unfolding numberReason
   too-large p q w = rw (w .number, large-outside lowest (w .value) highest p q (w .large))

@@ -30,7 +30,7 @@ schema-length (w ∷ ws) [] ks p q = absurd (omega arith)
 schema-length (w ∷ ws) (m ∷ ms) [] p q = absurd (omega arith)
 schema-length (w ∷ ws) (m ∷ ms) (k ∷ ks) p q = ap suc (schema-length ws ms ks (omega arith) (omega arith))
 
-schema-at : (ws ms ks : List ℕ) → length ms ≡ length ws → length ks ≡ length ws → (i : ℕ) → i < length ws
+pub schema-at : (ws ms ks : List ℕ) → length ms ≡ length ws → length ks ≡ length ws → (i : ℕ) → i < length ws
     → getD (schemaFrom ws ms ks) i (text 0) ≡ columnFrom (getD ws i 0) (getD ms i 0) (getD ks i 0)
 unfolding schemaFrom
 schema-at [] ms ks p q i h = absurd (omega arith)

@@ -7,6 +7,7 @@ use lib.Dec.{eqb, ltb}
 use lib.ListN.{length, getD}
 use lib.IntN.{ℤ, pos, negℤ}
 use Rattle.laws.specs.Text.{ascii}
+use Rattle.schemas.specs.declared.coded.ColumnCode.{ColumnCode}
 use Rattle.schemas.specs.Schema.{ColumnKind, anyText, aNumber, aLetter, aCoefficient, Column}
 
 -- the ranges that 01 prints, by the number of their kind; kind 0 is any text
@@ -46,6 +47,10 @@ kindAt k =
 -- a column by its width, its mark, 1 where it is mandatory, and the number of its kind
 abbrev pub columnFrom : ℕ → ℕ → ℕ → Column
 columnFrom width mark kind = record { width = width; mandatory = eqb mark 1; kind = kindAt kind }
+
+-- the same by what the code tells of a column
+abbrev pub coded : ColumnCode → Column
+coded c = columnFrom (c .width) (c .mark) (c .kind)
 
 unfoldable pub schemaFrom : List ℕ → List ℕ → List ℕ → List Column
 schemaFrom [] ms ks = []

@@ -1,4 +1,4 @@
--- Reasons 1 to 7 of a row's verdict.
+-- Reasons 1 to 7, 13 and 14 of a row's verdict.
 use Prim.Native.Nat.{ℕ, suc, _+_, _*_}
 use mathlib.Core.Path.{_≡_, refl}
 use mathlib.Core.List.{List, [], _∷_}
@@ -10,6 +10,8 @@ use lib.IntN.{ℤ}
 use lib.Signed.{leZ}
 use Rattle.laws.specs.Lists.{any}
 use Rattle.numbers.specs.Number.{numberOf, meaning, spelt, after, digitOn, digitOf}
+use Rattle.numbers.specs.Positions.{noDigits}
+use Rattle.notation.specs.Positions.{loneMinus}
 use Rattle.coefficients.specs.Coefficient.{coefficientOf, coefficientReason}
 use Rattle.lines.specs.Lines.{Line}
 use Rattle.lines.specs.Columns.{columnsOf, columnsFrom, printable, allowed, foreignIn}
@@ -36,16 +38,17 @@ listed letters [] = false
 listed letters (b ∷ []) = isIn b letters
 listed letters (b ∷ c ∷ bs) = false
 
--- 01: "6 not a number or not a listed letter, 7 out of range"
-unfoldable pub numberReason : ℤ → ℤ → Option ℤ → ℕ
-numberReason lowest highest none = 6
-numberReason lowest highest (some v) = cond (leZ lowest v && leZ v highest) 0 7
+-- 01: "6 not a number or not a listed letter, 7 out of range"; 02, P2: '6 becomes "no digits" …, 13 "a wrong digit", for any other
+-- bad number, 14 "a letter not listed"'. bare: the text is one of those without digits
+unfoldable pub numberReason : ℤ → ℤ → (bare : Bool) → Option ℤ → ℕ
+numberReason lowest highest bare none = cond bare 6 13
+numberReason lowest highest bare (some v) = cond (leZ lowest v && leZ v highest) 0 7
 
 unfoldable pub kindReason : ColumnKind → List ℕ → ℕ
 kindReason anyText t = 0
-kindReason (aNumber lowest highest) t = numberReason lowest highest (numberOf t)
-kindReason (aLetter letters) t = cond (listed letters t) 0 6
-kindReason aCoefficient t = coefficientReason (coefficientOf t)
+kindReason (aNumber lowest highest) t = numberReason lowest highest (noDigits t) (numberOf t)
+kindReason (aLetter letters) t = cond (listed letters t) 0 14
+kindReason aCoefficient t = coefficientReason (loneMinus t) (coefficientOf t)
 
 -- 01: "4 mandatory and empty, 5 too wide"; an empty column that isn't mandatory passes
 unfoldable pub columnReason : Column → List ℕ → ℕ
@@ -86,8 +89,8 @@ shapeBy columns walk bytes at =
     (cond (not (eqb (walk .count) (length columns))) (reasonAt 3 0)
     (reasonFrom 0 columns at)))
 
--- a cap row: C1, TAB, 5, TAB, 08: "08 is reason 6", at column 3
-pub example : shape (schema Cap) (lineOf (67 ∷ 49 ∷ 9 ∷ 53 ∷ 9 ∷ 48 ∷ 56 ∷ []) true) ≡ reasonAt 6 3
-unfolding shape schema cap foreignIn allowed printable columnsOf columnsFrom firstReason columnReason kindReason numberReason numberOf meaning spelt after
-    digitOn digitOf
+-- a cap row: C1, TAB, 5, TAB, 08: 02, P2: "01's case 08 is now 13", at column 3
+pub example : shape (schema Cap) (lineOf (67 ∷ 49 ∷ 9 ∷ 53 ∷ 9 ∷ 48 ∷ 56 ∷ []) true) ≡ reasonAt 13 3
+unfolding shape schema cap foreignIn allowed printable columnsOf columnsFrom firstReason columnReason kindReason numberReason noDigits numberOf meaning
+    spelt after digitOn digitOf
 example = refl

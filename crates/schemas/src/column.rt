@@ -11,7 +11,7 @@ ghost use Rattle.schemas.specs.Constants.{kindAt, columnFrom};
 // and COEFFICIENT is the last.
 pub(crate) const TEXT: u8 = 0;
 
-const FIRST_LETTERS: u8 = 128;
+pub(crate) const FIRST_LETTERS: u8 = 128;
 
 // The reason of a text that is neither empty nor too wide.
 fn kind_reason(text: &[u8], kind: u8) -> u8

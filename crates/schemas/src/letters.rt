@@ -62,16 +62,16 @@ fn is_letter(kind: u8, b: u8) -> bool
     }
 }
 
-// Why a column of one letter is refused: 6, or 0.
+// Why a column of one letter is refused: 14, or 0.
 pub(crate) fn letter_reason(text: &[u8], kind: u8) -> u8
     requires { ⌜ 128 ≤ kind ⌝ }
-    ensures { λ r. ⌜ r ≡ cond (listed (lettersAt kind) (now (text .entry))) 0 6 ⌝ }
+    ensures { λ r. ⌜ r ≡ cond (listed (lettersAt kind) (now (text .entry))) 0 14 ⌝ }
 {
     if text.len() == 1 {
         if is_letter(kind, text[0]) {
             return 0;
         }
-        return 6;
+        return 14;
     }
-    6
+    14
 }

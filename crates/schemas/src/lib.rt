@@ -1,8 +1,10 @@
 // The columns of the tables, and reasons 1 to 7 of a row's verdict.
 pub mod by_table;
+pub mod coded;
 mod coefficient;
 mod column;
 mod letters;
+pub mod positions;
 mod ranges;
 mod tables;
 

@@ -1,11 +1,13 @@
 // Columns of a number in a range.
 use numbers::Number;
 use numbers::read_number;
+use numbers::wrong::no_digits;
 ghost use mathlib.Core.Path.{_≡_};
 ghost use Prim.Native.Nat.{_≤_, _<_, _^_};
 ghost use lib.IntN.{pos, natAbs};
 ghost use lib.ListN.{getD};
 ghost use Rattle.numbers.specs.Number.{numberOf};
+ghost use Rattle.numbers.specs.Positions.{noDigits};
 ghost use Rattle.schemas.specs.Reasons.{numberReason};
 ghost use Rattle.schemas.specs.Constants.{lowests, highests};
 
@@ -46,10 +48,10 @@ pub(crate) const FROM_1_TO_99: u8 = 17;
 
 pub(crate) const FROM_1_TO_16: u8 = 18;
 
-// Why a column of a number from `lowest` to `highest` is refused: 6, 7, or 0.
+// Why a column of a number from `lowest` to `highest` is refused: 6, 13, 7, or 0.
 fn range_reason(text: &[u8], lowest: i64, highest: i64) -> u8
     requires { ⌜ (natAbs lowest < 2 ^ 60) × (natAbs highest < 2 ^ 60) ⌝ }
-    ensures { λ r. ⌜ r ≡ numberReason lowest highest (numberOf (now (text .entry))) ⌝ }
+    ensures { λ r. ⌜ r ≡ numberReason lowest highest (noDigits (now (text .entry))) (numberOf (now (text .entry))) ⌝ }
 {
     match read_number(text) {
         Number::Value(v) => {
@@ -61,7 +63,12 @@ fn range_reason(text: &[u8], lowest: i64, highest: i64) -> u8
             }
             7
         }
-        Number::NotNumber => 6,
+        Number::NotNumber => {
+            if no_digits(text) {
+                return 6;
+            }
+            13
+        }
         Number::Beyond => 7,
     }
 }
@@ -70,7 +77,8 @@ fn range_reason(text: &[u8], lowest: i64, highest: i64) -> u8
 // an array of them would be made anew for each number.
 pub(crate) fn number_reason(text: &[u8], kind: u8) -> u8
     requires { ⌜ 1 ≤ kind ⌝ }
-    ensures { λ r. ⌜ r ≡ numberReason (getD lowests kind (pos 0)) (getD highests kind (pos 0)) (numberOf (now (text .entry))) ⌝ }
+    ensures { λ r. ⌜ r ≡ numberReason (getD lowests kind (pos 0)) (getD highests kind (pos 0)) (noDigits (now (text .entry)))
+        (numberOf (now (text .entry))) ⌝ }
 {
     match kind {
         TO_255 => range_reason(text, 0, 255),

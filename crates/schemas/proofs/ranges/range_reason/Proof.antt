@@ -9,7 +9,7 @@ use mir.Val.{SFits, toZ, ofZ}
 use mir.Facts.{toZ-ofZ}
 use Rattle.numbers.specs.Number.{numberOf}
 use Rattle.numbers.proofs.Answers.{value-told, not-number, beyond-large}
-use Rattle.schemas.proofs.ReasonLaws.{in-range, too-high, too-low, no-number, too-large}
+use Rattle.schemas.proofs.ReasonLaws.{in-range, too-high, too-low, without-digits, wrong-digit, too-large}
 use borrow.Author.Needs.{needs}
 use Rattle.schemas.proofs.ranges.range_reason.Statement.{statement}
 use Rattle.schemas.proofs.ranges.range_reason.Tie as tie
@@ -44,26 +44,36 @@ enum-known-v : tie.Need-enum-known-v
 enum-known-v c = search needs
 
 returns : tie.Need-returns
-returns c = let k = c .before .before in in-range _ _ (is k) (low k (c .before .if1 .taken)) (high k (c .if2 .taken))
+returns c = let k = c .before .before in in-range _ _ _ (is k) (low k (c .before .if1 .taken)) (high k (c .if2 .taken))
 
 returns-2 : tie.Need-returns-2
-returns-2 c = let k = c .before .before in too-high _ _ (is k) (low k (c .before .if1 .taken)) (high k (c .if2 .left))
+returns-2 c = let k = c .before .before in too-high _ _ _ (is k) (low k (c .before .if1 .taken)) (high k (c .if2 .left))
 
 enum-told : tie.Need-enum-told
 enum-told c = search needs
 
+no-digits-requires : tie.Need-no-digits-requires
+no-digits-requires c κs = search needs
+
+returns-3 : tie.Need-returns-3
+returns-3 c = let t = c .before .before in
+    without-digits _ _ _ (not-number _ (sym (t .before .before .read-number .ensures) ∙ t .enum-told .given .1))
+    (sym (c .before .no-digits .ensures) ∙ c .if3 .taken)
+
 enum-told-2 : tie.Need-enum-told-2
 enum-told-2 c = search needs
 
-returns-3 : tie.Need-returns-3
-returns-3 c = let k = c .before in too-low _ _ (is k) (low k (c .if1 .left))
-
 returns-4 : tie.Need-returns-4
-returns-4 c = no-number _ _ (not-number _ (sym (c .before .before .read-number .ensures) ∙ c .enum-told .given .1))
+returns-4 c = let k = c .before in too-low _ _ _ (is k) (low k (c .if1 .left))
 
 returns-5 : tie.Need-returns-5
-returns-5 c = let s = c .before .before .before .before in
-    too-large _ _ (s .pre .0) (s .pre .1) (beyond-large _ (sym (c .before .before .read-number .ensures) ∙ c .enum-told2 .given .1))
+returns-5 c = let t = c .before .before in
+    wrong-digit _ _ _ (not-number _ (sym (t .before .before .read-number .ensures) ∙ t .enum-told .given .1))
+    (sym (c .before .no-digits .ensures) ∙ c .if3 .left)
+
+returns-6 : tie.Need-returns-6
+returns-6 c = let s = c .before .before .before .before in
+    too-large _ _ _ (s .pre .0) (s .pre .1) (beyond-large _ (sym (c .before .before .read-number .ensures) ∙ c .enum-told2 .given .1))
 
 pub range-reason-spec : {M : Type 1} → statement M
 range-reason-spec =
@@ -74,7 +84,9 @@ range-reason-spec =
     returns
     returns-2
     enum-told
-    enum-told-2
+    no-digits-requires
     returns-3
+    enum-told-2
     returns-4
-    returns-5)
+    returns-5
+    returns-6)
