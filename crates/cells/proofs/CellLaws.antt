@@ -13,9 +13,11 @@ use Rattle.lines.specs.Lines.{linesOf}
 use Rattle.verdicts.specs.Answer.{refused, taken, tooLong, tooManyRows, zeros, importOf, mostRows}
 use Rattle.verdicts.specs.Entries.{allRows, tableCount}
 use Rattle.verdicts.specs.Verdicts.{verdicts}
-use Rattle.verdicts.specs.Places.{textAt, IsRow, rowsBefore, place, verdictAt, Takes, imported}
+use Rattle.verdicts.specs.Places.{textAt, IsRow, rowsBefore, place, verdictAt}
+use Rattle.verdicts.specs.Positions.{positionAt}
+use Rattle.verdicts.specs.Imports.{Lent, roomOf, Takes, imported}
 use Rattle.verdicts.proofs.EntryLaws.{rows-before-next}
-use Rattle.verdicts.proofs.CellLaws.{imported-at}
+use Rattle.verdicts.proofs.CellLaws.{imported-at, imported-position}
 use Rattle.tables.specs.Sizes.{fit, refusedBy, sizesOf}
 use Rattle.tables.proofs.SizeLaws.{few}
 use Rattle.cells.specs.declared.Cell.the-variants.{At, NoCell}
@@ -150,11 +152,11 @@ module _ (texts : List (List ℕ)) (n r : ℕ) where
 
 -- After an import
 
-module _ (texts : List (List ℕ)) (cells : List ℕ) (takes : Takes texts cells) where
+module _ (texts : List (List ℕ)) (lent : Lent) (takes : Takes texts lent) where
   taken-fits : haveCells texts ≡ true
   unfolding haveCells sizesOf importOf
   taken-fits =
-      go (eqb (tooLong texts) 0) (eqb (tooManyRows texts) 0) (ltb (length cells) (length (allRows texts))) (tooManyRows texts) (tooLong texts)
+      go (eqb (tooLong texts) 0) (eqb (tooManyRows texts) 0) (ltb (roomOf lent) (length (allRows texts))) (tooManyRows texts) (tooLong texts)
       (length (allRows texts)) (zeros (verdicts texts)) (takes .rows) (takes .good) (takes .answer)
     where
       go : (a b c : Bool) (p q k z n g : ℕ) → cond a (cond b (cond c (refused 3 0) (taken k z)) (refused 2 p)) (refused 1 q) ≡ taken n g
@@ -170,5 +172,9 @@ module _ (texts : List (List ℕ)) (cells : List ℕ) (takes : Takes texts cells
     has-cell = on (At (place texts (n - 1) r)) NoCell (and-both taken-fits (row-is texts n r h is))
 
     -- and its verdict stands in it
-    pub says-verdict : verdictIn (imported texts cells) (cellOf texts n r) ≡ verdictAt texts (n - 1) r
-    says-verdict = ap (verdictIn (imported texts cells)) has-cell ∙ imported-at texts cells takes (n - 1) r is
+    pub says-verdict : verdictIn (imported texts lent .cells) (cellOf texts n r) ≡ verdictAt texts (n - 1) r
+    says-verdict = ap (verdictIn (imported texts lent .cells)) has-cell ∙ imported-at texts lent takes (n - 1) r is
+
+    -- and at the same place its position
+    pub says-position : verdictIn (imported texts lent .positions) (cellOf texts n r) ≡ positionAt texts (n - 1) r
+    says-position = ap (verdictIn (imported texts lent .positions)) has-cell ∙ imported-position texts lent takes (n - 1) r is

@@ -1,4 +1,4 @@
--- The cells that import writes: how many, which is whose, and how many are 0.
+-- The cells and positions that import writes: how many, which is whose, and how many cells are 0.
 use mathlib.Core.Path.{_≡_, refl, ap, _∙_}
 use mathlib.Core.Bool.{Bool, true, false, cond}
 use mathlib.Core.List.{List, _++_}
@@ -11,8 +11,10 @@ use Rattle.laws.proofs.Lists.{map-at}
 use Rattle.laws.proofs.Tests.{keep-length, keep-map}
 use Rattle.verdicts.specs.Entries.{Entry, allRows}
 use Rattle.verdicts.specs.Verdicts.{verdict, verdicts}
-use Rattle.verdicts.specs.Answer.{refused, taken, tooLong, tooManyRows, zeros, importOf, cellsAfter}
-use Rattle.verdicts.specs.Places.{IsRow, entryAt, verdictAt, place, Takes, imported}
+use Rattle.verdicts.specs.Places.{IsRow, entryAt, verdictAt, place}
+use Rattle.verdicts.specs.Positions.{positionAt, positions}
+use Rattle.verdicts.specs.Answer.{refused, taken, tooLong, tooManyRows, zeros, importOf, cellsAfter, positionsAfter}
+use Rattle.verdicts.specs.Imports.{Lent, roomOf, Takes, imported}
 use Rattle.verdicts.proofs.EntryLaws.{place-there, row-at}
 
 -- one cell per row
@@ -26,6 +28,17 @@ unfolding verdicts verdictAt
 cell-at texts u r is =
     map-at (verdict (allRows texts)) (allRows texts) (place texts u r) (entryAt texts u r) 0 (place-there texts u r is)
     ∙ ap (verdict (allRows texts)) (row-at texts u r is (entryAt texts u r))
+
+-- and one position
+pub length-positions : (texts : List (List ℕ)) → length (positions texts) ≡ length (allRows texts)
+unfolding positions
+length-positions texts = length-map (allRows texts) (λ e. positionAt texts (e .table) (e .row))
+
+pub position-at : (texts : List (List ℕ)) (u r : ℕ) → IsRow texts u r → getD (positions texts) (place texts u r) 0 ≡ positionAt texts u r
+unfolding positions entryAt
+position-at texts u r is =
+    let f : Entry → ℕ = λ e. positionAt texts (e .table) (e .row) in
+    map-at f (allRows texts) (place texts u r) (entryAt texts u r) 0 (place-there texts u r is) ∙ ap f (row-at texts u r is (entryAt texts u r))
 
 -- no more zeros than cells
 pub zeros-fit : (cells : List ℕ) → zeros cells ≤ length cells
@@ -65,15 +78,28 @@ taken-counts texts room rows good e =
     in
     record { fits = ltb-false _ _ (w .0); all = w .1; zero = w .2 }
 
--- it writes the verdicts to the front of the cells
-pub imported-is : (texts : List (List ℕ)) (cells : List ℕ) → Takes texts cells → imported texts cells ≡ verdicts texts ++ drop (length (allRows texts)) cells
-unfolding cellsAfter
-imported-is texts cells t = rw (t .answer, taken-counts texts (length cells) (t .rows) (t .good) (t .answer) .all)
+-- it writes the verdicts to the front of the cells, and the positions to the front of theirs
+module _ (texts : List (List ℕ)) (lent : Lent) (t : Takes texts lent) where
+  all-rows : t .rows ≡ length (allRows texts)
+  all-rows = taken-counts texts (roomOf lent) (t .rows) (t .good) (t .answer) .all
 
--- so that the cell at a row's place is the row's verdict
-pub imported-at : (texts : List (List ℕ)) (cells : List ℕ) → Takes texts cells → (u r : ℕ) → IsRow texts u r
-    → getD (imported texts cells) (place texts u r) 0 ≡ verdictAt texts u r
-imported-at texts cells t u r is =
-    ap (λ (l : List ℕ). getD l (place texts u r) 0) (imported-is texts cells t)
-    ∙ List·getD-append (verdicts texts) (drop (length (allRows texts)) cells) 0 (place texts u r) (rw (length-cells texts) (place-there texts u r is))
-    ∙ cell-at texts u r is
+  pub imported-cells : imported texts lent .cells ≡ verdicts texts ++ drop (length (allRows texts)) (lent .cells)
+  unfolding cellsAfter
+  imported-cells = rw (t .answer, all-rows)
+
+  pub imported-positions : imported texts lent .positions ≡ positions texts ++ drop (length (allRows texts)) (lent .positions)
+  unfolding positionsAfter
+  imported-positions = rw (t .answer, all-rows)
+
+  module _ (u r : ℕ) (is : IsRow texts u r) where
+    -- what stands at a row's place in a list with one number for each row and more behind them
+    at-place : (xs ys : List ℕ) → length xs ≡ length (allRows texts) → getD (xs ++ ys) (place texts u r) 0 ≡ getD xs (place texts u r) 0
+    at-place xs ys e = List·getD-append xs ys 0 (place texts u r) (rw e (place-there texts u r is))
+
+    -- so that the cell at a row's place is the row's verdict
+    pub imported-at : getD (imported texts lent .cells) (place texts u r) 0 ≡ verdictAt texts u r
+    imported-at = rw imported-cells (at-place (verdicts texts) _ (length-cells texts) ∙ cell-at texts u r is)
+
+    -- and the position there the row's
+    pub imported-position : getD (imported texts lent .positions) (place texts u r) 0 ≡ positionAt texts u r
+    imported-position = rw imported-positions (at-place (positions texts) _ (length-positions texts) ∙ position-at texts u r is)

@@ -13,7 +13,7 @@ use Rattle.lines.proofs.LineLaws.{lines-around}
 use Rattle.schemas.specs.declared.Table.{Table}
 use Rattle.schemas.specs.declared.Table.the-variants.{Ocp}
 use Rattle.verdicts.specs.Entries.{Entry, entry, carried, entriesOf, entriesFrom, allRows, carriedAt}
-use Rattle.verdicts.specs.Places.{textAt, noLine, IsRow, entryAt, rowsBefore, place, Edit, lineNumber, edited}
+use Rattle.verdicts.specs.Places.{textAt, noLine, IsRow, lineAt, entryAt, rowsBefore, place, Edit, lineNumber, edited}
 use Rattle.verdicts.proofs.Isolation.{Like, none, like, here, like-self, like-append}
 
 module _ {Out In : Entry → Type 0} (ls ms : List Line) (l l′ : Line) where
@@ -117,14 +117,16 @@ module _ (texts : List (List ℕ)) (edit : Edit texts) where
   unfolding place
   place-kept u r = rw (before-same texts (edit .table) u put (rw (lines-old, lines-put) (simp length-append)))
 
-  -- a row that isn't the line, by whether it is of the line's table
+  -- the line of a row that isn't the one replaced, by whether it is of that table
   other-line : (u r : ℕ) → 0 < r → (u ≡ edit .table → r ≡ lineNumber edit → ⊥) → Dec (u ≡ edit .table)
-      → entryAt texts u r ≡ entryAt (edited texts edit) u r
-  unfolding entryAt
-  other-line u r h n (yes e) = rw (e, lines-old, lines-new) (ap (entry _ (edit .table) r)
-      (at-other (linesOf (edit .before)) _ _ _ noLine (r - 1) (λ q. n e (omega arith))))
+      → lineAt texts u r ≡ lineAt (edited texts edit) u r
+  other-line u r h n (yes e) = rw (e, lines-old, lines-new) (at-other (linesOf (edit .before)) _ _ _ noLine (r - 1) (λ q. n e (omega arith)))
   other-line u r h n (no ne) = rw (text-other u ne)
 
-  -- and says the same, unless it is the line
+  pub line-kept : (u r : ℕ) → IsRow texts u r → (u ≡ edit .table → r ≡ lineNumber edit → ⊥) → lineAt texts u r ≡ lineAt (edited texts edit) u r
+  line-kept u r is n = other-line u r (is .above) n (ℕ-discrete u (edit .table))
+
+  -- so the row says the same
   pub other-kept : (u r : ℕ) → IsRow texts u r → (u ≡ edit .table → r ≡ lineNumber edit → ⊥) → entryAt texts u r ≡ entryAt (edited texts edit) u r
-  other-kept u r is n = other-line u r (is .above) n (ℕ-discrete u (edit .table))
+  unfolding entryAt
+  other-kept u r is n = ap (entry (carriedAt u) u r) (line-kept u r is n)

@@ -1,5 +1,5 @@
--- What an import answers, and what it leaves in the cells.
-use Prim.Native.Nat.{ℕ, suc, _*_}
+-- What an import answers, and what it leaves in the cells and positions.
+use Prim.Native.Nat.{ℕ, suc, _*_, min}
 use mathlib.Core.Bool.{Bool, cond}
 use mathlib.Core.List.{List, [], _∷_, _++_}
 use lib.Dec.{eqb, ltb}
@@ -8,6 +8,7 @@ use Rattle.laws.specs.Lists.{keep}
 use Rattle.lines.specs.Lines.{linesOf}
 use Rattle.verdicts.specs.Entries.{tableCount, allRows}
 use Rattle.verdicts.specs.Verdicts.{verdicts}
+use Rattle.verdicts.specs.Positions.{positions}
 
 -- the specification's number of a refusal and its place; or the counts of rows and of good rows
 pub data Imported : Type 0 where
@@ -38,6 +39,11 @@ tooManyRows texts = firstTable (λ text. ltb mostRows (length (linesOf text))) 1
 unfoldable pub zeros : List ℕ → ℕ
 zeros cells = length (keep (λ cell. eqb cell 0) cells)
 
+-- 01: "verdict buffer shorter than all rows"; 02, P2: "a second lent buffer with as many cells …; a short one is
+-- refusal 3": there is room for as many rows as both have cells for
+abbrev pub roomIn : (lentCells lentPositions : List ℕ) → ℕ
+roomIn lentCells lentPositions = min (length lentCells) (length lentPositions)
+
 -- 01: "The least number decides"; "for 1 and 2 the first such table, 1 to 10"; "else 0".
 -- 02, P1: "cells and places count eleven tables"
 unfoldable pub importOf : List (List ℕ) → (room : ℕ) → Imported
@@ -52,3 +58,8 @@ importOf texts room =
 unfoldable pub cellsAfter : List (List ℕ) → List ℕ → Imported → List ℕ
 cellsAfter texts cells (refused number place) = cells
 cellsAfter texts cells (taken rows good) = verdicts texts ++ drop rows cells
+
+-- and one position per row
+unfoldable pub positionsAfter : List (List ℕ) → List ℕ → Imported → List ℕ
+positionsAfter texts lent (refused number place) = lent
+positionsAfter texts lent (taken rows good) = positions texts ++ drop rows lent

@@ -9,11 +9,17 @@ use Rattle.numbers.specs.Number.{digitOf, digitOn, after, spelt, meaning, numbe
 use Rattle.lines.specs.Columns.{tab, columnsFrom, columnsOf, printable, allowed, foreignIn}
 use Rattle.lines.specs.Lines.{lineFeed, onFirst, lead, linesOf}
 use Rattle.lines.specs.Names.{nameOf, curveNameOf, sameBytes}
+use Rattle.laws.specs.Walks.{leadOn, wrongAt}
+use Rattle.numbers.specs.Positions.{noDigits}
+use Rattle.numbers.specs.Positions as number
+use Rattle.notation.specs.Positions.{loneMinus}
+use Rattle.notation.specs.Positions as coefficient
 use Rattle.notation.specs.Stages.{onDigit, inDigits, stageAfter, stageFrom, isCoefficient}
 use Rattle.notation.specs.Scientific.{withDigit, withCharacter, scientificFrom, parsed, parsedOf}
 use Rattle.coefficients.specs.Coefficient.{scaled, doubleOf, valued, coefficientOf, coefficientReason}
 use Rattle.schemas.specs.Tables.{caf, cap, mcf, schema}
 use Rattle.schemas.specs.Reasons.{isIn, listed, numberReason, kindReason, columnReason, firstReason, shape}
+use Rattle.schemas.specs.Positions.{positionIn}
 use Rattle.rows.specs.Values.{naturalFrom, naturalOr, integerFrom, integerOr, letterOf, formatOf, offEndsOf}
 use Rattle.rows.specs.Records.{column, cafRow, capRow, mcfRow}
 use Rattle.formed.specs.Contradictions.{isReal, cafContradiction, contradiction}
@@ -25,6 +31,7 @@ use Rattle.verdicts.specs.Entries.{Entry, bad, fine, readingOf, entriesO
 use Rattle.verdicts.specs.Steps.{twin, holds, belongs, rivals, namesAt}
 use Rattle.verdicts.specs.Verdicts.{shared, sound, tally, countCell, follows, next, leads, circle}
 use Rattle.verdicts.specs.Verdicts.{ofKind, asked, nameCell, judge, within, verdict, verdicts}
+use Rattle.verdicts.specs.Positions.{positionBy, rowPosition, positionAt, positions}
 use Rattle.verdicts.specs.Answer.{taken, refused, firstTable, tooLong, tooManyRows, zeros, importOf}
 
 -- a row by its columns
@@ -58,7 +65,10 @@ pub record FromBytes : Type 0 where
   -- points of a polynomial: 11 at column 1; a polynomial of another name; a coefficient that is none
   pub pointsOfPolynomial : verdicts (curves [] twoCaps (oneMcf "C1" "0.5")) ≡ 2817 ∷ 2817 ∷ 0 ∷ []
   pub polynomial : verdicts (curves (oneCaf "2") twoCaps (oneMcf "C2" "1e22")) ≡ 0 ∷ 0 ∷ 0 ∷ 0 ∷ []
-  pub comma : verdicts (curves [] [] (oneMcf "C2" "0,5")) ≡ 1539 ∷ []
+  pub comma : verdicts (curves [] [] (oneMcf "C2" "0,5")) ≡ 3331 ∷ []
+  -- 02, P2: "01's case 08 is now 13 at position 2"; "otherwise 0"
+  pub octal : verdicts (curves (oneCaf "08") twoCaps (oneMcf "C2" "0,5")) ≡ 3335 ∷ 2817 ∷ 2817 ∷ 3331 ∷ []
+  pub wrongAtSecond : positions (curves (oneCaf "08") twoCaps (oneMcf "C2" "0,5")) ≡ 2 ∷ 0 ∷ 0 ∷ 2 ∷ []
   -- no room for three cells
   pub noRoom : importOf (curves (oneCaf "2") twoCaps []) 2 ≡ refused 3 0
 
@@ -66,7 +76,7 @@ pub fromBytes : FromBytes
 unfolding
     digitOf digitOn after spelt meaning numberOf columnsFrom columnsOf onFirst lead linesOf nameOf curveNameOf sameBytes
     caf cap mcf schema coefficientReason coefficientOf valued doubleOf scaled parsedOf parsed isCoefficient scientificFrom withCharacter withDigit
-    stageFrom stageAfter inDigits onDigit printable allowed foreignIn isIn listed numberReason kindReason columnReason firstReason shape
+    stageFrom stageAfter inDigits onDigit printable allowed foreignIn isIn listed numberReason noDigits loneMinus kindReason columnReason firstReason shape
     naturalFrom naturalOr integerFrom
     integerOr letterOf formatOf offEndsOf
     column cafRow capRow mcfRow isReal cafContradiction contradiction orContradiction formed keyWords sameKey factsOf cafFacts capFacts mcfFacts
@@ -74,6 +84,7 @@ unfolding
     entriesFrom allRows
     twin holds belongs rivals shared sound tally countCell follows next leads circle namesAt ofKind asked nameCell judge within verdict verdicts
     firstTable tooLong tooManyRows zeros importOf
+    positionBy rowPosition positionAt positions positionIn wrongAt leadOn number.isStuck coefficient.isStuck
 fromBytes =
     record {
       miscounted = refl;
@@ -83,6 +94,8 @@ fromBytes =
       pointsOfPolynomial = refl;
       polynomial = refl;
       comma = refl;
+      octal = refl;
+      wrongAtSecond = refl;
       noRoom = refl;
     }
 

@@ -4,6 +4,8 @@ pub mod Entries
 pub mod Steps
 pub mod Verdicts
 pub mod Good
-pub mod Answer
 pub mod Places
+pub mod Positions
+pub mod Answer
+pub mod Imports
 pub mod Figures

@@ -1,5 +1,4 @@
--- Rows by the number of their table and their own, their cells, and a line that is replaced:
--- the words in which demand 3 is claimed.
+-- Rows by the number of their table and their own, their places among the cells, and a line that is replaced.
 use Prim.Native.Nat.{ℕ, zero, suc, _+_, _-_, _≤_, _<_}
 use mathlib.Core.Path.{_≡_}
 use mathlib.Core.Bool.{true, false}
@@ -8,8 +7,7 @@ use lib.ListN.{length, getD, set}
 use Rattle.lines.specs.Lines.{Line, lineFeed, linesOf, free, whole}
 use Rattle.verdicts.specs.Entries.{Entry, tableCount, carriedAt, entry, allRows}
 use Rattle.verdicts.specs.Steps.{Reach}
-use Rattle.verdicts.specs.Verdicts.{verdict, verdicts}
-use Rattle.verdicts.specs.Answer.{taken, importOf, cellsAfter}
+use Rattle.verdicts.specs.Verdicts.{verdict}
 
 -- the bytes of table u, from 0
 abbrev pub textAt : List (List ℕ) → ℕ → List ℕ
@@ -25,9 +23,13 @@ pub record IsRow (texts : List (List ℕ)) (u r : ℕ) : Type 0 where
   pub above : 0 < r
   pub below : r ≤ length (linesOf (textAt texts u))
 
--- row r of table u, as it stands among all rows. What it is where there is no such table or row says nothing
+-- the line of row r of table u
+abbrev pub lineAt : List (List ℕ) → ℕ → ℕ → Line
+lineAt texts u r = getD (linesOf (textAt texts u)) (r - 1) noLine
+
+-- the row, as it stands among all rows. What it is where there is no such table or row says nothing
 unfoldable pub entryAt : List (List ℕ) → ℕ → ℕ → Entry
-entryAt texts u r = entry (carriedAt u) u r (getD (linesOf (textAt texts u)) (r - 1) noLine)
+entryAt texts u r = entry (carriedAt u) u r (lineAt texts u r)
 
 -- and its verdict
 unfoldable pub verdictAt : List (List ℕ) → ℕ → ℕ → ℕ
@@ -75,21 +77,3 @@ pub record Apart (texts : List (List ℕ)) (edit : Edit texts) (u r : ℕ) : Typ
   pub other : u ≡ edit .table → r ≡ lineNumber edit → ⊥
   pub notInOld : Reaches texts u r (edit .table) (lineNumber edit) → ⊥
   pub notInNew : Reaches (edited texts edit) u r (edit .table) (lineNumber edit) → ⊥
-
--- 01: "Import takes the tables that it doesn't refuse", with these cells lent
-pub record Takes (texts : List (List ℕ)) (cells : List ℕ) : Type 0 where
-  pub rows : ℕ
-  pub good : ℕ
-  pub answer : importOf texts (length cells) ≡ taken rows good
-
--- what import leaves in the cells that it is lent
-abbrev pub imported : List (List ℕ) → List ℕ → List ℕ
-imported texts cells = cellsAfter texts cells (importOf texts (length cells))
-
--- import writes a cell for row r of table u, of the tables here and of those there; it is the same cell,
--- and holds the same
-pub record SameCell (texts texts′ : List (List ℕ)) (cells cells′ : List ℕ) (u r : ℕ) : Type 0 where
-  pub written : place texts u r < length (verdicts texts)
-  pub written′ : place texts′ u r < length (verdicts texts′)
-  pub samePlace : place texts u r ≡ place texts′ u r
-  pub same : getD (imported texts cells) (place texts u r) 0 ≡ getD (imported texts′ cells′) (place texts′ u r) 0
