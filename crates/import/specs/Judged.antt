@@ -1,4 +1,4 @@
--- What an import answers by its own enum, and the cells after judging.
+-- What an import answers by its own enum, and the cells and positions after judging.
 use Prim.Native.Nat.{ℕ, _≤_, _<_}
 use mathlib.Core.Path.{_≡_}
 use mathlib.Core.Bool.{cond}
@@ -10,6 +10,7 @@ use Rattle.verdicts.specs.Answer as answer
 use Rattle.verdicts.specs.Entries.{allRows}
 use Rattle.verdicts.specs.Verdicts.{verdicts}
 use Rattle.judged.specs.Passes.{JudgedInto}
+use Rattle.positions.specs.Kept.{PositionsBy}
 use Rattle.import.specs.declared.Imported.{Imported}
 use Rattle.import.specs.declared.Imported.the-variants.{Done, TooLong, TooManyRows, TooFewCells}
 
@@ -25,14 +26,17 @@ saidImported (TooManyRows table) = answer.refused 2 (table .0)
 saidImported TooFewCells = answer.refused 3 0
 
 -- of rows that are kept
-pub record DoneBy (halves bytes before after : List ℕ) (n rows good : ℕ) : Type 0 where
+pub record DoneBy (texts : List (List ℕ)) (halves bytes before after before′ after′ : List ℕ) (n rows good : ℕ) : Type 0 where
   pub all : rows ≡ n
   pub enough : n ≤ length before
+  pub enough′ : n ≤ length before′
   pub judged : JudgedInto halves bytes before after n
+  pub placed : PositionsBy texts halves bytes before′ after′ n
   pub zeros : good ≡ answer.zeros (take n after)
 
-unfoldable pub AnswersBy : (halves bytes before after : List ℕ) → (n : ℕ) → Imported → Type 0
-AnswersBy halves bytes before after n (Done rows good) = DoneBy halves bytes before after n rows good
-AnswersBy halves bytes before after n (TooLong table) = ⊥
-AnswersBy halves bytes before after n (TooManyRows table) = ⊥
-AnswersBy halves bytes before after n TooFewCells = (length before < n) × (after ≡ before)
+-- by the cells and the positions before and after
+unfoldable pub AnswersBy : List (List ℕ) → (halves bytes before after before′ after′ : List ℕ) → (n : ℕ) → Imported → Type 0
+AnswersBy texts halves bytes before after before′ after′ n (Done rows good) = DoneBy texts halves bytes before after before′ after′ n rows good
+AnswersBy texts halves bytes before after before′ after′ n (TooLong table) = ⊥
+AnswersBy texts halves bytes before after before′ after′ n (TooManyRows table) = ⊥
+AnswersBy texts halves bytes before after before′ after′ n TooFewCells = (answer.roomIn before before′ < n) × (after ≡ before) × (after′ ≡ before′)

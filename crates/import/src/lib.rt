@@ -7,17 +7,17 @@ use kept::Keeping;
 use kept::LINKS;
 use kept::WORDS;
 use kept::keep;
+use positions::put_positions;
 use tables::TABLES;
 use units::TableNumber;
 ghost use mathlib.Core.Path.{_≡_};
 ghost use mathlib.Core.List.{map};
-ghost use lib.ListN.{length};
-ghost use Rattle.verdicts.specs.Answer.{importOf, cellsAfter};
+ghost use Rattle.verdicts.specs.Answer.{roomIn, importOf, cellsAfter, positionsAfter};
 ghost use Rattle.import.specs.Judged.{saidImported, AnswersBy};
 
 mod good;
 
-// The counts of rows and of good rows; or refused: the first table that is too large, or too few cells.
+// The counts of rows and of good rows; or refused: the first table that is too large, or too few cells or positions.
 pub enum Imported {
     Done(usize, usize),
     TooLong(TableNumber),
@@ -26,13 +26,25 @@ pub enum Imported {
 }
 
 // The answer of an import whose n rows are kept.
-fn import_kept(halves: &[u16], bytes: &[u8], cells: &mut [u16], n: usize) -> Imported
-    ensures { λ r. ⌜ AnswersBy (now (halves .entry)) (now (bytes .entry)) (now (cells .entry)) (now (cells .exit)) n r ⌝ }
+fn import_kept(
+    tables: [&[u8]; TABLES],
+    halves: &[u16],
+    bytes: &[u8],
+    cells: &mut [u16],
+    positions: &mut [u16],
+    n: usize,
+) -> Imported
+    ensures { λ r. ⌜ AnswersBy (map now (tables .entry)) (now (halves .entry)) (now (bytes .entry)) (now (cells .entry)) (now (cells .exit))
+        (now (positions .entry)) (now (positions .exit)) n r ⌝ }
 {
     if cells.len() < n {
         return Imported::TooFewCells;
     }
+    if positions.len() < n {
+        return Imported::TooFewCells;
+    }
     judge_kept(halves, bytes, cells, n);
+    put_positions(tables, halves, bytes, positions, n);
     let good = good_rows(&cells[..n]);
     Imported::Done(n, good)
 }
@@ -45,22 +57,25 @@ fn import_in(
     halves: &mut [u16; HALVES],
     bytes: &mut [u8; BYTES],
     cells: &mut [u16],
+    positions: &mut [u16],
 ) -> Imported
-    ensures { λ r. ⌜ saidImported r ≡ importOf (map now (tables .entry)) (length (now (cells .entry))) ⌝ }
+    ensures { λ r. ⌜ saidImported r ≡ importOf (map now (tables .entry)) (roomIn (now (cells .entry)) (now (positions .entry))) ⌝ }
     ensures { λ r. ⌜ now (cells .exit) ≡ cellsAfter (map now (tables .entry)) (now (cells .entry)) (saidImported r) ⌝ }
+    ensures { λ r. ⌜ now (positions .exit) ≡ positionsAfter (map now (tables .entry)) (now (positions .entry)) (saidImported r) ⌝ }
 {
     match keep(tables, words, links, halves, bytes) {
         Keeping::TooLong(table) => Imported::TooLong(table),
         Keeping::TooManyRows(table) => Imported::TooManyRows(table),
         Keeping::NoRoom => Imported::TooFewCells,
-        Keeping::Done(rows, _) => import_kept(halves, bytes, cells, rows),
+        Keeping::Done(rows, _) => import_kept(tables, halves, bytes, cells, positions, rows),
     }
 }
 
-// Judges all rows of the tables: one cell for each, in table order. A refusal touches no cell.
-pub fn import(tables: [&[u8]; TABLES], cells: &mut [u16]) -> Imported
-    ensures { λ r. ⌜ saidImported r ≡ importOf (map now (tables .entry)) (length (now (cells .entry))) ⌝ }
+// Judges all rows of the tables: one cell and one position for each, in table order. A refusal touches neither.
+pub fn import(tables: [&[u8]; TABLES], cells: &mut [u16], positions: &mut [u16]) -> Imported
+    ensures { λ r. ⌜ saidImported r ≡ importOf (map now (tables .entry)) (roomIn (now (cells .entry)) (now (positions .entry))) ⌝ }
     ensures { λ r. ⌜ now (cells .exit) ≡ cellsAfter (map now (tables .entry)) (now (cells .entry)) (saidImported r) ⌝ }
+    ensures { λ r. ⌜ now (positions .exit) ≡ positionsAfter (map now (tables .entry)) (now (positions .entry)) (saidImported r) ⌝ }
 {
     let mut words = [0u64; WORDS];
     let mut links = [0u16; LINKS];
@@ -73,5 +88,6 @@ pub fn import(tables: [&[u8]; TABLES], cells: &mut [u16]) -> Imported
         &mut halves,
         &mut bytes,
         cells,
+        positions,
     )
 }

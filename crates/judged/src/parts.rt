@@ -18,6 +18,8 @@ pub const GROUP: u8 = 5;
 
 pub const NUMBER: u8 = 6;
 
+pub const START: u8 = 7;
+
 pub const CODE1: u8 = 0;
 
 pub const CODE2: u8 = 1;

@@ -1,5 +1,5 @@
 -- What callers of the first pass need: arrays that are ready for it, and a row's line read again by what is kept of it.
-use mathlib.Core.Path.{_≡_, ap, sym, _∙_}
+use mathlib.Core.Path.{_≡_, refl, ap, sym, _∙_}
 use mathlib.Core.List.{List, []}
 use Prim.Native.Nat.{ℕ, suc, _+_, _*_, _-_, _≤_, _<_}
 use native.Mathlib.Omega.{arith}
@@ -9,7 +9,7 @@ use borrow.Author.Tests.{ltb-true, ltb-false}
 use Rattle.laws.proofs.Cases.{bool-cases}
 use Rattle.kept.specs.Puts.{allHalves, allBytes}
 use Rattle.kept.proofs.PlaceLaws.{at-is}
-use Rattle.lines.specs.Lines.{linesOf, nextLine}
+use Rattle.lines.specs.Lines.{Line, linesOf, lineLength, nextLine, lineFrom}
 use Rattle.lines.specs.declared.walk.NextLine.{NextLine}
 use Rattle.lines.proofs.LineLaws.{lines-next, lines-none}
 use Rattle.schemas.specs.Reasons.{lineOf}
@@ -61,3 +61,12 @@ module _ (texts : List (List ℕ)) (t start i : ℕ) (w : Situated texts t start
       let s : suc j - 1 ≡ j = omega arith in
       let z : rowsBefore texts t + j ≡ i = omega (arith, w .low) in
       rw (s, z) at (row-at texts t (suc j) (record { table = w .below; above = omega arith; below = line-below }) d)
+
+-- its line is the one that starts where it is kept
+pub line-there : {texts : List (List ℕ)} {t start i : ℕ} (w : Situated texts t start i)
+    → tableLine (textAt texts t) (i - rowsBefore texts t) .bytes ≡ lineFrom (textAt texts t) start .bytes
+unfolding nextLine lineFrom
+line-there {texts} {t} {start} {i} w =
+    let k : ℕ = lineLength (drop start (textAt texts t)) in
+    let e : start + k - start ≡ k = omega arith in
+    ap (λ (l : Line). l .bytes) (line-again texts t start i w (nextLine (textAt texts t) start) refl) ∙ rw e

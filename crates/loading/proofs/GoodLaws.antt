@@ -23,9 +23,9 @@ use Rattle.verdicts.proofs.CellLaws.{cell-at}
 use Rattle.verdicts.proofs.GoodLaw.{good-law}
 use Rattle.meaning.specs.Kept.{noEntry, keptEntry}
 use Rattle.kept.specs.FirstPass.{tableLine, Situated}
-use Rattle.kept.proofs.SituationLaws.{line-below, row-again}
+use Rattle.kept.proofs.SituationLaws.{line-below, line-there, row-again}
 use Rattle.database.specs.GoodRows.{isGood, tableOf}
-use Rattle.loading.proofs.RowLaws.{rowIn, row-there, line-there}
+use Rattle.loading.proofs.RowLaws.{rowIn, row-there}
 
 -- a line with no reason of 1 to 8 says what its columns do
 said-fine : (table : Table) (line : Line) → own (readingOf table line) ≡ 0 → factsIn (readingOf table line) ≡ factsOf table (line .bytes)

@@ -6,13 +6,13 @@ use native.Mathlib.Omega.{arith}
 use native.Mathlib.Nat.{le-of-suc-le-suc, not-suc-le-zero}
 use lib.ListN.{length, getD, take, drop, length-append, List·getD-append}
 use lib.Seq.{getD-append-add}
-use Rattle.lines.specs.Lines.{Line, linesOf, lineLength, nextLine, lineFrom}
+use Rattle.lines.specs.Lines.{Line, linesOf, lineFrom}
 use Rattle.schemas.specs.declared.Table.{Table}
 use Rattle.verdicts.specs.Entries.{carried, allRows}
 use Rattle.verdicts.specs.Places.{textAt, noLine, rowsBefore}
 use Rattle.verdicts.proofs.EntryLaws.{length-rows}
 use Rattle.kept.specs.FirstPass.{tableLine, Situated}
-use Rattle.kept.proofs.SituationLaws.{line-below, start-below, line-again}
+use Rattle.kept.proofs.SituationLaws.{line-below, start-below, line-there}
 use Rattle.database.specs.Rows.{Row}
 use Rattle.database.specs.GoodRows.{rowsOf, rowsFrom, rowsIn}
 use Rattle.loading.proofs.StartLaws.{extent, start-is}
@@ -83,18 +83,10 @@ module _ {texts : List (List ℕ)} {t start i : ℕ} (w : Situated texts t start
   abbrev j : ℕ
   j = i - rowsBefore texts t
 
-  -- its line is the one that starts there
-  pub line-there : tableLine (textAt texts t) j .bytes ≡ lineFrom (textAt texts t) start .bytes
-  unfolding nextLine lineFrom
-  line-there =
-      let k : ℕ = lineLength (drop start (textAt texts t)) in
-      let e : start + k - start ≡ k = omega arith in
-      ap (λ (l : Line). l .bytes) (line-again texts t start i w (nextLine (textAt texts t) start) refl) ∙ rw e
-
   pub row-there : rowIn texts i ≡ row t (suc j) start (lineFrom (textAt texts t) start .bytes)
   unfolding rowsIn
   row-there =
       let z : rowsBefore texts t + j ≡ i = omega (arith, w .low) in
       let p = line-below texts t start i w in
       let s : start ≡ extent (take j (linesOf (textAt texts t))) = start-is (textAt texts t) j start p (start-below texts t start i w) (w .start) in
-      rw z at (from-at 0 t t j carried texts noRow noLine (omega arith) (omega (arith, w .below)) p) ∙ rw (← s, line-there)
+      rw z at (from-at 0 t t j carried texts noRow noLine (omega arith) (omega (arith, w .below)) p) ∙ rw (← s, line-there w)
