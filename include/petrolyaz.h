@@ -5,15 +5,16 @@
  * Tables, packets and names are bytes, each a pointer and a length in bytes. The tables stand in the order
  * pid, pic, plf, pcf, caf, cap, txf, txp, ocf, ocp, mcf; an empty table has length 0. They are read only, need no
  * alignment and no end mark, and may overlap each other. No pointer is null, not even where the length is 0.
- * `cells` (2-byte aligned), `state` (5 numbers) and `answer` (8 numbers, both 8-byte aligned) overlap nothing else
- * that is passed: the state of the next step is copied out of the answer of the last.
+ * `cells` and `positions` (2-byte aligned), `state` (5 numbers) and `answer` (8 numbers, both 8-byte aligned) overlap
+ * nothing else that is passed: the state of the next step is copied out of the answer of the last.
  * The functions keep nothing between calls, call nothing but memcpy and memset, and may run in several threads at
  * once. Each needs up to 2 MiB of stack.
  *
  * The result is 0 for an answer, whose values then stand in the first places of `answer`; further places stay as they
  * were. Else it is refused: the number of the refusal * 2^32 + its place, and nothing is written, neither to `answer`
- * nor to `cells`. petrolyaz_number and petrolyaz_place take a result apart. The place is, for 1 and 2, the first such
- * table, 1 to 11; for 24, 28 and 29 the byte of the packet, from 0, in which the first such field starts; else 0.
+ * nor to `cells` and `positions`. petrolyaz_number and petrolyaz_place take a result apart. The place is, for 1 and 2,
+ * the first such table, 1 to 11; for 24, 28 and 29 the byte of the packet, from 0, in which the first such field starts;
+ * else 0.
  * The least number decides; a limit step seeks refusals in the order 1, 2, 34, 20 to 25, 33, 26, 36, 35, 28, 30, 31.
  */
 #ifndef PETROLYAZ_H
@@ -29,11 +30,11 @@ extern "C" {
 
 /* Raised with each change of a signature or an answer: a library whose petrolyaz_version() is PETROLYAZ_VERSION is
  * what this header declares. */
-#define PETROLYAZ_VERSION 2
+#define PETROLYAZ_VERSION 3
 
 uint32_t petrolyaz_version(void);
 
-/* The most rows that eleven tables have, 1,024 each: so many cells are enough for any tables. */
+/* The most rows that eleven tables have, 1,024 each: so many cells and positions are enough for any tables. */
 #define PETROLYAZ_MOST_CELLS 11264
 
 /* The tables, by the number that is the place of refusals 1 and 2. */
@@ -51,9 +52,9 @@ enum petrolyaz_table {
     PETROLYAZ_MCF = 11
 };
 
-/* Why a row is not good, in the order in which reasons are sought: 12 comes before 11. A row has the first that is
- * found; 4 to 7 are sought column by column, from the left. The column, from 1, is the one that the reason speaks of;
- * column 0 is the whole row, of which 1, 2, 3 and 9 speak. */
+/* Why a row is not good, in the order in which reasons are sought: 13 and 14 come where 6 does, and 12 before 11. A row
+ * has the first that is found; 4 to 7, 13 and 14 are sought column by column, from the left. The column, from 1, is the
+ * one that the reason speaks of; column 0 is the whole row, of which 1, 2, 3 and 9 speak. */
 enum petrolyaz_reason {
     PETROLYAZ_GOOD = 0,
     PETROLYAZ_LINE = 1,           /* the line is over 512 bytes long, or no line feed ends it */
@@ -61,7 +62,9 @@ enum petrolyaz_reason {
     PETROLYAZ_COLUMN_COUNT = 3,   /* the table has another number of columns */
     PETROLYAZ_EMPTY = 4,          /* the column is mandatory, and empty */
     PETROLYAZ_TOO_WIDE = 5,       /* the column is too wide */
-    PETROLYAZ_NOT_LISTED = 6,     /* this is no number, no coefficient, or none of the letters listed */
+    PETROLYAZ_NO_DIGITS = 6,      /* no digits: "-", and where no coefficient is asked "0x" and "0X"; with a position */
+    PETROLYAZ_WRONG_DIGIT = 13,   /* a wrong digit: any other text that is no number or coefficient; with a position */
+    PETROLYAZ_WRONG_LETTER = 14,  /* a letter that isn't listed */
     PETROLYAZ_OUT_OF_RANGE = 7,   /* the number, or a coefficient's power of ten, is out of range */
     PETROLYAZ_CONTRADICTION = 8,  /* this contradicts another column, or is not carried; the lowest such column */
     PETROLYAZ_KEY_SHARED = 9,     /* another row holds the same key (caf and mcf share theirs): so have all holders */
@@ -74,7 +77,7 @@ enum petrolyaz_reason {
 enum petrolyaz_refusal {
     PETROLYAZ_TABLE_TOO_LONG = 1,        /* a table over 65,536 bytes */
     PETROLYAZ_TOO_MANY_ROWS = 2,         /* a table over 1,024 rows */
-    PETROLYAZ_TOO_FEW_CELLS = 3,         /* import: fewer cells than rows */
+    PETROLYAZ_TOO_FEW_CELLS = 3,         /* import: fewer cells than rows, or fewer positions */
     PETROLYAZ_PACKET_LENGTH = 20,        /* packet under 7 or over 8,192 bytes */
     PETROLYAZ_PACKET_VERSION = 21,       /* version not 0, or the type bit set */
     PETROLYAZ_LENGTH_FIELD = 22,         /* length field plus 7 isn't the packet's length */
@@ -131,9 +134,14 @@ enum petrolyaz_announced {
 #define PETROLYAZ_ANSWER int64_t answer[static 8]
 #endif
 
-/* Judges all rows: one cell for each, in table order, reason * 256 + column, 0 where the row is good. Further cells
- * stay as they were. `cells_count` counts cells, not bytes. answer: the number of rows, the number of good rows. */
-uint64_t petrolyaz_import(PETROLYAZ_TABLES, uint16_t *cells, size_t cells_count, PETROLYAZ_ANSWER);
+/* Judges all rows: one cell for each, in table order, reason * 256 + column, 0 where the row is good, and one position
+ * for each. For reasons 6 and 13 the position is that of the first character of the column, from 1, at which no number
+ * can go on (of mcf: no coefficient), or one past the column's end where more would have to follow: 2 for "08" and for
+ * "-", 3 for "0x", 1 for "+1". It goes by the spelling alone, whatever the range. For every other row it is 0.
+ * Further cells and positions stay as they were. `cells_count` and `positions_count` count cells and positions, not
+ * bytes; either may be the greater. answer: the number of rows, the number of good rows. */
+uint64_t petrolyaz_import(PETROLYAZ_TABLES, uint16_t *cells, size_t cells_count, uint16_t *positions,
+                          size_t positions_count, PETROLYAZ_ANSWER);
 
 /* Which packet it is. answer: the number of the pid row, from 1; SPID; APID; type; subtype; PI1; PI2.
  * PI1 and PI2 are stored as 64 bits: one above 2^63 - 1 would stand there as itself less 2^64. Fields of 32 bits never

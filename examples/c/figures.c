@@ -21,6 +21,12 @@ static const struct table counted[11] = {
     TEXT(""), TEXT(""), TEXT(""), TEXT(""), TEXT("C\t\tI\tI\t\t\t3\t\n"), TEXT("C\t0\t0\nC\t10\t5\n"), TEXT(""), TEXT(""), TEXT(""), TEXT(""), TEXT(""),
 };
 
+/* 0767 and 0x12F4, 08, a minus alone, and a letter that isn't listed; mcf with an exponent that doesn't go on. */
+static const struct table misspelt[11] = {
+    TEXT(""), TEXT(""), TEXT(""), TEXT(""), TEXT("C\t\tI\tX\t\t\t2\t\n"), TEXT("C\t0767\t0x12F4\nC\t08\t0\nC\t10\t-\n"),
+    TEXT(""), TEXT(""), TEXT(""), TEXT(""), TEXT("Q\t\t1e\t\t\t\t\n"),
+};
+
 static const struct table asked[11] = {
     TEXT("3\t25\t10\t\t\t7\t\t\t\t\t\t\t\t\t\t\n"),
     TEXT(""),
@@ -56,6 +62,13 @@ static void expect(const char *what, uint64_t result, unsigned number, uint32_t 
         answer[i] = 77;
 }
 
+static void expect_words(const char *what, const uint16_t *answered, const uint16_t *expected)
+{
+    int ok = memcmp(answered, expected, 6 * sizeof *answered) == 0;
+    printf("%s: %s\n", what, ok ? "ok" : "WRONG");
+    wrong += !ok;
+}
+
 static void expect_double(const char *what, double answered, double expected)
 {
     int ok = memcmp(&answered, &expected, sizeof answered) == 0;
@@ -71,15 +84,24 @@ static void expect_double(const char *what, double answered, double expected)
 
 int main(void)
 {
-    uint16_t cells[4] = {9, 9, 9, 9};
-    const uint16_t judged[4] = {2567, 2817, 2817, 9};
+    uint16_t cells[6] = {9, 9, 9, 9, 9, 9}, positions[6] = {9, 9, 9, 9, 9, 9};
+    const uint16_t untouched[6] = {9, 9, 9, 9, 9, 9};
+    const uint16_t judged[6] = {2567, 2817, 2817, 9, 9, 9}, nowhere[6] = {0, 0, 0, 9, 9, 9};
+    const uint16_t faults[6] = {3588, 2817, 3330, 1539, 3331, 9}, places[6] = {0, 0, 2, 2, 3, 9};
     uint64_t result;
 
     memset(answer, 0, sizeof answer);
     expect("eight places", 0, 0, 0, VALUES(0, 0, 0, 0, 0, 0, 0, 0));
-    expect("two cells are too few", petrolyaz_import(ALL(counted), cells, 2, answer), 3, 0, NOTHING);
-    expect("three rows, none good", petrolyaz_import(ALL(counted), cells, 4, answer), 0, 0, VALUES(3, 0));
-    wrong += memcmp(cells, judged, sizeof cells) != 0;
+    expect("two cells are too few", petrolyaz_import(ALL(counted), cells, 2, positions, 3, answer), 3, 0, NOTHING);
+    expect("two positions are too few", petrolyaz_import(ALL(counted), cells, 6, positions, 2, answer), 3, 0, NOTHING);
+    expect_words("no cell touched", cells, untouched);
+    expect_words("no position touched", positions, untouched);
+    expect("three rows, none good", petrolyaz_import(ALL(counted), cells, 6, positions, 3, answer), 0, 0, VALUES(3, 0));
+    expect_words("their cells", cells, judged);
+    expect_words("their positions", positions, nowhere);
+    expect("five rows, 08 among them", petrolyaz_import(ALL(misspelt), cells, 5, positions, 6, answer), 0, 0, VALUES(5, 0));
+    expect_words("08 is 13, and - is 6", cells, faults);
+    expect_words("08 goes wrong at 2", positions, places);
     expect("APID 10, type 3, subtype 25", petrolyaz_identify(ALL(asked), packet, 14, answer), 0, 0, VALUES(1, 7, 10, 3, 25, 0, 0));
     expect("packet of six bytes", petrolyaz_identify(ALL(asked), packet, 6, answer), 20, 0, NOTHING);
     expect("unsigned 16 at byte 12", EXTRACT("WORD"), 0, 0, VALUES(0, 4660, 1));

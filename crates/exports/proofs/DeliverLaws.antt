@@ -6,7 +6,7 @@ use native.Mathlib.Omega.{arith}
 use lib.IntN.{ℤ}
 use lib.ListN.{length, take}
 use Rattle.outcomes.specs.Outcome.{Outcome, refused, answer}
-use Rattle.verdicts.specs.Answer.{Imported, importOf, cellsAfter}
+use Rattle.verdicts.specs.Answer.{Imported, roomIn, importOf, cellsAfter, positionsAfter}
 use Rattle.verdicts.specs.Entries.{tableCount}
 use Rattle.refusal_places.specs.Small.{placeIn, Small}
 use Rattle.telling.specs.declared.Telling.{Telling}
@@ -34,11 +34,14 @@ module _ {A : Type 0} (valuesOf : A → List ℤ) {o q : Outcome A} (t : Telling
         places = w ∙ ap (λ (p : Plain). written before (p .values)) m;
       }
 
-pub import-delivered : (texts : List (List ℕ)) → length texts ≡ tableCount → (cells : List ℕ) {x : Imported} {cells′ : List ℕ} (t : Telling)
-    {before after : List ℤ} {r : ℕ} → x ≡ importOf texts (length cells) → cells′ ≡ cellsAfter texts cells x → toldPlainly t ≡ plainOf ofCounts (countsOf x)
-    → r ≡ code (t .number) (t .place % 2 ^ 32) → after ≡ written before (take (t .count) (t .values)) → ImportTold texts cells cells′ before after r
-import-delivered texts all cells t e l k c w =
+pub import-delivered : (texts : List (List ℕ)) → length texts ≡ tableCount → (cells positions : List ℕ) {x : Imported} {cells′ positions′ : List ℕ}
+    (t : Telling) {before after : List ℤ} {r : ℕ} → x ≡ importOf texts (roomIn cells positions) → cells′ ≡ cellsAfter texts cells x
+    → positions′ ≡ positionsAfter texts positions x → toldPlainly t ≡ plainOf ofCounts (countsOf x)
+    → r ≡ code (t .number) (t .place % 2 ^ 32) → after ≡ written before (take (t .count) (t .values))
+    → ImportTold texts cells cells′ positions positions′ before after r
+import-delivered texts all cells positions t e l p k c w =
     record {
-      told = delivered ofCounts t (ap countsOf e) (import-small texts all (length cells)) k c w;
+      told = delivered ofCounts t (ap countsOf e) (import-small texts all (roomIn cells positions)) k c w;
       left = l ∙ ap (cellsAfter texts cells) e;
+      beside = p ∙ ap (positionsAfter texts positions) e;
     }

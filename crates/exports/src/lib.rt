@@ -19,7 +19,7 @@ ghost use Rattle.telling.specs.Answers.{plainOf, Told};
 ghost use Rattle.exports.specs.Exports.{ImportTold, inOrder, interfaceVersion};
 
 // The version of these functions, which PETROLYAZ_VERSION of the header is too.
-const VERSION: u32 = 2;
+const VERSION: u32 = 3;
 
 #[no_mangle]
 pub extern "C" fn petrolyaz_version() -> u32
@@ -28,7 +28,7 @@ pub extern "C" fn petrolyaz_version() -> u32
     VERSION
 }
 
-// Judges all rows of the tables: one cell for each, in table order.
+// Judges all rows of the tables: one cell and one position for each, in table order.
 #[no_mangle]
 pub extern "C" fn petrolyaz_import<'a>(
     pid: &'a [u8],
@@ -43,15 +43,16 @@ pub extern "C" fn petrolyaz_import<'a>(
     ocp: &'a [u8],
     mcf: &'a [u8],
     cells: &mut [u16],
+    positions: &mut [u16],
     answer: &mut [i64; 8],
 ) -> u64
     ensures { λ r. ⌜ ImportTold
         (inOrder (now (pid .entry)) (now (pic .entry)) (now (plf .entry)) (now (pcf .entry)) (now (caf .entry))
         (now (cap .entry)) (now (txf .entry)) (now (txp .entry)) (now (ocf .entry)) (now (ocp .entry)) (now (mcf .entry)))
-        (now (cells .entry)) (now (cells .exit)) (now (answer .entry)) (now (answer .exit)) r ⌝ }
+        (now (cells .entry)) (now (cells .exit)) (now (positions .entry)) (now (positions .exit)) (now (answer .entry)) (now (answer .exit)) r ⌝ }
 {
     let tables = [pid, pic, plf, pcf, caf, cap, txf, txp, ocf, ocp, mcf];
-    deliver(tell_imported(import(tables, cells)), answer)
+    deliver(tell_imported(import(tables, cells, positions)), answer)
 }
 
 // Which packet it is.
