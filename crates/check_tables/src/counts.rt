@@ -48,7 +48,7 @@ fn say_reason_count(reason: u16, count: usize) {
 // A line for each reason.
 fn say_reasons(cells: &[u16], n: usize) {
     let mut reason: u16 = 1;
-    while reason < 13 {
+    while reason < 15 {
         say_reason_count(reason, count_reason(cells, n, reason));
         reason += 1;
     }

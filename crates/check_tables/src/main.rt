@@ -34,10 +34,10 @@ fn say_help() {
         b"Each DIR has pid.dat, pic.dat, plf.dat, pcf.dat, caf.dat, cap.dat, txf.dat, txp.dat, ocf.dat, ocp.dat and mcf.dat.\n",
     );
     words(
-        b"A line is printed for each row that is not good, a cause before what leans on it: first rows of reasons 1 to 8,\n",
+        b"A line is printed for each row that is not good, a cause before what leans on it: first rows of reasons 1 to 8, 13\n",
     );
     words(
-        b"then those of reasons 9, 10 and 12, then those of reason 11, each after the row that it names.\n",
+        b"and 14, then those of reasons 9, 10 and 12, then those of reason 11, each after the row that it names.\n",
     );
 }
 

@@ -1,6 +1,7 @@
 // The text of a row's column, as the table writes it.
 use arrays::byte_at;
 use arrays::put_byte;
+use judged::parts::START;
 use judged::parts::TABLE;
 use key_rows::byte;
 use key_rows::half;
@@ -19,9 +20,6 @@ ghost use Rattle.key_texts.specs.Shown.{shownAs, shownAt, lineIn, textOf
 
 // A text is shown up to so many bytes.
 const SHOWN: usize = 64;
-
-// The column of where lines start.
-const START: u8 = 7;
 
 // The column of ocf that asks for CURTX of the row that NAME, column 1, names.
 const INTER: usize = 4;
@@ -52,18 +50,16 @@ fn put_shown(text: &[u8], letters: &mut [u8], n: usize)
     }
 }
 
-// The start of a text, in quotes.
+// The start of a text.
 fn say_text(text: &[u8]) {
     let mut letters = [0u8; SHOWN];
     put_shown(text, &mut letters, SHOWN);
-    words(b"\"");
     if SHOWN < text.len() {
         words(&letters);
         words(b"..");
     } else {
         words(part(&letters, 0, text.len()));
     }
-    words(b"\"");
 }
 
 fn line_at<'a>(table: &'a [u8], start: usize) -> &'a [u8]
@@ -92,10 +88,17 @@ fn text_of<'a>(
     column(line, &ends, k - 1)
 }
 
-// Says it, where there is one.
+// Says it.
 pub fn say_column_text(tables: [&[u8]; TABLES], halves: &[u16], bytes: &[u8], i: usize, k: usize) {
+    say_text(text_of(tables, halves, bytes, i, k));
+}
+
+// In quotes, where there is one.
+pub fn say_quoted(tables: [&[u8]; TABLES], halves: &[u16], bytes: &[u8], i: usize, k: usize) {
     if 0 < k {
-        say_text(text_of(tables, halves, bytes, i, k));
+        words(b"\"");
+        say_column_text(tables, halves, bytes, i, k);
+        words(b"\"");
     }
 }
 

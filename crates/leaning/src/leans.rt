@@ -1,7 +1,8 @@
 // What a row that isn't good leans on.
 use crate::places::say_place;
+use crate::wrong::say_wrong;
 use arrays::half_at;
-use key_texts::say_column_text;
+use key_texts::say_quoted;
 use key_texts::text_column;
 use pointing::Cause;
 use pointing::count_causes;
@@ -167,7 +168,7 @@ pub(crate) fn say_leans(
     let reason = verdict / 256;
     let column = verdict % 256;
     let count = count_causes(halves, bytes, cells, n, i);
-    say_column_text(tables, halves, bytes, i, text_column(reason, column));
+    say_quoted(tables, halves, bytes, i, text_column(reason, column));
     match reason {
         9 => say_others(tables, halves, bytes, cells, n, i, reason, count),
         10 => say_count(tables, halves, bytes, cells, n, i, count),
@@ -176,7 +177,8 @@ pub(crate) fn say_leans(
             words(b": ");
             say_others(tables, halves, bytes, cells, n, i, reason, count);
         }
-        4..=8 => {
+        6 | 13 => say_wrong(tables, halves, bytes, i, reason, column),
+        4 | 5 | 7 | 8 | 14 => {
             words(b": ");
             say_reason(reason);
         }

@@ -2,5 +2,6 @@
 mod leans;
 mod places;
 mod verdict;
+mod wrong;
 
 pub use verdict::say_row;

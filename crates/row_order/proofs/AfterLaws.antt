@@ -16,6 +16,7 @@ use Rattle.pointing.specs.declared.Cause.{Cause}
 use Rattle.pointing.specs.declared.Cause.the-variants.{Row, NoMore}
 use Rattle.pointing.specs.Pointing.{pointsTo, firstOf}
 use Rattle.row_order.specs.RowOrder.{turnOf, inTurn, firstCause, isIn, onRow, wayTo, toldBefore, timesIn, Leads, here, on, AllAfter}
+use Rattle.row_order.proofs.TurnLaws.{turn-cases}
 use Rattle.row_order.proofs.TellLaws.{first-below, in-append}
 use Rattle.row_order.proofs.OnceLaws.{not-in, way-there, times-inside}
 
@@ -152,20 +153,15 @@ module _ (first : ℕ → Cause) (bad : ℕ → Bool) where
 
 -- a row that isn't good and doesn't name is of the first or the second turn
 turns : (v : ℕ) → ltb 0 (turnOf v) ≡ true → eqb (turnOf v) 3 ≡ false → (eqb (turnOf v) 1 ≡ true) ⊎ (eqb (turnOf v) 2 ≡ true)
-unfolding turnOf
-turns v = go (ltb (v / 256) 1) (ltb (v / 256) 9) (eqb (v / 256) 11)
-  where
-    turn : (a b c : Bool) → ℕ
-    turn a b c = cond a 0 (cond b 1 (cond c 3 2))
-
-    go : (a b c : Bool) → ltb 0 (turn a b c) ≡ true → eqb (turn a b c) 3 ≡ false → (eqb (turn a b c) 1 ≡ true) ⊎ (eqb (turn a b c) 2 ≡ true)
-    go true b c e f = absurd (let z : 0 ≡ 1 = ap flag e in omega arith)
-    go false true c e f = inl refl
-    go false false true e f = absurd (let z : 1 ≡ 0 = ap flag f in omega arith)
-    go false false false e f = inr refl
+turns v =
+    turn-cases (λ (t : ℕ). ltb 0 t ≡ true → eqb t 3 ≡ false → (eqb t 1 ≡ true) ⊎ (eqb t 2 ≡ true)) v
+    (λ e f. absurd (let z : 0 ≡ 1 = ap flag e in omega arith))
+    (λ e f. inl refl)
+    (λ e f. inr refl)
+    (λ e f. absurd (let z : 1 ≡ 0 = ap flag f in omega arith))
 
 module _ (halves bytes cells : List ℕ) (n : ℕ) where
-  -- the rows of reasons 1 to 8, and those of 9, 10 and 12
+  -- the rows of reasons 1 to 8, 13 and 14, and those of 9, 10 and 12
   abbrev others : List ℕ
   others = allFrom (inTurn cells 1) 0 n ++ allFrom (inTurn cells 2) 0 n
 

@@ -14,6 +14,7 @@ use Rattle.pointing.specs.declared.Cause.{Cause}
 use Rattle.pointing.specs.declared.Cause.the-variants.{Row, NoMore}
 use Rattle.pointing.specs.Pointing.{pointsTo, firstOf}
 use Rattle.row_order.specs.RowOrder.{turnOf, inTurn, firstCause, isIn, onRow, wayTo, toldBefore, orderOf, timesIn}
+use Rattle.row_order.proofs.TurnLaws.{turn-cases}
 use Rattle.row_order.proofs.TellLaws.{first-below}
 
 times-append : (x : ℕ) (a b : List ℕ) → timesIn x (a ++ b) ≡ timesIn x a + timesIn x b
@@ -207,19 +208,9 @@ module _ (first : ℕ → Cause) (naming : ℕ → Bool) where
         let now = way-within n (toldBefore first naming n m) m h in
         omega arith
 
--- a turn is one of three, or none
+-- a row is in one turn, unless it is good
 one-turn : (v : ℕ) → flag (eqb (turnOf v) 1) + (flag (eqb (turnOf v) 2) + flag (eqb (turnOf v) 3)) ≡ flag (ltb 0 (turnOf v))
-unfolding turnOf
-one-turn v = go (ltb (v / 256) 1) (ltb (v / 256) 9) (eqb (v / 256) 11)
-  where
-    turn : (a b c : Bool) → ℕ
-    turn a b c = cond a 0 (cond b 1 (cond c 3 2))
-
-    go : (a b c : Bool) → flag (eqb (turn a b c) 1) + (flag (eqb (turn a b c) 2) + flag (eqb (turn a b c) 3)) ≡ flag (ltb 0 (turn a b c))
-    go true b c = refl
-    go false true c = refl
-    go false false true = refl
-    go false false false = refl
+one-turn v = turn-cases (λ (t : ℕ). flag (eqb t 1) + (flag (eqb t 2) + flag (eqb t 3)) ≡ flag (ltb 0 t)) v refl refl refl refl
 
 module _ (halves bytes cells : List ℕ) (n x : ℕ) where
   abbrev named : ℕ → Bool

@@ -4,11 +4,12 @@ use mathlib.Core.Bool.{Bool, true, false, _&&_}
 use mathlib.Core.List.{List, [], _∷_}
 use Prim.Native.Nat.{ℕ, suc, _+_, _-_, _/_, _≤_, _<_}
 use native.Mathlib.Omega.{arith}
-use lib.Dec.{eqb}
+use lib.Dec.{eqb, ltb}
 use lib.ListN.{length, getD, set, length-set}
 use lib.Seq.{sets}
 use borrow.Author.Tests.{eq-eqb, ne-eqb, lt-ltb, le-ltb}
 use Rattle.laws.specs.Prefix.{allFrom}
+use Rattle.laws.proofs.Cases.{cond-cases}
 use Rattle.row_order.specs.RowOrder.{turnOf}
 
 module _ (v : ℕ) where
@@ -24,9 +25,22 @@ module _ (v : ℕ) where
   unfolding turnOf
   turn-naming a b e = rw (le-ltb _ _ a, le-ltb _ _ b, eq-eqb _ _ e)
 
-  pub turn-keyed : 1 ≤ v / 256 → 9 ≤ v / 256 → (v / 256 ≡ 11 → ⊥) → 2 ≡ turnOf v
+  pub turn-digit : 1 ≤ v / 256 → 9 ≤ v / 256 → (v / 256 ≡ 11 → ⊥) → 12 < v / 256 → 1 ≡ turnOf v
   unfolding turnOf
-  turn-keyed a b e = rw (le-ltb _ _ a, le-ltb _ _ b, ne-eqb _ _ e)
+  turn-digit a b e d = rw (le-ltb _ _ a, le-ltb _ _ b, ne-eqb _ _ e, lt-ltb _ _ d)
+
+  pub turn-keyed : 1 ≤ v / 256 → 9 ≤ v / 256 → (v / 256 ≡ 11 → ⊥) → v / 256 ≤ 12 → 2 ≡ turnOf v
+  unfolding turnOf
+  turn-keyed a b e d = rw (le-ltb _ _ a, le-ltb _ _ b, ne-eqb _ _ e, le-ltb _ _ d)
+
+-- a turn is one of three, or 0
+pub turn-cases : (P : ℕ → Type 0) (v : ℕ) → P 0 → P 1 → P 2 → P 3 → P (turnOf v)
+unfolding turnOf
+turn-cases P v none first second third =
+    cond-cases P (ltb (v / 256) 1) (λ _. none)
+    (λ _. cond-cases P (ltb (v / 256) 9) (λ _. first)
+    (λ _. cond-cases P (eqb (v / 256) 11) (λ _. third)
+    (λ _. cond-cases P (ltb 12 (v / 256)) (λ _. first) (λ _. second))))
 
 -- whether a row is in a turn
 module _ (cells : List ℕ) (i turn : ℕ) (v : ℕ) (cell : v ≡ getD cells i 0) (t : ℕ) (e : t ≡ turnOf v) where

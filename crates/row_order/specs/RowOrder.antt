@@ -13,13 +13,14 @@ use Rattle.pointing.specs.Pointing.{pointsTo, firstOf}
 use Rattle.pointing.specs.declared.Cause.{Cause}
 use Rattle.pointing.specs.declared.Cause.the-variants.{Row, NoMore}
 
--- the turn of a row: 0 for a good one, 1 for reasons 1 to 8, 3 for reason 11, which names a row,
--- and 2 for reasons 9, 10 and 12
+-- the turn of a row: 0 for a good one, 1 for reasons 1 to 8 and, in 6's place, 13 and 14, 3 for reason 11, which names
+-- a row, and 2 for reasons 9, 10 and 12
 unfoldable pub turnOf : ℕ → ℕ
 turnOf verdict =
     cond (ltb (verdict / 256) 1) 0
     (cond (ltb (verdict / 256) 9) 1
-    (cond (eqb (verdict / 256) 11) 3 2))
+    (cond (eqb (verdict / 256) 11) 3
+    (cond (ltb 12 (verdict / 256)) 1 2)))
 
 abbrev pub inTurn : (cells : List ℕ) → (turn i : ℕ) → Bool
 inTurn cells turn i = eqb (turnOf (getD cells i 0)) turn
@@ -50,7 +51,7 @@ module _ (first : ℕ → Cause) (naming : ℕ → Bool) where
   toldBefore n zero = []
   toldBefore n (suc i) = toldBefore n i ++ wayTo n (toldBefore n i) i
 
--- rows of reasons 1 to 8 come first, then those of 9, 10 and 12, both in table order, and those of 11 last,
+-- rows of reasons 1 to 8, 13 and 14 come first, then those of 9, 10 and 12, both in table order, and those of 11 last,
 -- each after the row that it names
 unfoldable pub orderOf : (halves bytes cells : List ℕ) → (n : ℕ) → List ℕ
 orderOf halves bytes cells n =
@@ -82,7 +83,7 @@ abbrev below : (n i : ℕ) → Bool
 below n i = ltb i n
 
 pub record Examples : Type 0 where
-  pub turns : map turnOf (0 ∷ 1286 ∷ 2304 ∷ 2567 ∷ 3080 ∷ 2817 ∷ []) ≡ 0 ∷ 1 ∷ 2 ∷ 2 ∷ 2 ∷ 3 ∷ []
+  pub turns : map turnOf (0 ∷ 1286 ∷ 3331 ∷ 2304 ∷ 2567 ∷ 3080 ∷ 2817 ∷ []) ≡ 0 ∷ 1 ∷ 1 ∷ 2 ∷ 2 ∷ 2 ∷ 3 ∷ []
   -- three rows that each name the next one: the last is told first
   pub chain : toldBefore nextRow (below 3) 4 4 ≡ 2 ∷ 1 ∷ 0 ∷ []
   -- two rows that both name row 1, which names itself

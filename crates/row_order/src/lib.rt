@@ -17,7 +17,7 @@ ghost use Rattle.arrays.specs.Room.{mostPlaces};
 ghost use Rattle.row_order.specs.RowOrder.{turnOf, inTurn, firstCause, toldBefore, orderOf};
 ghost use Rattle.row_order.specs.Telling.{Tells, TellsAll};
 
-// Rows of reasons 1 to 8; of 9, 10 and 12; and of 11.
+// Rows of reasons 1 to 8, 13 and 14; of 9, 10 and 12; and of 11.
 const FORMED: u8 = 1;
 
 const KEYED: u8 = 2;
@@ -37,6 +37,9 @@ fn turn_of(verdict: u16) -> u8
     }
     if reason == 11 {
         return NAMING;
+    }
+    if 12 < reason {
+        return FORMED;
     }
     KEYED
 }

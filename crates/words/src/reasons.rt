@@ -8,13 +8,15 @@ pub fn say_reason(reason: usize) {
         3 => words(b"the table has another number of columns"),
         4 => words(b"the column is mandatory, and empty"),
         5 => words(b"the column is too wide"),
-        6 => words(b"this is no number, or none of the letters listed"),
+        6 => words(b"no digits"),
         7 => words(b"the number is out of range"),
         8 => words(b"this contradicts another column, or is not carried"),
         9 => words(b"another row holds the same key"),
         10 => words(b"the rows that this counts are another number"),
         11 => words(b"no good row of the kind asked has this name"),
         12 => words(b"the VALID chain returns to this row"),
+        13 => words(b"a wrong digit"),
+        14 => words(b"a letter not listed"),
         _ => words(b"no such reason"),
     }
 }

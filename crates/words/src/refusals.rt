@@ -9,7 +9,7 @@ fn say_early(refusal: usize) {
     match refusal {
         1 => words(b"the table is over 65,536 bytes long"),
         2 => words(b"the table has over 1,024 rows"),
-        3 => words(b"there are fewer cells than rows"),
+        3 => words(b"there are fewer cells or positions than rows"),
         20 => words(b"the packet is under 7 or over 8,192 bytes long"),
         21 => words(b"the version is not 0, or the type bit is set"),
         22 => words(b"the length field plus 7 is not the packet's length"),

@@ -1,5 +1,5 @@
 -- By the reason.
-use Rattle.row_order.proofs.TurnLaws.{turn-good, turn-formed, turn-naming, turn-keyed}
+use Rattle.row_order.proofs.TurnLaws.{turn-good, turn-formed, turn-naming, turn-digit, turn-keyed}
 use Rattle.row_order.proofs.turn_of.Statement.{statement}
 use Rattle.row_order.proofs.turn_of.Tie as tie
 
@@ -13,7 +13,10 @@ returns-3 : tie.Need-returns-3
 returns-3 c = turn-naming _ (c .before .before .if1 .left) (c .before .if2 .left) (c .if3 .taken)
 
 returns-4 : tie.Need-returns-4
-returns-4 c = turn-keyed _ (c .before .before .if1 .left) (c .before .if2 .left) (c .if3 .left)
+returns-4 c = turn-digit _ (c .before .before .before .if1 .left) (c .before .before .if2 .left) (c .before .if3 .left) (c .if4 .taken)
+
+returns-5 : tie.Need-returns-5
+returns-5 c = turn-keyed _ (c .before .before .before .if1 .left) (c .before .before .if2 .left) (c .before .if3 .left) (c .if4 .left)
 
 pub turn-of-spec : {M : Type 1} → statement M
-turn-of-spec = tie.close (tie.spec returns returns-2 returns-3 returns-4)
+turn-of-spec = tie.close (tie.spec returns returns-2 returns-3 returns-4 returns-5)

@@ -6,10 +6,10 @@ use Rattle.check_tables.proofs.counts.say_reasons.Statement.{statement}
 use Rattle.check_tables.proofs.counts.say_reasons.Tie as tie
 
 abbrev Inv-loop : tie.InvT-loop
-Inv-loop cells n reason₀ reason = reason ≤ 13
+Inv-loop cells n reason₀ reason = reason ≤ 15
 
 abbrev μ-loop : tie.MeasureT-loop
-μ-loop cells n reason₀ reason = 13 - reason
+μ-loop cells n reason₀ reason = 15 - reason
 
 loop-holds : tie.Need-loop-holds Inv-loop μ-loop
 loop-holds c = omega arith
