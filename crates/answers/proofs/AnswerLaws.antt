@@ -19,15 +19,17 @@ pub natural-answer : (n : ℕ) → integerAnswer (pos n) ≡ saying (ascii "#") 
 unfolding integerAnswer
 natural-answer n = rw (le-ltb n 0 (omega arith))
 
-module _ (a : Answer) (txp cells line : List ℕ) where
-  pub verdict-unread : not (a .readable) ≡ true → Unread ≡ verdictOf a txp cells line
+module _ (a : Answer) (txp cells positions line : List ℕ) where
+  pub verdict-unread : not (a .readable) ≡ true → Unread ≡ verdictOf a txp cells positions line
   unfolding verdictOf
   verdict-unread e = rw (not-true (a .readable) e)
 
-  pub verdict-same : not (a .readable) ≡ false → sameBytes (ascii "= " ++ spoken a txp cells) line ≡ true → Same ≡ verdictOf a txp cells line
+  pub verdict-same : not (a .readable) ≡ false
+      → sameBytes (ascii "= " ++ spoken a txp cells positions) line ≡ true → Same ≡ verdictOf a txp cells positions line
   unfolding verdictOf sameBytes
   verdict-same e t = rw (not-false (a .readable) e, t)
 
-  pub verdict-differs : not (a .readable) ≡ false → sameBytes (ascii "= " ++ spoken a txp cells) line ≡ false → Differs ≡ verdictOf a txp cells line
+  pub verdict-differs : not (a .readable) ≡ false
+      → sameBytes (ascii "= " ++ spoken a txp cells positions) line ≡ false → Differs ≡ verdictOf a txp cells positions line
   unfolding verdictOf sameBytes
   verdict-differs e t = rw (not-false (a .readable) e, t)

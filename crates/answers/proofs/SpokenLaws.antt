@@ -14,7 +14,7 @@ use Rattle.laws.proofs.Lists.{split}
 use Rattle.laws.proofs.Cases.{bool-cases, false≢true}
 use Rattle.laws.specs.Text.{ascii}
 use Rattle.lines.specs.Names.{sameBytes}
-use Rattle.answers.specs.Spoken.{places, decimal, spelled, cellText, cellsText, matched, matchedAll}
+use Rattle.answers.specs.Spoken.{places, decimal, spelled, cellText, positionText, cellsText, matched, matchedAll}
 use Rattle.io.specs.Digits.{digits, Fewest}
 
 -- Bytes found in a line
@@ -137,19 +137,41 @@ pub cell-bad : (line : List ℕ) (at cell : ℕ) → (cell ≡ 0 → ⊥)
 unfolding cellText matchedAll
 cell-bad line at cell n = rw (ne-eqb cell 0 n) (sym (matched-append line (matched line at 32) (decimal (cell / 256)) (58 ∷ decimal (cell % 256))))
 
-module _ (line : List ℕ) (at : ℕ) (cells : List ℕ) (n i : ℕ) where
-  pub cells-more : i < n → i < length cells
-      → matchedAll line at (cellsText (drop i (take n cells)))
-      ≡ matchedAll line (matchedAll line at (cellText (getD cells i 0))) (cellsText (drop (i + 1) (take n cells)))
-  unfolding cellsText
-  cells-more h k =
-      let l : i < length (take n cells) = omega (arith, length-take n cells) in
-      rw (split (take n cells) i 0 l, getD-take n cells i 0 h)
-      (matched-append line at (cellText (getD cells i 0)) (cellsText (drop (i + 1) (take n cells))))
+pub position-none : (line : List ℕ) (at position : ℕ) → position ≡ 0 → at ≡ matchedAll line at (positionText position)
+unfolding positionText matchedAll
+position-none line at position e = rw (eq-eqb position 0 e)
 
-  pub cells-none : length (take n cells) ≤ i → matchedAll line at (cellsText (drop i (take n cells))) ≡ at
+pub position-said : (line : List ℕ) (at position : ℕ) → (position ≡ 0 → ⊥)
+    → matchedAll line (matched line at 64) (decimal position) ≡ matchedAll line at (positionText position)
+unfolding positionText matchedAll
+position-said line at position n = rw (ne-eqb position 0 n)
+
+no-positions : (cells : List ℕ) → cellsText cells [] ≡ []
+unfolding cellsText
+no-positions [] = refl
+no-positions (c ∷ cells) = refl
+
+module _ (line : List ℕ) (at : ℕ) (cells positions : List ℕ) (n i : ℕ) where
+  pub cells-more : i < n → i < length cells → i < length positions
+      → matchedAll line at (cellsText (drop i (take n cells)) (drop i positions))
+      ≡ matchedAll line (matchedAll line (matchedAll line at (cellText (getD cells i 0))) (positionText (getD positions i 0)))
+      (cellsText (drop (i + 1) (take n cells)) (drop (i + 1) positions))
+  unfolding cellsText
+  cells-more h k p =
+      let l : i < length (take n cells) = omega (arith, length-take n cells) in
+      let cell = cellText (getD cells i 0) in
+      let position = positionText (getD positions i 0) in
+      let rest = cellsText (drop (i + 1) (take n cells)) (drop (i + 1) positions) in
+      rw (split (take n cells) i 0 l, split positions i 0 p, getD-take n cells i 0 h)
+      (matched-append line at (cell ++ position) rest ∙ ap (λ (k : ℕ). matchedAll line k rest) (matched-append line at cell position))
+
+  pub cells-none : length (take n cells) ≤ i → matchedAll line at (cellsText (drop i (take n cells)) (drop i positions)) ≡ at
   unfolding cellsText matchedAll
   cells-none h = rw (drop-of-length-le (take n cells) h)
+
+  pub positions-none : length positions ≤ i → matchedAll line at (cellsText (drop i (take n cells)) (drop i positions)) ≡ at
+  unfolding matchedAll
+  positions-none h = rw (drop-of-length-le positions h, no-positions)
 
 -- An answer, part by part
 

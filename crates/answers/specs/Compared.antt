@@ -13,13 +13,14 @@ use Rattle.answers.specs.Answers.{composed, saying, refusing, unreadable
 use Rattle.answers.specs.Spoken.{spoken, signText, spelled, decimal, places, cellsText}
 
 -- whether a line is `= ` and the answer, letter by letter
-unfoldable pub verdictOf : Answer → (txp cells line : List ℕ) → Verdict
-verdictOf a txp cells line = cond (a .readable) (cond (sameBytes (ascii "= " ++ spoken a txp cells) line) Same Differs) Unread
+unfoldable pub verdictOf : Answer → (txp cells positions line : List ℕ) → Verdict
+verdictOf a txp cells positions line =
+    cond (a .readable) (cond (sameBytes (ascii "= " ++ spoken a txp cells positions) line) Same Differs) Unread
 
 pub record Examples : Type 0 where
-  pub same : verdictOf (refusing 28 13) [] [] (ascii "= refused 28 at 13") ≡ Same
-  pub longer : verdictOf (refusing 28 13) [] [] (ascii "= refused 28 at 130") ≡ Differs
-  pub unread : verdictOf unreadable [] [] (ascii "= refused 28 at 13") ≡ Unread
+  pub same : verdictOf (refusing 28 13) [] [] [] (ascii "= refused 28 at 13") ≡ Same
+  pub longer : verdictOf (refusing 28 13) [] [] [] (ascii "= refused 28 at 130") ≡ Differs
+  pub unread : verdictOf unreadable [] [] [] (ascii "= refused 28 at 13") ≡ Unread
 
 pub examples : Examples
 unfolding verdictOf unreadable refusing saying composed spoken signText spelled decimal places partAt cellsText sameBytes

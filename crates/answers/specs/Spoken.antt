@@ -30,18 +30,24 @@ spelled k (b ∷ template) values =
 unfoldable pub cellText : ℕ → List ℕ
 cellText cell = cond (eqb cell 0) (ascii " good") (char " " ∷ decimal (cell / 256) ++ char ":" ∷ decimal (cell % 256))
 
-unfoldable pub cellsText : List ℕ → List ℕ
-cellsText [] = []
-cellsText (c ∷ cs) = cellText c ++ cellsText cs
+-- 02, P2: "otherwise 0": a position is said where it isn't 0
+unfoldable pub positionText : ℕ → List ℕ
+positionText position = cond (eqb position 0) [] (char "@" ∷ decimal position)
+
+-- each cell with its position, as far as there are both
+unfoldable pub cellsText : (cells positions : List ℕ) → List ℕ
+cellsText [] positions = []
+cellsText (c ∷ cells) [] = []
+cellsText (c ∷ cells) (p ∷ positions) = cellText c ++ positionText p ++ cellsText cells positions
 
 unfoldable pub signText : Bool → List ℕ
 signText false = []
 signText true = char "-" ∷ []
 
-unfoldable pub spoken : Answer → (txp cells : List ℕ) → List ℕ
-spoken a txp cells =
+unfoldable pub spoken : Answer → (txp cells positions : List ℕ) → List ℕ
+spoken a txp cells positions =
     signText (a .negative) ++ spelled 0 (take (a .length) (a .template)) (a .values)
-    ++ partAt txp (a .from) (a .bytes) ++ cellsText (take (a .cells) cells)
+    ++ partAt txp (a .from) (a .bytes) ++ cellsText (take (a .cells) cells) positions
 
 -- the next place of a line where this byte stands at a place, and past its end where another does
 unfoldable pub matched : List ℕ → ℕ → ℕ → ℕ
@@ -54,11 +60,11 @@ matchedAll line at (b ∷ bs) = matchedAll line (matched line at b) bs
 pub record Examples : Type 0 where
   pub number : decimal 4660 ≡ ascii "4660"
   pub nought : decimal 0 ≡ ascii "0"
-  pub refusal : spoken (refusing 28 13) [] [] ≡ ascii "refused 28 at 13"
-  pub negative : spoken (saying (ascii "#, valid") true (2 ∷ [])) [] [] ≡ ascii "-2, valid"
-  pub text : spoken (composed (ascii "# bytes: ") false (3 ∷ []) 1 3 0) (ascii "XLOWX") [] ≡ ascii "3 bytes: LOW"
-  pub cells : spoken (composed (ascii "# rows:") false (2 ∷ []) 0 0 2) [] (0 ∷ 2567 ∷ 65535 ∷ []) ≡ ascii "2 rows: good 10:7"
+  pub refusal : spoken (refusing 28 13) [] [] [] ≡ ascii "refused 28 at 13"
+  pub negative : spoken (saying (ascii "#, valid") true (2 ∷ [])) [] [] [] ≡ ascii "-2, valid"
+  pub text : spoken (composed (ascii "# bytes: ") false (3 ∷ []) 1 3 0) (ascii "XLOWX") [] [] ≡ ascii "3 bytes: LOW"
+  pub cells : spoken (composed (ascii "# rows:") false (2 ∷ []) 0 0 2) [] (0 ∷ 3330 ∷ 65535 ∷ []) (0 ∷ 2 ∷ 65535 ∷ []) ≡ ascii "2 rows: good 13:2@2"
 
 pub examples : Examples
-unfolding decimal places spelled cellText cellsText signText spoken refusing saying composed partAt
+unfolding decimal places spelled cellText positionText cellsText signText spoken refusing saying composed partAt
 examples = record { number = refl; nought = refl; refusal = refl; negative = refl; text = refl; cells = refl }

@@ -10,7 +10,8 @@ ghost use Rattle.answers.specs.Answers.{composed, saying, refusing, unre
 ghost use Rattle.answers.specs.Answers.{one as oneOf, two as twoOf};
 
 // A template in which `#` stands for the next number, the first with a minus if it is negative; then so many bytes of
-// txp from a place on, and the first of an import's cells. `readable` says whether the question could be read.
+// txp from a place on, and the first of an import's cells with their positions.
+// `readable` says whether the question could be read.
 pub struct Answer {
     pub readable: bool,
     pub template: [u8; 64],

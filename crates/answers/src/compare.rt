@@ -20,15 +20,16 @@ pub fn compare(
     answer: Answer,
     txp: &[u8],
     cells: &[u16],
+    positions: &[u16],
 ) -> Verdict
-    ensures { λ r. ⌜ r ≡ verdictOf answer (now (txp .entry)) (now (cells .entry)) (now (line .entry)) ⌝ }
+    ensures { λ r. ⌜ r ≡ verdictOf answer (now (txp .entry)) (now (cells .entry)) (now (positions .entry)) (now (line .entry)) ⌝ }
 {
     if !answer.readable {
         return Verdict::Unread;
     }
-    if agrees(line, answer, txp, cells) {
+    if agrees(line, answer, txp, cells, positions) {
         return Verdict::Same;
     }
-    say_difference(name, number, line, answer, txp, cells);
+    say_difference(name, number, line, answer, txp, cells, positions);
     Verdict::Differs
 }

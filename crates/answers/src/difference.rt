@@ -51,15 +51,27 @@ fn say_cell(cell: u16) {
     say::number((cell % 256) as usize);
 }
 
-fn say_cells(cells: &[u16], n: usize) {
+fn say_position(position: u16) {
+    if position == 0 {
+        return;
+    }
+    words(b"@");
+    say::number(position as usize);
+}
+
+// As far as there are both.
+fn say_cells(cells: &[u16], positions: &[u16], n: usize) {
     for i in 0..cells.len() {
         if i < n {
-            say_cell(cells[i]);
+            if i < positions.len() {
+                say_cell(cells[i]);
+                say_position(positions[i]);
+            }
         }
     }
 }
 
-fn say_answer(answer: Answer, txp: &[u8], cells: &[u16]) {
+fn say_answer(answer: Answer, txp: &[u8], cells: &[u16], positions: &[u16]) {
     if answer.negative {
         words(b"-");
     }
@@ -67,7 +79,7 @@ fn say_answer(answer: Answer, txp: &[u8], cells: &[u16]) {
     let values = answer.values;
     say_template(part(&template, 0, answer.length), values);
     words(string_part(txp, ByteOffset(answer.from), answer.bytes));
-    say_cells(cells, answer.cells);
+    say_cells(cells, positions, answer.cells);
 }
 
 // The answer that stands in a line of a file, and the one that was given.
@@ -78,11 +90,12 @@ pub(crate) fn say_difference(
     answer: Answer,
     txp: &[u8],
     cells: &[u16],
+    positions: &[u16],
 ) {
     say_place(name, number);
     words(b"expected ");
     words(line);
     words(b"\n    and was answered = ");
-    say_answer(answer, txp, cells);
+    say_answer(answer, txp, cells, positions);
     words(b"\n");
 }

@@ -55,8 +55,14 @@ fn match_sign(line: &[u8], at: usize, negative: bool) -> usize
 }
 
 // Whether a line is `= ` and the answer.
-pub(crate) fn agrees(line: &[u8], answer: Answer, txp: &[u8], cells: &[u16]) -> bool
-    ensures { λ r. ⌜ r ≡ sameBytes (ascii "= " ++ spoken answer (now (txp .entry)) (now (cells .entry))) (now (line .entry)) ⌝ }
+pub(crate) fn agrees(
+    line: &[u8],
+    answer: Answer,
+    txp: &[u8],
+    cells: &[u16],
+    positions: &[u16],
+) -> bool
+    ensures { λ r. ⌜ r ≡ sameBytes (ascii "= " ++ spoken answer (now (txp .entry)) (now (cells .entry)) (now (positions .entry))) (now (line .entry)) ⌝ }
 {
     let template = answer.template;
     let values = answer.values;
@@ -69,5 +75,5 @@ pub(crate) fn agrees(line: &[u8], answer: Answer, txp: &[u8], cells: &[u16]) -> 
         after_words,
         string_part(txp, ByteOffset(answer.from), answer.bytes),
     );
-    match_cells(line, after_text, cells, answer.cells) == line.len()
+    match_cells(line, after_text, cells, positions, answer.cells) == line.len()
 }

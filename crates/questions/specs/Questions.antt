@@ -23,14 +23,14 @@ use Rattle.questions.specs.declared.Judged.{Judged}
 unfoldable pub stepJudged : List (List ℕ) → (packet text : List ℕ) → LimitState → (line : List ℕ) → Judged
 stepJudged texts packet text s line =
     record {
-      verdict = verdictOf (replyOf stateAnswer (limitStepOf texts packet text s)) (getD texts 7 []) [] line;
+      verdict = verdictOf (replyOf stateAnswer (limitStepOf texts packet text s)) (getD texts 7 []) [] [] line;
       state = stateAfter s (limitStepOf texts packet text s);
     }
 
 unfoldable pub questionVerdict : ℕ → List (List ℕ) → (packet text line : List ℕ) → Verdict
 questionVerdict k texts packet text line =
     cond (eqb k 0) (importReply texts text line)
-    (cond (eqb k 1) (rowReply text line) (verdictOf (replyTo k texts packet text) (getD texts 7 []) [] line))
+    (cond (eqb k 1) (rowReply text line) (verdictOf (replyTo k texts packet text) (getD texts 7 []) [] [] line))
 
 unfoldable pub judgedText : ℕ → List (List ℕ) → (packet : List ℕ) → LimitState → (line text : List ℕ) → Judged
 judgedText k texts packet s line text =

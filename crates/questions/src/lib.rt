@@ -40,6 +40,7 @@ fn judge_step(
     let stepped = limit_step(tables, packet, text, state);
     let after = stepped.state;
     let cells = [0u16; 0];
+    let positions = [0u16; 0];
     let verdict = compare(
         name,
         number,
@@ -47,6 +48,7 @@ fn judge_step(
         say_stepped(stepped),
         table_at(tables, 7),
         &cells,
+        &positions,
     );
     Judged {
         verdict,
@@ -72,8 +74,17 @@ fn judge_question(
         return judge_row(name, number, text, line);
     }
     let cells = [0u16; 0];
+    let positions = [0u16; 0];
     let answer = answer_to(k, tables, packet, text);
-    compare(name, number, line, answer, table_at(tables, 7), &cells)
+    compare(
+        name,
+        number,
+        line,
+        answer,
+        table_at(tables, 7),
+        &cells,
+        &positions,
+    )
 }
 
 fn judge_text(

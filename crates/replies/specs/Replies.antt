@@ -19,18 +19,21 @@ use Rattle.answers.specs.declared.answer.Answer.{Answer}
 use Rattle.answers.specs.Hexadecimal.{hexDigit, hexadecimal, doubleAnswer}
 use Rattle.answers.specs.Answers.{composed, saying, refusing, wordsAnswer, integerAnswer, one, two}
 
--- the counts of rows and of good rows, and each row's cell
+-- the counts of rows and of good rows, and each row's cell with its position
 unfoldable pub importedAnswer : import.Imported → Answer
 importedAnswer (import.refused n place) = refusing n place
 importedAnswer (import.taken rows good) = composed (ascii "# rows, # good:") false (two rows good) 0 0 rows
 
--- the cell of a table's only row
-unfoldable pub cellAnswer : ℕ → Answer
-cellAnswer cell = cond (eqb cell 0) (wordsAnswer (ascii "good")) (saying (ascii "#:#") false (two (cell / 256) (cell % 256)))
+-- the cell of a table's only row, with its position where that isn't 0
+unfoldable pub cellAnswer : (cell position : ℕ) → Answer
+cellAnswer cell position =
+    cond (eqb position 0)
+    (cond (eqb cell 0) (wordsAnswer (ascii "good")) (saying (ascii "#:#") false (two (cell / 256) (cell % 256))))
+    (saying (ascii "#:#@#") false (cell / 256 ∷ cell % 256 ∷ position ∷ 0 ∷ 0 ∷ 0 ∷ 0 ∷ []))
 
-unfoldable pub onlyAnswer : import.Imported → ℕ → Answer
-onlyAnswer (import.refused n place) cell = refusing n place
-onlyAnswer (import.taken rows good) cell = cellAnswer cell
+unfoldable pub onlyAnswer : import.Imported → (cell position : ℕ) → Answer
+onlyAnswer (import.refused n place) cell position = refusing n place
+onlyAnswer (import.taken rows good) cell position = cellAnswer cell position
 
 -- the answer to a question of a packet: its refusal, or what is said of what it answers
 unfoldable pub replyOf : {A : Type 0} → (A → Answer) → Outcome A → Answer
@@ -67,11 +70,12 @@ stateAnswer s = saying (ascii "APID #, count #, run #, announced #") false (s .a
 
 pub record Examples : Type 0 where
   -- 01: "cells 2567, 2817, 2817"
-  pub cell : cellAnswer 2567 ≡ saying (ascii "#:#") false (two 10 7)
+  pub cell : cellAnswer 2567 0 ≡ saying (ascii "#:#") false (two 10 7)
+  pub position : cellAnswer 3330 2 ≡ saying (ascii "#:#@#") false (13 ∷ 2 ∷ 2 ∷ 0 ∷ 0 ∷ 0 ∷ 0 ∷ [])
   pub reading : replyOf readingAnswer (answer (record { value = number (negsuc 7); valid = true })) ≡ saying (ascii "#, valid") true (one 8)
   pub half : replyOf engineeredAnswer (answer (double (ofBits binary64 0x3FE0000000000000))) ≡ wordsAnswer (ascii "double 3FE0000000000000")
   pub refusal : replyOf engineeredAnswer (refused 30 0) ≡ refusing 30 0
 
 pub examples : Examples
 unfolding cellAnswer replyOf readingAnswer rawAnswer engineeredAnswer doubleAnswer hexadecimal hexDigit toBits ofBits
-examples = record { cell = refl; reading = refl; half = refl; refusal = refl }
+examples = record { cell = refl; position = refl; reading = refl; half = refl; refusal = refl }

@@ -1,5 +1,5 @@
--- The cells as the import leaves them.
-use Rattle.cell_questions.specs.CellReplies.{importVerdict}
+-- The cells and positions as the import leaves them.
+use Rattle.cell_questions.specs.CellReplies.{leftVerdict, importVerdict}
 use borrow.Author.Needs.{needs}
 use Rattle.cell_questions.proofs.import_into.Statement.{statement}
 use Rattle.cell_questions.proofs.import_into.Tie as tie
@@ -19,8 +19,11 @@ compare-requires c κs = search needs
 same-length : tie.Need-same-length
 same-length c = search needs
 
+same-length-2 : tie.Need-same-length-2
+same-length-2 c = search needs
+
 returns : tie.Need-returns
-unfolding importVerdict
+unfolding importVerdict leftVerdict
 returns c = cc
 
 pub import-into-spec : {M : Type 1} → statement M
@@ -32,4 +35,5 @@ import-into-spec =
     table-at-requires
     compare-requires
     same-length
+    same-length-2
     returns)

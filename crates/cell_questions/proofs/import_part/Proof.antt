@@ -1,4 +1,4 @@
--- The part that is lent.
+-- The parts that are lent.
 use native.Mathlib.Omega.{arith}
 use lib.ListN.{length-take}
 use borrow.Author.Needs.{needs}
@@ -9,15 +9,24 @@ slice-relend-prefix-import-into : tie.Need-slice-relend-prefix-import-into
 slice-relend-prefix-import-into c = search needs
 
 slice-aggregate-import-into : tie.Need-slice-aggregate-import-into
-slice-aggregate-import-into c = let room = c .before .before .before .before .args .room in
-    let cells = c .before .before .before .before .args .cells .now in
-    omega (arith, length-take room cells)
+slice-aggregate-import-into c = let a = c .before .before .before .before .before .args in
+    omega (arith, length-take (a .room) (a .cells .now))
+
+slice-relend-prefix-import-into-2 : tie.Need-slice-relend-prefix-import-into-2
+slice-relend-prefix-import-into-2 c = search needs
+
+slice-aggregate-import-into-2 : tie.Need-slice-aggregate-import-into-2
+slice-aggregate-import-into-2 c = let a = c .before .before .before .before .before .before .args in
+    omega (arith, length-take (a .more) (a .positions .now))
 
 import-into-requires : tie.Need-import-into-requires
 import-into-requires c κs = search needs
 
 same-length : tie.Need-same-length
 same-length c = search needs
+
+same-length-2 : tie.Need-same-length-2
+same-length-2 c = search needs
 
 returns : tie.Need-returns
 returns c = search needs
@@ -28,6 +37,9 @@ import-part-spec =
     (tie.spec
     slice-relend-prefix-import-into
     slice-aggregate-import-into
+    slice-relend-prefix-import-into-2
+    slice-aggregate-import-into-2
     import-into-requires
     same-length
+    same-length-2
     returns)

@@ -1,4 +1,4 @@
--- All cells are blank at first.
+-- All cells and positions are blank at first.
 use Rattle.cell_questions.specs.CellReplies.{blankCells, importReply}
 use borrow.Author.Needs.{needs}
 use Rattle.cell_questions.proofs.judge_import.Statement.{statement}

@@ -50,20 +50,26 @@ mul-tables c = search needs
 array-set-from-tables : tie.Need-array-set-from-tables
 array-set-from-tables c = search needs
 
+slice-aggregate-row-into : tie.Need-slice-aggregate-row-into
+slice-aggregate-row-into c = search needs
+
+slice-aggregate-row-into-2 : tie.Need-slice-aggregate-row-into-2
+slice-aggregate-row-into-2 c = search needs
+
 row-into-requires : tie.Need-row-into-requires
 row-into-requires c κs = search needs
 
 returns-3 : tie.Need-returns-3
 unfolding blankCells
-returns-3 c = let part3-is = c .before .before .part3 .ensures in
-    let part2-is = c .before .before .before .part2 .ensures in
-    let at7 = c .before .before .before .before .before .before in
+returns-3 c = let asked = c .before .before in
+    let row = asked .before .before .before in
+    let at7 = row .before .before .before .before in
     let setting-of = at7 .setting-of .result in
     let a = at7 .before .before .before .before .before .before .args in
     let f = at7 .before .before .find-byte in
-    c .row-into .ensures ∙ row-asked _ _ _ (place at7) _ (omega arith) (omega (arith, f .ensures .0))
-    (only-is _ _ _ part2-is ∙ ap (onlyTable setting-of)
-    (part3-is ∙ part-rest (a .text .now) (f .result + 1) (length (a .text .now)) (omega arith)
+    asked .row-into .ensures ∙ row-asked _ _ _ (place at7) _ (omega arith) (omega (arith, f .ensures .0))
+    (only-is _ _ _ (row .before .part2 .ensures) ∙ ap (onlyTable setting-of)
+    (row .part3 .ensures ∙ part-rest (a .text .now) (f .result + 1) (length (a .text .now)) (omega arith)
     ∙ ap (λ (n : ℕ). drop (n + 1) (a .text .now)) (f .ensures .0)))
 
 pub judge-row-spec : {M : Type 1} → statement M
@@ -80,5 +86,7 @@ judge-row-spec =
     part-requires-3
     mul-tables
     array-set-from-tables
+    slice-aggregate-row-into
+    slice-aggregate-row-into-2
     row-into-requires
     returns-3)

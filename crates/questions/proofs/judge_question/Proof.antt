@@ -28,12 +28,16 @@ table-at-requires c κs = search needs
 slice-aggregate-compare : tie.Need-slice-aggregate-compare
 slice-aggregate-compare c = search needs
 
+slice-aggregate-compare-2 : tie.Need-slice-aggregate-compare-2
+slice-aggregate-compare-2 c = search needs
+
 compare-requires : tie.Need-compare-requires
 compare-requires c κs = search needs
 
 returns-3 : tie.Need-returns-3
 unfolding questionVerdict
-returns-3 c = rw (ne-eqb _ 0 (c .before .before .before .before .before .if1 .left), ne-eqb _ 1 (c .before .before .before .before .if2 .left)) (cc)
+returns-3 c = let other = c .before .before .before .before .before in
+    rw (ne-eqb _ 0 (other .before .if1 .left), ne-eqb _ 1 (other .if2 .left)) (cc)
 
 pub judge-question-spec : {M : Type 1} → statement M
 judge-question-spec =
@@ -46,5 +50,6 @@ judge-question-spec =
     answer-to-requires
     table-at-requires
     slice-aggregate-compare
+    slice-aggregate-compare-2
     compare-requires
     returns-3)

@@ -17,6 +17,9 @@ table-at-requires c κs = search needs
 slice-aggregate-compare : tie.Need-slice-aggregate-compare
 slice-aggregate-compare c = search needs
 
+slice-aggregate-compare-2 : tie.Need-slice-aggregate-compare-2
+slice-aggregate-compare-2 c = search needs
+
 compare-requires : tie.Need-compare-requires
 compare-requires c κs = search needs
 
@@ -32,5 +35,6 @@ judge-step-spec =
     say-stepped-requires
     table-at-requires
     slice-aggregate-compare
+    slice-aggregate-compare-2
     compare-requires
     returns)

@@ -8,10 +8,10 @@ use Rattle.answers.proofs.difference.say_cells.Statement.{statement}
 use Rattle.answers.proofs.difference.say_cells.Tie as tie
 
 abbrev Inv-loop : tie.InvT-loop
-Inv-loop cells n i₀ i-end i = (i-end ≡ length cells) × (i ≤ i-end)
+Inv-loop cells positions n i₀ i-end i = (i-end ≡ length cells) × (i ≤ i-end)
 
 abbrev μ-loop : tie.MeasureT-loop
-μ-loop cells n i₀ i-end i = i-end - i
+μ-loop cells positions n i₀ i-end i = i-end - i
 
 loop-holds : tie.Need-loop-holds Inv-loop μ-loop
 loop-holds c = (refl, omega arith)
@@ -24,6 +24,15 @@ shared-slice-read-say-cell c = omega arith
 
 say-cell-requires : tie.Need-say-cell-requires Inv-loop μ-loop
 say-cell-requires c κs = tt
+
+mul-say-position : tie.Need-mul-say-position Inv-loop μ-loop
+mul-say-position c = search needs
+
+shared-slice-read-say-position : tie.Need-shared-slice-read-say-position Inv-loop μ-loop
+shared-slice-read-say-position c = omega arith
+
+say-position-requires : tie.Need-say-position-requires Inv-loop μ-loop
+say-position-requires c κs = tt
 
 add-i : tie.Need-add-i Inv-loop μ-loop
 add-i c = omega arith
@@ -47,6 +56,9 @@ say-cells-spec =
     mul-say-cell
     shared-slice-read-say-cell
     say-cell-requires
+    mul-say-position
+    shared-slice-read-say-position
+    say-position-requires
     add-i
     loop-less
     loop-again
