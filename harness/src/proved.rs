@@ -30,7 +30,9 @@ extern "C" {
 }
 
 questions! {
-    petrolyaz_import(cells: *mut u16, cells_length: usize);
+    petrolyaz_import(
+        cells: *mut u16, cells_length: usize, positions: *mut u16, positions_length: usize
+    );
     petrolyaz_identify(packet: *const u8, packet_length: usize);
     petrolyaz_extract(
         packet: *const u8, packet_length: usize, name: *const u8, name_length: usize, occurrence: usize
@@ -62,8 +64,9 @@ macro_rules! ask {
     }};
 }
 
-pub fn import(tables: &Tables, cells: &mut [u16], places: Places) -> Answer {
-    ask!(petrolyaz_import, tables, places, cells.as_mut_ptr(), cells.len())
+pub fn import(tables: &Tables, cells: &mut [u16], positions: &mut [u16], places: Places) -> Answer {
+    let (cells, cells_length) = (cells.as_mut_ptr(), cells.len());
+    ask!(petrolyaz_import, tables, places, cells, cells_length, positions.as_mut_ptr(), positions.len())
 }
 
 pub fn identify(tables: &Tables, packet: &[u8], places: Places) -> Answer {

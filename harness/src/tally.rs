@@ -3,8 +3,9 @@
 use std::collections::BTreeMap;
 use std::fmt;
 
+use crate::reference::faults::Position;
 use crate::reference::judging::TABLES;
-use crate::reference::schemas::{verdict, Kind, Verdict, GOOD, SCHEMAS};
+use crate::reference::schemas::{verdict, Column, Kind, Verdict, GOOD, SCHEMAS};
 
 pub const TABLE_NAMES: [&str; TABLES] =
     ["pid", "pic", "plf", "pcf", "caf", "cap", "txf", "txp", "ocf", "ocp", "mcf"];
@@ -58,12 +59,28 @@ fn possible_verdicts(table: usize) -> Vec<Verdict> {
     for (at, column) in SCHEMAS[table].iter().enumerate() {
         let numbers = matches!(column.kind, Kind::Number { .. } | Kind::Coefficient);
         let letters = matches!(column.kind, Kind::Letter(_));
-        let reasons = [(4, column.mandatory), (5, true), (6, numbers || letters), (7, numbers)];
+        let reasons =
+            [(4, column.mandatory), (5, true), (6, numbers), (13, numbers), (14, letters), (7, numbers)];
         let possible = reasons.iter().filter(|(_, possible)| *possible);
         verdicts.extend(possible.map(|(reason, _)| verdict(*reason, at as u16 + 1)));
     }
     verdicts.extend(LATER[table].iter().map(|(reason, column)| verdict(*reason, *column)));
     verdicts
+}
+
+/// Every position that a column can have, with its reason: 6 is one past its texts, and 13 at any character, of a
+/// coefficient also one past the last.
+fn possible_positions(column: &Column) -> Vec<(u16, Position)> {
+    let wide = column.width as Position;
+    let wrong = |last: Position| (1..=last).map(|position| (13, position));
+    match column.kind {
+        Kind::Text | Kind::Letter(_) => Vec::new(),
+        Kind::Coefficient => wrong(wide + 1).chain([(6, 2)]).collect(),
+        Kind::Number { .. } => {
+            let bare = (2..=3).filter(|&position| position <= wide + 1);
+            wrong(wide).chain(bare.map(|position| (6, position))).collect()
+        }
+    }
 }
 
 /// What replacing single lines did to the other rows.
@@ -81,15 +98,20 @@ pub struct Tally {
     pub rows: u64,
     pub replaced: Replaced,
     verdicts: BTreeMap<(usize, Verdict), u64>,
+    /// The positions that aren't 0, each with its table and verdict.
+    positions: BTreeMap<(usize, Verdict, Position), u64>,
     results: BTreeMap<(Question, u64), u64>,
     first_tables: BTreeMap<(u64, u64), u64>,
     answers: BTreeMap<(Question, &'static str), u64>,
 }
 
 impl Tally {
-    pub fn verdict(&mut self, table: usize, verdict: Verdict) {
+    pub fn verdict(&mut self, table: usize, verdict: Verdict, position: Position) {
         self.rows += 1;
         *self.verdicts.entry((table, verdict)).or_default() += 1;
+        if position != 0 {
+            *self.positions.entry((table, verdict, position)).or_default() += 1;
+        }
     }
 
     /// The result of a question: 0, or number × 2^32 + place.
@@ -117,6 +139,7 @@ impl Tally {
         self.replaced.leaning += other.replaced.leaning;
         self.replaced.leaning_changed += other.replaced.leaning_changed;
         sum(&mut self.verdicts, other.verdicts);
+        sum(&mut self.positions, other.positions);
         sum(&mut self.results, other.results);
         sum(&mut self.first_tables, other.first_tables);
         sum(&mut self.answers, other.answers);
@@ -135,6 +158,7 @@ impl Tally {
             missing.extend(
                 verdicts.map(|verdict| format!("{name}: reason {} column {}", verdict / 256, verdict % 256)),
             );
+            missing.extend(self.missing_positions(table));
         }
         for question in QUESTIONS {
             let never = |number: &u64| !self.results.contains_key(&(question, *number));
@@ -151,6 +175,18 @@ impl Tally {
         missing
     }
 
+    fn missing_positions(&self, table: usize) -> Vec<String> {
+        let possible = |(at, column): (usize, &Column)| {
+            let at = at as u16 + 1;
+            possible_positions(column).into_iter().map(move |(reason, position)| (reason, at, position))
+        };
+        let met = |reason, at, position| self.positions.contains_key(&(table, verdict(reason, at), position));
+        let positions = SCHEMAS[table].iter().enumerate().flat_map(possible);
+        let never = positions.filter(|&(reason, at, position)| !met(reason, at, position));
+        let name = TABLE_NAMES[table];
+        never.map(|(reason, at, position)| format!("{name}: {reason}:{at}@{position}")).collect()
+    }
+
     fn reason_count(&self, table: usize, reason: u16) -> u64 {
         let range = (table, verdict(reason, 0))..(table, verdict(reason + 1, 0));
         self.verdicts.range(range).map(|(_, count)| count).sum()
@@ -161,11 +197,15 @@ impl Tally {
     fn show_reasons(&self, out: &mut fmt::Formatter) -> fmt::Result {
         write!(out, "\nreason")?;
         TABLE_NAMES.iter().try_for_each(|name| write!(out, "{name:>8}"))?;
-        for reason in (0..=10).chain([12, 11]) {
+        for reason in (0..=6).chain([13, 14]).chain(7..=10).chain([12, 11]) {
             write!(out, "\n{reason:6}")?;
             (0..TABLES).try_for_each(|table| write!(out, "{:8}", self.reason_count(table, reason)))?;
         }
-        writeln!(out, "\n{} different verdicts (table, reason, column)", self.verdicts.len())
+        let (verdicts, positions) = (self.verdicts.len(), self.positions.len());
+        writeln!(
+            out,
+            "\n{verdicts} different verdicts (table, reason, column), {positions} with their positions"
+        )
     }
 
     fn show_results(&self, out: &mut fmt::Formatter) -> fmt::Result {

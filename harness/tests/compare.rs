@@ -19,7 +19,7 @@ use harness::reference::packets::{extract, identify, Raw, Reading};
 use harness::reference::reach::reaching;
 use harness::reference::rows::Ocf;
 use harness::reference::values::{engineer, Value};
-use harness::reference::{self, Judged, Refusal, Tables};
+use harness::reference::{self, Imported, Judged, Refusal, Tables};
 use harness::tally::{Question, Tally};
 
 const SMALL_SETS: u64 = 40_000;
@@ -33,7 +33,10 @@ const PACKETS: u64 = 3;
 const STACK: usize = 4 << 20;
 
 /// The kinds of answers that must occur.
-const ANSWERS: [(Question, &str); 17] = [
+const ANSWERS: [(Question, &str); 20] = [
+    (Question::Import, FEW_CELLS),
+    (Question::Import, FEW_POSITIONS),
+    (Question::Import, FEW_OF_BOTH),
     (Question::Import, SHARED_CURVE),
     (Question::Import, SHARED_POLYNOMIAL),
     (Question::Import, POINT),
@@ -54,6 +57,11 @@ const ANSWERS: [(Question, &str); 17] = [
 ];
 
 const NO_STATE: &str = "numbers that are no state";
+
+/// What refusal 3 doesn't tell.
+const FEW_CELLS: &str = "too few cells alone";
+const FEW_POSITIONS: &str = "too few positions alone";
+const FEW_OF_BOTH: &str = "too few cells and positions";
 
 /// What the columns of a verdict don't tell.
 const SHARED_CURVE: &str = "caf and mcf rows of one key";
@@ -103,10 +111,13 @@ fn hostile_tables_get_the_same_cells() {
     let judge = || {
         for (title, set) in &hostile_sets() {
             let tables = borrowed(set);
-            let by_reference = reference::import(&tables, MOST_CELLS);
-            let mut cells = vec![0; MOST_CELLS];
-            assert_eq!(proved::import(&tables, &mut cells, [0; 8]), answer(&by_reference, [0; 8]), "{title}");
-            assert_eq!(cells, by_reference.expect("the tables are taken").cells, "{title}");
+            let by_reference = reference::import(&tables, MOST_CELLS, MOST_CELLS);
+            let (mut cells, mut positions) = (vec![7; MOST_CELLS], vec![7; MOST_CELLS]);
+            let library = proved::import(&tables, &mut cells, &mut positions, [0; 8]);
+            assert_eq!(library, answer(&by_reference, [0; 8]), "{title}");
+            let imported = by_reference.expect("the tables are taken");
+            assert_eq!(cells, imported.cells, "{title}");
+            assert_eq!(positions, imported.positions, "{title}");
         }
     };
     Builder::new().stack_size(STACK).spawn(judge).expect("a thread").join().expect("no cell differs");
@@ -213,36 +224,67 @@ impl<'s> Comparison<'s> {
         }
     }
 
-    /// Imports with enough cells, with more, or with too few.
+    /// Imports with enough cells and positions, with more, or with too few of either or of both.
     fn imports(&mut self, tables: &Tables) {
         let rows: usize = tables.iter().map(|table| count_lines(table)).sum();
-        let room = match self.random.below(20) {
-            0..=9 => rows,
-            10..=16 => rows + 1 + self.random.below(20),
-            17 => rows.saturating_sub(1),
-            _ => self.random.below(rows + 1),
+        let [cells, positions] = match self.random.below(20) {
+            0..=8 => [rows; 2],
+            9..=16 => [self.more(rows), self.more(rows)],
+            17 => [self.fewer(rows), self.more(rows)],
+            18 => [self.more(rows), self.fewer(rows)],
+            _ => [self.fewer(rows), self.fewer(rows)],
         };
-        if let Ok(imported) = self.import(tables, room) {
-            let owners = (0..TABLES).flat_map(|table| vec![table; count_lines(tables[table])]);
-            owners.zip(&imported).for_each(|(table, &cell)| self.tally.verdict(table, cell));
+        match self.import(tables, cells, positions) {
+            Ok(imported) => {
+                let owners = (0..TABLES).flat_map(|table| vec![table; count_lines(tables[table])]);
+                let told = owners.zip(imported.cells.iter().zip(&imported.positions));
+                told.for_each(|(table, (&cell, &position))| self.tally.verdict(table, cell, position));
+            }
+            Err(Refusal { number: 3, .. }) => {
+                let kind = match (cells < rows, positions < rows) {
+                    (true, true) => FEW_OF_BOTH,
+                    (true, false) => FEW_CELLS,
+                    _ => FEW_POSITIONS,
+                };
+                self.tally.answer(Question::Import, kind);
+            }
+            Err(_) => {}
         }
     }
 
-    /// The answer, the cells of the rows and the cells past them, or all untouched.
-    fn import(&mut self, tables: &Tables, room: usize) -> Result<Vec<u16>, Refusal> {
-        let before: Vec<u16> = (0..room).map(|_| self.random.word() as u16).collect();
+    /// So many, or a few more.
+    fn more(&mut self, rows: usize) -> usize {
+        rows + self.random.below(20)
+    }
+
+    /// One less, or any smaller number, as far as there is one.
+    fn fewer(&mut self, rows: usize) -> usize {
+        match self.random.chance(40) {
+            true => rows.saturating_sub(1),
+            false => self.random.below(rows),
+        }
+    }
+
+    /// Cells or positions that hold anything.
+    fn words(&mut self, count: usize) -> Vec<u16> {
+        (0..count).map(|_| self.random.word() as u16).collect()
+    }
+
+    /// The answer, and the cells and positions of the rows and those past them, or all untouched.
+    fn import(&mut self, tables: &Tables, cells: usize, positions: usize) -> Result<Imported, Refusal> {
+        let (mut cells, mut positions) = (self.words(cells), self.words(positions));
+        let (mut new_cells, mut new_positions) = (cells.clone(), positions.clone());
         let places = self.places();
-        let mut cells = before.clone();
-        let library = proved::import(tables, &mut cells, places);
-        let imported = reference::import(tables, room);
-        let mut expected = before;
+        let library = proved::import(tables, &mut new_cells, &mut new_positions, places);
+        let imported = reference::import(tables, cells.len(), positions.len());
         if let Ok(imported) = &imported {
-            expected[..imported.cells.len()].copy_from_slice(&imported.cells);
+            imported.write(&mut cells, &mut positions);
         }
         self.check("import's answer", library, answer(&imported, places));
-        self.check("import's cells", &cells, &expected);
+        self.check("import's cells", &new_cells, &cells);
+        self.check("import's positions", &new_positions, &positions);
         self.tally.result(Question::Import, library.result);
-        imported.map(|imported| imported.cells)
+        imported
     }
 
     fn packet_questions(&mut self, tables: &Tables, judged: &Result<Judged, Refusal>) {
@@ -332,23 +374,25 @@ impl<'s> Comparison<'s> {
         }
     }
 
-    /// Demand 3: a row that reaches a replaced line neither in the old tables nor in the new keeps its verdict.
+    /// Demand 3: a row that reaches a replaced line neither in the old tables nor in the new keeps its verdict and its
+    /// position.
     fn replaced_line(&mut self, judged: &Judged) {
         let Some((changed, line)) = self.with_replaced_line() else { return };
         let new_tables = borrowed(&changed);
         let Ok(new_judged) = reference::judged(&new_tables) else { return };
         let rows = judged.cells().len();
-        let old = self.import(&borrowed(self.set), rows).expect("the old tables are taken");
-        let new = self.import(&new_tables, rows).expect("the new tables are taken");
+        let old = self.import(&borrowed(self.set), rows, rows).expect("the old tables are taken");
+        let new = self.import(&new_tables, rows, rows).expect("the new tables are taken");
+        let told = |imported: &Imported, row: usize| (imported.cells[row], imported.positions[row]);
         let (from_old, from_new) = (reaching(judged, line), reaching(&new_judged, line));
         self.tally.replaced.lines += 1;
         for row in (0..rows).filter(|&row| row != line) {
             if from_old[row] || from_new[row] {
                 self.tally.replaced.leaning += 1;
-                self.tally.replaced.leaning_changed += u64::from(old[row] != new[row]);
+                self.tally.replaced.leaning_changed += u64::from(told(&old, row) != told(&new, row));
             } else {
                 self.tally.replaced.apart += 1;
-                self.check(&format!("row {row} without line {line}"), new[row], old[row]);
+                self.check(&format!("row {row} without line {line}"), told(&new, row), told(&old, row));
             }
         }
     }

@@ -3,8 +3,12 @@
 use std::collections::BTreeMap;
 use std::thread::Builder;
 
+use harness::answers::Answer;
+use harness::reference::limits::State;
+use harness::reference::Tables;
 use harness::vectors::asked::{Asked, Library, Reference};
 use harness::vectors::run::run;
+use harness::vectors::script::Inner;
 use harness::vectors::{scripts, Script};
 
 /// 2 MiB that the library asks for, and room for the rest.
@@ -85,6 +89,13 @@ fn a_line_that_cannot_be_read_is_told() {
         " import",
         "import x",
         "import 11265",
+        "import 11265|1",
+        "import 1|11265",
+        "import 1|x",
+        "import 1|",
+        "import |1",
+        "import 1|1|1",
+        "import -1|1",
         "row pid",
         "row pix|1",
         "extract A|x",
@@ -118,4 +129,61 @@ fn a_line_that_cannot_be_read_is_told() {
 fn what_does_not_fit_is_told() {
     assert_eq!(different_lines("fill pid|65537|41\nfill pid|1|41\n"), [2]);
     assert_eq!(different_lines("fill packet|65537|41\npacket+ 41\npacket 41\n"), [2]);
+}
+
+/// The reference, but for what it leaves in import's cells and positions.
+struct Tampered(fn(&mut [u16], &mut [u16]));
+
+impl Asked for Tampered {
+    fn import(&self, tables: &Tables, cells: &mut [u16], positions: &mut [u16]) -> Answer {
+        let answer = Reference.import(tables, cells, positions);
+        (self.0)(cells, positions);
+        answer
+    }
+
+    fn identify(&self, tables: &Tables, packet: &[u8]) -> Answer {
+        Reference.identify(tables, packet)
+    }
+
+    fn extract(&self, tables: &Tables, packet: &[u8], name: &[u8], occurrence: usize) -> Answer {
+        Reference.extract(tables, packet, name, occurrence)
+    }
+
+    fn engineer(&self, tables: &Tables, packet: &[u8], name: &[u8], occurrence: usize) -> Answer {
+        Reference.engineer(tables, packet, name, occurrence)
+    }
+
+    fn step(&self, tables: &Tables, packet: &[u8], name: &[u8], state: State) -> Answer {
+        Reference.step(tables, packet, name, state)
+    }
+
+    fn inner(&self, question: &Inner, packet: &[u8]) -> Option<String> {
+        Reference.inner(question, packet)
+    }
+}
+
+/// Rows of reasons 13 and 11, imported with room and without, and one of them by itself.
+const MISSPELT: &str = "cap C1|08|0\ncap C1|0|0\nimport 4\n= 2 rows, 0 good: 13:2@2 11:1\n\
+    import 1\n= refused 3 at 0\nrow cap|C1|08|0\n= 13:2@2\n";
+
+fn tampered_lines(tamper: fn(&mut [u16], &mut [u16])) -> Vec<usize> {
+    run(MISSPELT.as_bytes(), &Tampered(tamper)).differences.into_iter().map(|(line, _)| line).collect()
+}
+
+#[test]
+fn a_cell_or_position_that_differs_is_told() {
+    const UNWRITTEN: u16 = 0xFFFF;
+    assert_eq!(tampered_lines(|_, _| {}), []);
+    // Touched after a refusal, wrong, missing, and not written
+    assert_eq!(tampered_lines(|cells, _| cells[0] = 0), [4, 6, 8]);
+    assert_eq!(tampered_lines(|_, positions| positions[0] = 3), [4, 6, 8]);
+    assert_eq!(tampered_lines(|_, positions| positions[0] = 0), [4, 6, 8]);
+    assert_eq!(tampered_lines(|_, positions| positions.fill(UNWRITTEN)), [4, 8]);
+    // Where no position should be, and behind the rows
+    assert_eq!(tampered_lines(|_, positions| positions[1..].iter_mut().take(1).for_each(|p| *p = 1)), [4, 8]);
+    assert_eq!(
+        tampered_lines(|_, positions| positions.iter_mut().skip(3).take(1).for_each(|p| *p = 0)),
+        [4, 8]
+    );
+    assert_eq!(tampered_lines(|cells, _| cells.iter_mut().skip(3).take(1).for_each(|c| *c = 0)), [4, 8]);
 }

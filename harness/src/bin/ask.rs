@@ -33,7 +33,7 @@ fn main() {
 fn ask(question: &str, tables: &Tables, packet: &[u8], name: &[u8]) -> Option<Answer> {
     let places = [0; 8];
     Some(match question {
-        "import" => proved::import(tables, &mut [0; MOST_CELLS], places),
+        "import" => proved::import(tables, &mut [0; MOST_CELLS], &mut [0; MOST_CELLS], places),
         "identify" => proved::identify(tables, packet, places),
         "extract" => proved::extract(tables, packet, name, 1, places),
         "engineer" | "polynomial" => proved::engineer(tables, packet, name, 1, places),

@@ -38,7 +38,7 @@ fn main() {
 }
 
 fn head(title: &str, tables: &Tables) {
-    let imported = import(tables, MOST_CELLS).expect("the tables are taken");
+    let imported = import(tables, MOST_CELLS, MOST_CELLS).expect("the tables are taken");
     let bytes: usize = tables.iter().map(|table| table.len()).sum();
     println!("\n{title}: {bytes} bytes, {} rows, {} good", imported.cells.len(), imported.good);
     println!("{:10} {:>21} {:>21} {:>15} {:>21}", "", "library", "reference", "ratio", "ref., judged once");
@@ -81,9 +81,10 @@ fn measure_all(tables: &Tables, shape: Shape, rounds: usize) {
 }
 
 fn measure_import(tables: &Tables, rounds: usize) {
-    let mut cells = vec![0u16; MOST_CELLS];
-    let by_library = || proved::import(tables, &mut cells, NO_PLACES);
-    measure("import", rounds, by_library, || answer(&import(tables, MOST_CELLS), NO_PLACES), None);
+    let (mut cells, mut positions) = (vec![0u16; MOST_CELLS], vec![0u16; MOST_CELLS]);
+    let by_library = || proved::import(tables, &mut cells, &mut positions, NO_PLACES);
+    let by_reference = || answer(&import(tables, MOST_CELLS, MOST_CELLS), NO_PLACES);
+    measure("import", rounds, by_library, by_reference, None);
 }
 
 /// A packet question: the reference judges the tables in it, and once apart from it.

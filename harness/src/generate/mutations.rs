@@ -1,10 +1,10 @@
 //! Mistakes: of columns, rows, names and bytes.
 
-use super::spelling::{coefficient, number, text};
+use super::spelling::{coefficient, misspelt_coefficient, misspelt_number, number, text};
 use super::{row, ByteSet, Columns, RowSet, CAF, CAP, MCF, OCF, OCP, PCF, PIC, PID, PLF, TXF, TXP};
 use crate::random::Random;
 use crate::reference::judging::TABLES;
-use crate::reference::schemas::{Kind, SCHEMAS};
+use crate::reference::schemas::{Column, Kind, SCHEMAS};
 
 /// Texts that look like numbers, most of them none.
 const SPELLINGS: [&[u8]; 16] = [
@@ -67,7 +67,8 @@ const TWINS: [(usize, Texts); 3] =
 /// One mistake in the rows.
 pub fn mutate_rows(random: &mut Random, rows: &mut RowSet) {
     let table = random.below(TABLES);
-    match random.below(20) {
+    match random.below(24) {
+        20..=23 => misspell(random, rows),
         0..=5 => change_column(random, rows, table),
         6 => twins(random, rows),
         7 => clash(random, rows),
@@ -98,6 +99,25 @@ fn change_column(random: &mut Random, rows: &mut RowSet, table: usize) {
     let column = column_of(random, table);
     let changed = column_text(random, table, column);
     put(&mut rows[table][at], column + 1, changed);
+}
+
+/// A number or a coefficient of any table goes wrong, each column alike.
+fn misspell(random: &mut Random, rows: &mut RowSet) {
+    let is_spelt = |column: &Column| matches!(column.kind, Kind::Number { .. } | Kind::Coefficient);
+    let spelt = |table: usize| (0..SCHEMAS[table].len()).filter(move |&at| is_spelt(&SCHEMAS[table][at]));
+    let all: Vec<(usize, usize)> =
+        (0..TABLES).flat_map(|table| spelt(table).map(move |at| (table, at))).collect();
+    let (table, column) = *random.pick(&all);
+    if rows[table].is_empty() {
+        return;
+    }
+    let at = random.below(rows[table].len());
+    let Column { width, kind, .. } = SCHEMAS[table][column];
+    let text = match kind {
+        Kind::Coefficient => misspelt_coefficient(random, width),
+        _ => misspelt_number(random, width),
+    };
+    put(&mut rows[table][at], column + 1, text);
 }
 
 /// A column of a table, mostly one with a rule beside its width.

@@ -69,6 +69,78 @@ fn exponent(random: &mut Random) -> String {
     format!("{}{plus}{zeros}{}", *random.pick(&["e", "E"]), value.abs())
 }
 
+/// What a text that goes wrong starts with, and the digits that may follow.
+type Start = (&'static str, &'static [u8]);
+
+const NUMBER_STARTS: [Start; 6] = [
+    ("1", DECIMAL),
+    ("", DECIMAL),
+    ("-9", DECIMAL),
+    ("0", b"01234567"),
+    ("0x", b"0123456789abcdefABCDEF"),
+    ("0X", b"0123456789abcdefABCDEF"),
+];
+
+const COEFFICIENT_STARTS: [Start; 8] = [
+    ("", DECIMAL),
+    ("0", DECIMAL),
+    ("-", DECIMAL),
+    ("2.", DECIMAL),
+    ("-3.5", DECIMAL),
+    ("1e", DECIMAL),
+    ("2.5E+", DECIMAL),
+    ("-7e-", DECIMAL),
+];
+
+const DECIMAL: &[u8] = b"0123456789";
+
+/// Characters that are wrong at most places, each in some.
+const WRONG: &[u8] = b"OG8x.-+ eE,_~l";
+
+/// A text for a column of numbers that goes wrong at one of its characters, any of them alike, or lacks digits.
+pub fn misspelt_number(random: &mut Random, width: usize) -> Vec<u8> {
+    let bare = *random.pick(&["-", "0x", "0X"]);
+    if random.chance(20) && bare.len() <= width {
+        return bare.as_bytes().to_vec();
+    }
+    let start = *random.pick(&NUMBER_STARTS);
+    misspelt(random, width, start)
+}
+
+/// The same of coefficients, which may also end where an exponent should go on.
+pub fn misspelt_coefficient(random: &mut Random, width: usize) -> Vec<u8> {
+    if random.chance(10) {
+        return b"-".to_vec();
+    }
+    if random.chance(30) {
+        let end = *random.pick(&["e", "E", "e+", "E-"]);
+        let length = random.below(width + 1 - end.len());
+        let mut text = begun(random, length, ("1", DECIMAL));
+        text.extend(end.bytes());
+        return text;
+    }
+    let start = *random.pick(&COEFFICIENT_STARTS);
+    misspelt(random, width, start)
+}
+
+/// A beginning of fewer characters than the column has, a wrong character, and whatever else fits.
+fn misspelt(random: &mut Random, width: usize, start: Start) -> Vec<u8> {
+    let length = random.below(width);
+    let mut text = begun(random, length, start);
+    text.push(*random.pick(WRONG));
+    let behind = random.below(width + 1 - text.len());
+    text.extend((0..behind).map(|_| *random.pick(b"0123456789OxeE.-+ ")));
+    text
+}
+
+/// A start and digits behind it, cut or drawn out to a length.
+fn begun(random: &mut Random, length: usize, (start, digits): Start) -> Vec<u8> {
+    let mut text = start.as_bytes().to_vec();
+    text.truncate(length);
+    text.extend((text.len()..length).map(|_| *random.pick(digits)));
+    text
+}
+
 /// Names that no two calls give alike, over few letters, so that many differ in one byte.
 #[derive(Default)]
 pub struct Names(std::collections::HashSet<Vec<u8>>);

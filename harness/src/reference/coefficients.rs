@@ -3,6 +3,8 @@
 //! The double is worked out over whole numbers, by shifts and one division with its remainder: no product or quotient
 //! of doubles, and no `str::parse`, has a part in it. The tests hold it against both.
 
+use super::faults::{misspelt, plain, Fault};
+
 /// 02, P1: "optional minus, digits, at least one, with an optional point among or after them, optionally e or E, a
 /// sign or none, and at least one digit".
 #[derive(Clone, Copy, Debug, PartialEq)]
@@ -18,12 +20,12 @@ pub struct Coefficient {
 const MOST_DIGITS: usize = 14;
 
 impl Coefficient {
-    /// 02, P1: "other text is reason 6. The exponent less the digits after the point must be −22 to 22, else reason 7."
-    pub fn read(text: &[u8]) -> Result<Coefficient, u16> {
-        let coefficient = parts(text).ok_or(6u16)?;
+    /// 02, P1: "The exponent less the digits after the point must be −22 to 22, else reason 7."
+    pub fn read(text: &[u8]) -> Result<Coefficient, Fault> {
+        let coefficient = parts(text).ok_or_else(|| misspelt_coefficient(text))?;
         match coefficient.power {
             -22..=22 => Ok(coefficient),
-            _ => Err(7),
+            _ => Err(plain(7)),
         }
     }
 
@@ -36,6 +38,11 @@ impl Coefficient {
             magnitude
         }
     }
+}
+
+/// Where a text that is no coefficient goes wrong: of the texts of reason 6 mcf has the minus alone.
+pub fn misspelt_coefficient(text: &[u8]) -> Fault {
+    misspelt(text, &[b"-"], |text| parts(text).is_some())
 }
 
 fn parts(text: &[u8]) -> Option<Coefficient> {
@@ -124,18 +131,20 @@ mod tests {
     use crate::random::Random;
 
     fn bits(text: &str) -> Result<u64, u16> {
-        Coefficient::read(text.as_bytes()).map(|coefficient| coefficient.double().to_bits())
+        let read = Coefficient::read(text.as_bytes()).map_err(|fault| fault.reason);
+        read.map(|coefficient| coefficient.double().to_bits())
     }
 
     #[test]
     fn texts_that_are_none() {
         for text in [
-            "", "-", ".", ".5", "-.5", "+1", "--1", "1e", "1E", "1e+", "1e-", "1..2", "1.2.3", "1 ", " 1",
-            "0x1", "1e1.", "1e 5", "e5", "-e5", "1,5", "1e++5", "1e+-5", "1ee5", "inf", "nan", "1_0", "1e5-",
-            "1-", "1-5",
+            "", ".", ".5", "-.5", "+1", "--1", "1e", "1E", "1e+", "1e-", "1..2", "1.2.3", "1 ", " 1", "0x1",
+            "1e1.", "1e 5", "e5", "-e5", "1,5", "1e++5", "1e+-5", "1ee5", "inf", "nan", "1_0", "1e5-", "1-",
+            "1-5",
         ] {
-            assert_eq!(bits(text), Err(6), "{text}");
+            assert_eq!(bits(text), Err(13), "{text}");
         }
+        assert_eq!(bits("-"), Err(6));
     }
 
     #[test]

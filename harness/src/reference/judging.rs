@@ -3,6 +3,7 @@
 use std::collections::HashMap;
 use std::hash::Hash;
 
+use super::faults::{Position, Unformed};
 use super::lines::{count_lines, lines};
 use super::refusals::{refuse_at, Refusal};
 use super::rows::{read_row, Caf, Cap, Mcf, Ocf, Ocp, Pcf, Pic, Pid, Plf, Record, Txf, Txp};
@@ -18,9 +19,10 @@ pub const MOST_CELLS: usize = TABLES * MOST_ROWS;
 /// pid, pic, plf, pcf, caf, cap, txf, txp, ocf, ocp, mcf.
 pub type Tables<'a> = [&'a [u8]; TABLES];
 
-/// A row's verdict, and its fields where it is well-formed: without reasons 1 to 8.
+/// A row's verdict and position, and its fields where it is well-formed: without reasons 1 to 8, 13 and 14.
 pub struct Row<T> {
     pub cell: Verdict,
+    pub position: Position,
     pub fields: Option<T>,
 }
 
@@ -50,13 +52,13 @@ pub struct Table<T, K> {
 }
 
 impl<'a, T: Record<'a>> Table<T, T::Key> {
-    /// Reasons 1 to 8.
+    /// Reasons 1 to 8, 13 and 14.
     fn read(bytes: &'a [u8]) -> Self {
         let mut columns = Columns::default();
         let rows: Vec<Row<T>> = lines(bytes)
             .map(|line| match read_row(line, &mut columns) {
-                Ok(fields) => Row { cell: GOOD, fields: Some(fields) },
-                Err(cell) => Row { cell, fields: None },
+                Ok(fields) => Row { cell: GOOD, position: 0, fields: Some(fields) },
+                Err(Unformed { cell, position }) => Row { cell, position, fields: None },
             })
             .collect();
         let index = index_by(&rows, T::key);
@@ -221,10 +223,10 @@ fn read<'a>(tables: &Tables<'a>) -> Judged<'a> {
 }
 
 impl<'a> Judged<'a> {
-    /// Every cell, in table order.
-    pub fn cells(&self) -> Vec<Verdict> {
-        fn of<T>(rows: &[Row<T>]) -> impl Iterator<Item = Verdict> + '_ {
-            rows.iter().map(|row| row.cell)
+    /// Every cell with its position, in table order.
+    pub fn cells(&self) -> Vec<(Verdict, Position)> {
+        fn of<T>(rows: &[Row<T>]) -> impl Iterator<Item = (Verdict, Position)> + '_ {
+            rows.iter().map(|row| (row.cell, row.position))
         }
         let packets = of(&self.pid.rows).chain(of(&self.pic.rows)).chain(of(&self.plf.rows));
         let curves = of(&self.caf.rows).chain(of(&self.cap.rows));

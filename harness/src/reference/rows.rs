@@ -3,9 +3,10 @@
 use std::hash::Hash;
 
 use super::coefficients::Coefficient;
+use super::faults::Unformed;
 use super::lines::Line;
 use super::polynomials::Polynomial;
-use super::schemas::{self, verdict, Column, Columns, Verdict};
+use super::schemas::{self, verdict, Column, Columns};
 
 /// A row of one of the eleven tables.
 pub trait Record<'a>: Sized {
@@ -19,10 +20,10 @@ pub trait Record<'a>: Sized {
     fn key(&self) -> Option<Self::Key>;
 }
 
-/// The row of a line without reasons 1 to 8; `columns` are room to divide it in.
-pub fn read_row<'a, T: Record<'a>>(line: Line<'a>, columns: &mut Columns<'a>) -> Result<T, Verdict> {
+/// The row of a line without reasons 1 to 8, 13 and 14; `columns` are room to divide it in.
+pub fn read_row<'a, T: Record<'a>>(line: Line<'a>, columns: &mut Columns<'a>) -> Result<T, Unformed> {
     columns.fill(line, T::SCHEMA)?;
-    T::read(columns, line).map_err(|column| verdict(8, column))
+    T::read(columns, line).map_err(|column| verdict(8, column).into())
 }
 
 /// The first column of the list whose clash holds.

@@ -1,8 +1,9 @@
-//! The columns of the eleven tables, and reasons 1 to 7.
+//! The columns of the eleven tables, and reasons 1 to 7, 13 and 14.
 
 use super::coefficients::Coefficient;
+use super::faults::{plain, Fault, Unformed};
 use super::lines::Line;
-use super::numbers::number;
+use super::numbers::{misspelt_number, number};
 
 /// 01: "A verdict is reason × 256 + column", 0 for good.
 pub type Verdict = u16;
@@ -161,7 +162,7 @@ pub const SCHEMAS: [&[Column]; 11] = [PID, PIC, PLF, PCF, CAF, CAP, TXF, TXP, OC
 
 const MOST_COLUMNS: usize = 23;
 
-/// The columns of a line without reasons 1 to 7, counted from 1 as in 01.
+/// The columns of a line without reasons 1 to 7, 13 and 14, counted from 1 as in 01.
 #[derive(Default)]
 pub struct Columns<'a> {
     texts: [&'a [u8]; MOST_COLUMNS],
@@ -169,18 +170,21 @@ pub struct Columns<'a> {
 }
 
 impl<'a> Columns<'a> {
-    /// Reasons 1 to 7: the first of the line, else its columns are kept.
-    pub fn fill(&mut self, line: Line<'a>, schema: &[Column]) -> Result<(), Verdict> {
+    /// Reasons 1 to 7, 13 and 14: the first of the line, else its columns are kept.
+    pub fn fill(&mut self, line: Line<'a>, schema: &[Column]) -> Result<(), Unformed> {
         if !line.ended || line.bytes.len() > 512 {
-            return Err(verdict(1, 0));
+            return Err(verdict(1, 0).into());
         }
         if !line.bytes.iter().all(|&byte| byte == b'\t' || (0x20..=0x7E).contains(&byte)) {
-            return Err(verdict(2, 0));
+            return Err(verdict(2, 0).into());
         }
         self.divide(line.bytes, schema.len()).ok_or(verdict(3, 0))?;
         for (at, column) in schema.iter().enumerate() {
-            let number = check_column(self.texts[at], column);
-            self.numbers[at] = number.map_err(|reason| verdict(reason, at as u16 + 1))?;
+            let unformed = |Fault { reason, position }| {
+                let cell = verdict(reason, at as u16 + 1);
+                Unformed { cell, position }
+            };
+            self.numbers[at] = check_column(self.texts[at], column).map_err(unformed)?;
         }
         Ok(())
     }
@@ -219,23 +223,23 @@ impl<'a> Columns<'a> {
     }
 }
 
-/// 01: "4 mandatory and empty, 5 too wide, 6 not a number or not a listed letter, 7 out of range"; of a
-/// coefficient 02, P1: "other text is reason 6. The exponent less the digits after the point must be −22 to 22, else
-/// reason 7." The number of a column of numbers, else 0.
-fn check_column(text: &[u8], column: &Column) -> Result<i64, u16> {
+/// 01: "4 mandatory and empty, 5 too wide, 6 not a number or not a listed letter, 7 out of range"; 02, P2: "6 becomes
+/// "no digits" …, 13 "a wrong digit" …, 14 "a letter not listed" … 13 and 14 stand in 6's place". The number of a column
+/// of numbers, else 0.
+fn check_column(text: &[u8], column: &Column) -> Result<i64, Fault> {
     if text.is_empty() {
-        return if column.mandatory { Err(4) } else { Ok(0) };
+        return if column.mandatory { Err(plain(4)) } else { Ok(0) };
     }
     if text.len() > column.width {
-        return Err(5);
+        return Err(plain(5));
     }
     match column.kind {
         Kind::Text => Ok(0),
-        Kind::Letter(letters) => letters.contains(&text[0]).then_some(0).ok_or(6),
+        Kind::Letter(letters) => letters.contains(&text[0]).then_some(0).ok_or(plain(14)),
         Kind::Coefficient => Coefficient::read(text).map(|_| 0),
         Kind::Number { least, greatest } => {
-            let value = number(text).ok_or(6u16)?;
-            (least..=greatest).contains(&value).then_some(value).ok_or(7)
+            let value = number(text).ok_or_else(|| misspelt_number(text))?;
+            (least..=greatest).contains(&value).then_some(value).ok_or(plain(7))
         }
     }
 }

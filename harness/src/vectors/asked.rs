@@ -13,7 +13,7 @@ use crate::reference::{self, judged, Tables};
 const BLANK: Places = [-1; 8];
 
 pub trait Asked {
-    fn import(&self, tables: &Tables, cells: &mut [u16]) -> Answer;
+    fn import(&self, tables: &Tables, cells: &mut [u16], positions: &mut [u16]) -> Answer;
     fn identify(&self, tables: &Tables, packet: &[u8]) -> Answer;
     fn extract(&self, tables: &Tables, packet: &[u8], name: &[u8], occurrence: usize) -> Answer;
     fn engineer(&self, tables: &Tables, packet: &[u8], name: &[u8], occurrence: usize) -> Answer;
@@ -26,8 +26,8 @@ pub trait Asked {
 pub struct Library;
 
 impl Asked for Library {
-    fn import(&self, tables: &Tables, cells: &mut [u16]) -> Answer {
-        proved::import(tables, cells, BLANK)
+    fn import(&self, tables: &Tables, cells: &mut [u16], positions: &mut [u16]) -> Answer {
+        proved::import(tables, cells, positions, BLANK)
     }
 
     fn identify(&self, tables: &Tables, packet: &[u8]) -> Answer {
@@ -54,10 +54,10 @@ impl Asked for Library {
 pub struct Reference;
 
 impl Asked for Reference {
-    fn import(&self, tables: &Tables, cells: &mut [u16]) -> Answer {
-        let imported = reference::import(tables, cells.len());
+    fn import(&self, tables: &Tables, cells: &mut [u16], positions: &mut [u16]) -> Answer {
+        let imported = reference::import(tables, cells.len(), positions.len());
         if let Ok(imported) = &imported {
-            cells[..imported.cells.len()].copy_from_slice(&imported.cells);
+            imported.write(cells, positions);
         }
         answer(&imported, BLANK)
     }

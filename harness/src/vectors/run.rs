@@ -3,7 +3,7 @@
 use std::collections::BTreeMap;
 
 use super::asked::Asked;
-use super::script::{read_line, Line, Question, Setting, MOST_CELLS};
+use super::script::{read_line, Line, Question, Room, Setting};
 use super::spelled;
 use crate::answers::Answer;
 use crate::reference::judging::TABLES;
@@ -94,8 +94,8 @@ fn set_up(line: Line, setting: &mut Setting) -> Option<()> {
 fn ask(question: &Question, setting: &mut Setting, asked: &impl Asked) -> Option<String> {
     let (tables, packet) = (setting.tables(), setting.packet());
     Some(match question {
-        Question::Import { cells } => import(&tables, *cells, asked, spelled::import),
-        Question::Row { table, row } => import(&only(*table, row), MOST_CELLS, asked, spelled::row),
+        Question::Import(room) => import(&tables, *room, asked, spelled::import),
+        Question::Row { table, row } => import(&only(*table, row), Room::MOST, asked, spelled::row),
         Question::Identify => spelled::identify(&asked.identify(&tables, packet)),
         Question::Extract { name, occurrence } => {
             spelled::extract(&asked.extract(&tables, packet, name, *occurrence))
@@ -114,13 +114,14 @@ fn ask(question: &Question, setting: &mut Setting, asked: &impl Asked) -> Option
 
 fn import(
     tables: &Tables,
-    cells: usize,
+    room: Room,
     asked: &impl Asked,
-    spell: impl Fn(&Answer, &[u16]) -> String,
+    spell: impl Fn(&Answer, &[u16], &[u16]) -> String,
 ) -> String {
-    let mut cells = vec![spelled::UNWRITTEN; cells];
-    let answer = asked.import(tables, &mut cells);
-    spell(&answer, &cells)
+    let mut cells = vec![spelled::UNWRITTEN; room.cells];
+    let mut positions = vec![spelled::UNWRITTEN; room.positions];
+    let answer = asked.import(tables, &mut cells, &mut positions);
+    spell(&answer, &cells, &positions)
 }
 
 /// The tables of which one has a row, and all others none.

@@ -17,8 +17,23 @@ const PACKET: usize = TABLES;
 /// "A table holds up to 65,537 bytes and a packet as many".
 const MOST_BYTES: usize = 65_537;
 
-/// The cells that are lent where a question doesn't say how many, and at most.
-pub const MOST_CELLS: usize = 11_264;
+/// The cells and positions that are lent where a question doesn't say how many, and at most.
+const MOST_CELLS: usize = 11_264;
+
+/// How many cells and how many positions an import is lent.
+#[derive(Clone, Copy, Debug)]
+pub struct Room {
+    pub cells: usize,
+    pub positions: usize,
+}
+
+impl Room {
+    pub const MOST: Room = Room::alike(MOST_CELLS);
+
+    const fn alike(cells: usize) -> Room {
+        Room { cells, positions: cells }
+    }
+}
 
 pub enum Line {
     Comment,
@@ -32,7 +47,7 @@ pub enum Line {
 
 #[derive(Debug)]
 pub enum Question {
-    Import { cells: usize },
+    Import(Room),
     Row { table: usize, row: Vec<u8> },
     Identify,
     Extract { name: Vec<u8>, occurrence: usize },
@@ -113,7 +128,7 @@ fn state(text: &[u8]) -> Option<State> {
 
 fn question(word: &[u8], text: &[u8]) -> Option<Question> {
     match word {
-        b"import" => cells(text).map(|cells| Question::Import { cells }),
+        b"import" => room(text).map(Question::Import),
         b"row" => only_row(text),
         b"identify" => text.is_empty().then_some(Question::Identify),
         b"extract" => reading(text).map(|(name, occurrence)| Question::Extract { name, occurrence }),
@@ -123,11 +138,20 @@ fn question(word: &[u8], text: &[u8]) -> Option<Question> {
     }
 }
 
-fn cells(text: &[u8]) -> Option<usize> {
+/// "POSITIONS how many positions, as many as cells if it isn't said".
+fn room(text: &[u8]) -> Option<Room> {
     if text.is_empty() {
-        return Some(MOST_CELLS);
+        return Some(Room::MOST);
     }
-    usize::try_from(natural(text)?).ok().filter(|&cells| cells <= MOST_CELLS)
+    if let Some([cells]) = naturals(text) {
+        return lent(cells).map(Room::alike);
+    }
+    let [cells, positions] = naturals(text)?;
+    Some(Room { cells: lent(cells)?, positions: lent(positions)? })
+}
+
+fn lent(count: u64) -> Option<usize> {
+    usize::try_from(count).ok().filter(|&count| count <= MOST_CELLS)
 }
 
 /// A table's name and its only row, whose columns follow as they are.
@@ -167,7 +191,7 @@ impl Question {
     /// The word that asks it.
     pub fn kind(&self) -> &'static str {
         match self {
-            Question::Import { .. } => "import",
+            Question::Import(_) => "import",
             Question::Row { .. } => "row",
             Question::Identify => "identify",
             Question::Extract { .. } => "extract",

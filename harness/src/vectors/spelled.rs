@@ -3,13 +3,14 @@
 use super::text::BEYOND;
 use crate::answers::Answer;
 use crate::reference::curves::{curve_at, Point};
+use crate::reference::faults::Position;
 use crate::reference::numbers;
 use crate::reference::packets::{self, Raw};
 use crate::reference::rows::field_width;
 use crate::reference::schemas::{Kind, Verdict, CAP, GOOD, TXP};
 
-/// What a lent cell holds before import, and no verdict is: 255:255.
-pub const UNWRITTEN: Verdict = 0xFFFF;
+/// What lent cells and positions hold before import, and no verdict and no position is: 255:255@65535.
+pub const UNWRITTEN: u16 = 0xFFFF;
 
 /// The refusal in an answer, or its values spelled out.
 fn unless_refused(answer: &Answer, spell: impl FnOnce() -> String) -> String {
@@ -19,26 +20,37 @@ fn unless_refused(answer: &Answer, spell: impl FnOnce() -> String) -> String {
     }
 }
 
-/// The counts or the refusal, and the cells up to the last that was written: none after a refusal.
-pub fn import(answer: &Answer, cells: &[Verdict]) -> String {
+/// The counts or the refusal, and the cells and positions up to the last that was written: none after a refusal.
+pub fn import(answer: &Answer, cells: &[Verdict], positions: &[Position]) -> String {
     let [rows, good, ..] = answer.places;
     let counts = unless_refused(answer, || format!("{rows} rows, {good} good:"));
-    let written = cells.iter().rposition(|&cell| cell != UNWRITTEN).map_or(0, |last| last + 1);
-    cells[..written].iter().fold(counts, |spelled, &verdict| spelled + " " + &cell(verdict))
+    let written = last_written(cells).max(last_written(positions));
+    (0..written).fold(counts, |spelled, at| spelled + " " + &cell_at(cells, positions, at))
 }
 
-fn cell(verdict: Verdict) -> String {
-    match verdict {
+fn last_written(buffer: &[u16]) -> usize {
+    buffer.iter().rposition(|&word| word != UNWRITTEN).map_or(0, |last| last + 1)
+}
+
+/// A cell, and its position where that isn't 0.
+fn cell_at(cells: &[Verdict], positions: &[Position], at: usize) -> String {
+    let held = |buffer: &[u16]| buffer.get(at).copied().unwrap_or(UNWRITTEN);
+    let cell = match held(cells) {
         GOOD => "good".to_string(),
-        _ => format!("{}:{}", verdict / 256, verdict % 256),
+        verdict => format!("{}:{}", verdict / 256, verdict % 256),
+    };
+    match held(positions) {
+        0 => cell,
+        position => format!("{cell}@{position}"),
     }
 }
 
 /// The cell of a table's only row. Where it isn't one row, this is what import answers.
-pub fn row(answer: &Answer, cells: &[Verdict]) -> String {
-    match (answer.result, answer.places[0]) {
-        (0, 1) => cell(cells[0]),
-        _ => import(answer, cells),
+pub fn row(answer: &Answer, cells: &[Verdict], positions: &[Position]) -> String {
+    let written = last_written(cells).max(last_written(positions));
+    match (answer.result, answer.places[0], written) {
+        (0, 1, 1) => cell_at(cells, positions, 0),
+        _ => import(answer, cells, positions),
     }
 }
 
