@@ -193,6 +193,10 @@ module _ (text : List ℕ) (at : ℕ) {walk : Scanned} (e : walk ≡ scanned tru
       let n : at + lineLength (drop at text) - at ≡ lineLength (drop at text) = omega arith in
       rw (e, line-length (drop at text), n)
 
+  pub walk-end : walk .end ≡ nextLine text at .end
+  unfolding scanned nextLine
+  walk-end = rw (e, line-length (drop at text))
+
   pub walk-ended : walk .ended ≡ lineFrom text at .ended
   unfolding scanned lineFrom nextLine
   walk-ended = rw (e, line-length (drop at text))

@@ -4,7 +4,7 @@ use mathlib.Core.List.{List}
 use Prim.Native.Nat.{ℕ}
 use Rattle.schemas.specs.Positions.{positionIn, kindOf}
 use Rattle.rows.specs.Records.{column}
-use Rattle.formed.proofs.FormedLaws.{walked-over, line-is, ends-are}
+use Rattle.lines.proofs.WalkedLaws.{walked-over, line-is, ends-are}
 use Rattle.positions.proofs.TextLaws.{position-divided}
 use borrow.Author.Needs.{needs}
 use Rattle.positions.proofs.position_on.Statement.{statement}

@@ -5,7 +5,8 @@ use Rattle.rows.specs.Records.{mcfRow}
 use Rattle.rows.specs.declared.records.McfRow.{McfRow}
 use Rattle.rows.proofs.PlaceLaws.{mcf-divided}
 use Rattle.formed.specs.Contradictions.{contradiction}
-use Rattle.formed.proofs.FormedLaws.{walked-over, line-is, ends-are, next-is, formed-is}
+use Rattle.lines.proofs.WalkedLaws.{walked-over, line-is, ends-are, next-is}
+use Rattle.formed.proofs.FormedLaws.{formed-is}
 use borrow.Author.Needs.{needs}
 use Rattle.formed.proofs.read.read_mcf.Statement.{statement}
 use Rattle.formed.proofs.read.read_mcf.Tie as tie

@@ -4,7 +4,8 @@ use Rattle.schemas.specs.declared.Table.the-variants.{Ocf}
 use Rattle.rows.specs.Records.{ocfRow}
 use Rattle.rows.proofs.PlaceLaws.{ocf-divided}
 use Rattle.formed.specs.Contradictions.{contradiction, ocfContradiction}
-use Rattle.formed.proofs.FormedLaws.{walked-over, line-is, ends-are, next-is, formed-is}
+use Rattle.lines.proofs.WalkedLaws.{walked-over, line-is, ends-are, next-is}
+use Rattle.formed.proofs.FormedLaws.{formed-is}
 use borrow.Author.Needs.{needs}
 use Rattle.formed.proofs.read.read_ocf.Statement.{statement}
 use Rattle.formed.proofs.read.read_ocf.Tie as tie
