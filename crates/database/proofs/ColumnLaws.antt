@@ -1,15 +1,12 @@
--- Columns read place by place, and the line that starts at a byte.
-use mathlib.Core.Path.{_≡_, sym, ap, _∙_}
-use mathlib.Core.List.{List, []}
-use Prim.Native.Nat.{ℕ, _+_, _-_, _≤_, _<_}
+-- Columns read place by place.
+use mathlib.Core.Path.{_≡_, sym}
+use mathlib.Core.List.{List}
+use Prim.Native.Nat.{ℕ, _+_, _≤_, _<_}
 use native.Mathlib.Omega.{arith}
 use lib.Dec.{ltb}
-use lib.ListN.{length, getD, take, drop, drop-of-length-le, List·getD-eq-default}
-use lib.Seq.{take-nil}
+use lib.ListN.{length, getD, List·getD-eq-default}
 use borrow.Author.Tests.{lt-ltb, le-ltb}
 use Rattle.symbols.specs.Arrays.{mostSymbols}
-use Rattle.lines.specs.Lines.{lineLength, nextLine, lineFrom}
-use Rattle.lines.specs.declared.walk.NextLine.{NextLine}
 use Rattle.symbols.specs.declared.Symbol.{Symbol}
 use Rattle.symbols.specs.Searches.{found}
 use Rattle.database.specs.Arrays.{keyed}
@@ -17,17 +14,6 @@ use Rattle.database.specs.Arrays.{keyed}
 -- past a column's end
 pub past-end : (columns : List ℕ) (column i : ℕ) → length columns ≤ i → 0 ≡ getD columns (column + i) 0
 past-end columns column i h = sym (List·getD-eq-default columns 0 {n = column + i} (omega arith))
-
-module _ (text : List ℕ) (start : ℕ) where
-  pub line-none : length text ≤ start → [] ≡ lineFrom text start .bytes
-  unfolding lineFrom
-  line-none h = rw (drop-of-length-le text h, take-nil)
-
-  pub line-part : {n : NextLine} → n ≡ nextLine text start → take (n .end - start) (drop start text) ≡ lineFrom text start .bytes
-  unfolding lineFrom nextLine
-  line-part {n} e =
-      let w : n .end - start ≡ lineLength (drop start text) = omega (arith, ap (λ (m : NextLine). m .end) e) in
-      rw w
 
 -- what a column says of a key, by the key's id
 module _ (words links columns : List ℕ) (column : ℕ) (k : Symbol) {id : ℕ} (e : id ≡ found words links k) where

@@ -1,7 +1,6 @@
 // The database: tables in lent arrays, in which a row is found by its key, and rows are followed by their group.
 use arrays::PLACES;
 use arrays::half_at;
-use lines::walk::next_line;
 use symbols::SYMBOLS;
 use symbols::Symbol;
 use symbols::find;
@@ -14,7 +13,7 @@ ghost use mathlib.Core.List.{map, []};
 ghost use Prim.Native.Nat.{_+_, _≤_, _<_};
 ghost use lib.ListN.{length, getD, drop};
 ghost use lib.Seq.{sets};
-ghost use Rattle.lines.specs.Lines.{lineFrom};
+ghost use Rattle.verdicts.specs.Places.{textAt};
 ghost use Rattle.database.specs.Kinds.{isPolynomial};
 ghost use Rattle.database.specs.Arrays.{rowAt, keyed, groupPlaces, holderColumn, firstColumn, nextColumn, allColumns};
 
@@ -76,27 +75,7 @@ pub fn holder_of(words: &[u64], links: &[u16], columns: &[u16], key: Symbol) -> 
     keyed_at(words, links, columns, HOLDER, key)
 }
 
-// The line that starts at a byte of a table; empty past its end.
-fn line_at(table: &[u8], start: usize) -> &[u8]
-    ensures { λ r. ⌜ now r ≡ lineFrom (now (table .entry)) start .bytes ⌝ }
-{
-    if table.len() <= start {
-        return &table[..0];
-    }
-    let end = next_line(table, start).end;
-    &table[start..end]
-}
-
-// The line of row i, from 0.
-pub fn line_of<'a>(tables: [&'a [u8]; TABLES], columns: &[u16], i: usize) -> &'a [u8]
-    ensures { λ r. ⌜ now r ≡ rowAt (map now (tables .entry)) (now (columns .entry)) i .bytes ⌝ }
-{
-    let table = column_at(columns, TABLE, i);
-    let start = column_at(columns, START, i);
-    line_at(table_at(tables, table), start)
-}
-
-// Its number in its table.
+// The number of row i, from 0, in its table.
 pub fn number_of(columns: &[u16], i: usize) -> RowNumber
     ensures { λ r. ⌜ r .0 ≡ rowAt [] (now (columns .entry)) i .number ⌝ }
 {
@@ -111,6 +90,13 @@ pub fn is_polynomial(columns: &[u16], i: usize) -> bool
     ensures { λ r. ⌜ r ≡ isPolynomial (rowAt [] (now (columns .entry)) i) ⌝ }
 {
     column_at(columns, TABLE, i) == POLYNOMIALS
+}
+
+// The bytes of its table.
+pub fn table_of<'a>(tables: [&'a [u8]; TABLES], columns: &[u16], i: usize) -> &'a [u8]
+    ensures { λ r. ⌜ now r ≡ textAt (map now (tables .entry)) (rowAt [] (now (columns .entry)) i .table) ⌝ }
+{
+    table_at(tables, column_at(columns, TABLE, i))
 }
 
 // Where its line starts in its table.

@@ -1,30 +1,27 @@
--- Laws of raw values: the numbers of a line, the widths of fields, and a field past the packet's end.
+-- Laws of raw values: the widths of fields, a field past the packet's end, and where an occurrence starts.
 use mathlib.Core.Path.{_≡_, refl, sym, ap, _∙_}
 use mathlib.Core.Logic.{_⊎_, inl, inr}
 use mathlib.Core.Bool.{Bool, true, false, cond, _&&_, _||_}
 use mathlib.Core.List.{List}
-use mathlib.Core.Option.{Option, some, none}
+use mathlib.Core.Option.{some, none}
 use Prim.Native.Nat.{ℕ, _+_, _-_, _*_, _/_, _^_, _<_, _≤_}
 use native.Mathlib.Nat.{mul-le-mul, lt-of-lt-of-le}
 use native.Mathlib.Omega.{arith}
-use lib.Dec.{eqb, ltb, leb}
-use lib.IntN.{ℤ, pos, negsuc}
+use lib.Dec.{eqb, leb}
+use lib.IntN.{ℤ, pos}
 use lib.ListN.{length}
 use lib.Pow.{pow-mono}
 use lib.Signed.{mag}
 use mir.Syntax.{w64}
 use mir.Val.{SFits, toZ, ofZ}
 use mir.ValLaws.{toZ-pos}
-use borrow.Author.Tests.{lt-ltb, le-ltb, eq-eqb, ne-eqb, ltb-true, leb-true, eqb-true}
+use borrow.Author.Tests.{lt-ltb, le-ltb, eq-eqb, ne-eqb, leb-true, eqb-true}
 use Rattle.laws.proofs.Cases.{cond-cases, bool-cases}
 use Rattle.laws.proofs.Words.{through-word}
 use Rattle.laws.specs.Said.{Said, value, refused as refusedWith}
-use Rattle.numbers.specs.Number.{numberOf}
-use Rattle.rows.specs.Values.{naturalFrom, naturalOr}
 use Rattle.fields.specs.Width.{bitsOf, bitsWithin, integerWidth, widthOf}
 use Rattle.fields.specs.declared.width.Width.{Width}
 use Rattle.fields.specs.declared.width.Width.the-variants as width
-use Rattle.rows.specs.Records.{plfRow}
 use Rattle.rows.specs.declared.records.PlfRow.{PlfRow}
 use Rattle.rows.specs.declared.records.PcfRow.{PcfRow}
 use Rattle.fields.specs.Field.{saidUnsigned, unsignedAt}
@@ -39,33 +36,12 @@ use Rattle.fields.proofs.SignLaws.{signed-range}
 use Rattle.fields.proofs.TextLaws.{string-outside}
 use Rattle.outcomes.specs.Outcome.{Outcome, refused, answer}
 use Rattle.outcomes.specs.Values.{Value, number}
-use Rattle.raw_values.specs.RawValues.{isString, TypeWidth, valueAt, packetPart, fieldRaw, startOf, rawIn, rawOf}
+use Rattle.raw_values.specs.RawValues.{isString, TypeWidth, valueAt, packetPart, fieldRaw, startOf, locationOf, rawIn, rawOf}
+use Rattle.raw_values.specs.declared.place.Location.{Location}
 
 -- where an occurrence starts, a word holds its bits
 pub offset-bounded : (k l : ℕ) → k + 1 < 2 ^ 32 → l < 2 ^ 32 → k * l ≤ 4294967294 * 4294967295
 offset-bounded k l h g = mul-le-mul {n₁ = k} {m₁ = l} {n₂ = 4294967294} {m₂ = 4294967295} (omega arith) (omega arith)
-
--- a number of a line is below 2 ^ 32
-natural-from : (default : ℕ) → default < 2 ^ 32 → (v : Option ℤ) → naturalFrom default v < 2 ^ 32
-unfolding naturalFrom
-natural-from default h none = h
-natural-from default h (some (pos n)) = cond-cases (λ (m : ℕ). m < 2 ^ 32) (ltb n (2 ^ 32)) (λ t. ltb-true _ _ t) (λ _. h)
-natural-from default h (some (negsuc n)) = h
-
-natural-bounded : (text : List ℕ) → naturalOr 0 text < 2 ^ 32
-unfolding naturalOr
-natural-bounded text = natural-from 0 (omega arith) (numberOf text)
-
-pub record Start-bounded (row : PlfRow) : Type 0 where
-  pub byte : row .offby .0 < 2 ^ 32
-  pub bit : row .offbi .0 < 2 ^ 32
-  pub length : row .lgocc .0 < 2 ^ 32
-  pub count : row .nbocc < 2 ^ 32
-
-pub start-bounded : (row : PlfRow) (line : List ℕ) → row ≡ plfRow line → Start-bounded row
-unfolding plfRow naturalOr
-start-bounded row line e =
-    rw e (record { byte = natural-bounded _; bit = natural-bounded _; length = natural-bounded _; count = natural-from 1 (omega arith) _ })
 
 -- so many bits are told only where the format code is in its range
 pub record In-range (m lowest highest bits n : ℕ) : Type 0 where
@@ -209,15 +185,16 @@ module _ (p : List ℕ) (at n : ℕ) (r : Unsigned) (s : saidUnsigned r ≡ unsi
       ap (λ (x : ℤ). answer (number x)) (toZ-pos w64 v (omega (arith, unsigned-below v h e)))
       ∙ told saidUnsigned at number (unsignedAt p at n) r s e
 
--- an occurrence, by the row that a line decodes to
-module _ (p : List ℕ) (row plf : PlfRow) (ptc k n : ℕ) (d : row ≡ plf) where
-  pub no-occurrence : row .nbocc ≤ k → refused 27 0 ≡ rawIn p plf ptc k (some n)
-  unfolding rawIn
-  no-occurrence h = rw (← d, le-ltb _ _ h)
+-- an occurrence, by a row that locates it
+module _ (p : List ℕ) (location : Location) (plf : PlfRow) (ptc k n : ℕ) (d : location ≡ locationOf plf) where
+  pub no-occurrence : location .nbocc ≤ k → refused 27 0 ≡ rawIn p plf ptc k (some n)
+  unfolding rawIn locationOf
+  no-occurrence h = rw (le-ltb k (plf .nbocc) (rw d at h))
 
-  pub occurrence-is : (at : ℕ) → k < row .nbocc → at ≡ 8 * row .offby .0 + row .offbi .0 + k * row .lgocc .0 → fieldRaw p ptc n at ≡ rawIn p plf ptc k (some n)
-  unfolding rawIn startOf
-  occurrence-is at h e = rw (← d, lt-ltb _ _ h) (ap (fieldRaw p ptc n) e)
+  pub occurrence-is : (at : ℕ) → k < location .nbocc → at ≡ 8 * location .offby .0 + location .offbi .0 + k * location .lgocc .0
+      → fieldRaw p ptc n at ≡ rawIn p plf ptc k (some n)
+  unfolding rawIn startOf locationOf
+  occurrence-is at h e = rw (lt-ltb k (plf .nbocc) (rw d at h)) (ap (fieldRaw p ptc n) (rw d at e))
 
 -- a raw value, by the width of its type
 module _ (p : List ℕ) (plf : PlfRow) (pcf : PcfRow) (k : ℕ) where

@@ -21,12 +21,23 @@ use Rattle.rows.specs.declared.records.PcfRow.{PcfRow}
 use Rattle.outcomes.specs.Outcome.{Outcome, refused, answer}
 use Rattle.outcomes.specs.Values.{Value, number, part, valueOf}
 use Rattle.outcomes.specs.Refusals.{refusedBy}
+use Rattle.raw_values.specs.declared.place.Location.{Location}
 use Rattle.raw_values.specs.declared.RawValue.{RawValue}
 use Rattle.raw_values.specs.declared.RawValue.the-variants.{Is, Refused}
 
 -- 01: "Occurrence k, from 0, starts at bit 8 × OFFBY + OFFBI + k × LGOCC from the packet's first bit"
 unfoldable pub startOf : PlfRow → ℕ → ℕ
 startOf row k = 8 * row .offby .0 + row .offbi .0 + k * row .lgocc .0
+
+-- the four numbers of the row that this takes
+unfoldable pub locationOf : PlfRow → Location
+locationOf row =
+    record {
+      offby = record { 0 = row .offby .0 };
+      offbi = record { 0 = row .offbi .0 };
+      nbocc = row .nbocc;
+      lgocc = record { 0 = row .lgocc .0 };
+    }
 
 -- strings are of PTC 7 and 8
 unfoldable pub isString : ℕ → Bool

@@ -1,7 +1,8 @@
-// Raw values: occurrence k of a parameter in a packet, by the line of its plf row and its pcf row.
-mod place;
+// Raw values: occurrence k of a parameter in a packet, by where its plf row locates it, and its pcf row.
+pub mod place;
 
 use crate::place::FieldStart;
+use crate::place::Location;
 use crate::place::start_of;
 use fields::field::Unsigned;
 use fields::field::read_unsigned;
@@ -13,7 +14,6 @@ use fields::width::Width;
 use fields::width::width_of;
 use outcomes::Refusal;
 use outcomes::Value;
-use rows::decoded::plf_of;
 use rows::records::PcfRow;
 use units::BitOffset;
 use units::ByteOffset;
@@ -21,12 +21,12 @@ ghost use mathlib.Core.Path.{_≡_};
 ghost use Prim.Native.Nat.{_+_, _*_, _<_, _≤_};
 ghost use lib.ListN.{length};
 ghost use mathlib.Core.Option.{some};
-ghost use Rattle.rows.specs.Records.{plfRow};
+ghost use Rattle.rows.specs.declared.records.PlfRow as declared;
 ghost use Rattle.fields.specs.Field.{unsignedAt};
 ghost use Rattle.fields.specs.Sign.{signedAt};
 ghost use Rattle.fields.specs.Text.{stringAt};
 ghost use Rattle.outcomes.specs.Values.{number};
-ghost use Rattle.raw_values.specs.RawValues.{saidRaw, valueAt, packetPart, isString, TypeWidth, fieldRaw, rawIn, rawOf};
+ghost use Rattle.raw_values.specs.RawValues.{saidRaw, valueAt, packetPart, isString, TypeWidth, fieldRaw, rawIn, rawOf, locationOf};
 
 // A packet has at most so many bytes.
 const PACKET_BYTES: usize = 8192;
@@ -99,28 +99,26 @@ fn field_raw(p: &[u8], ptc: u32, width: u32, start: FieldStart) -> RawValue
     unsigned_raw(p, BitOffset(at), width)
 }
 
-// Occurrence k of a field of `width` bits, by the line of its plf row.
-fn occurrence_raw(p: &[u8], plf: &[u8], ptc: u32, width: u32, k: usize) -> RawValue
+// Occurrence k of a field of `width` bits.
+fn occurrence_raw(p: &[u8], location: Location, ptc: u32, width: u32, k: usize) -> RawValue
     requires { ⌜ (length (now p) ≤ 8192) × TypeWidth ptc width ⌝ }
-    ensures { λ r. ⌜ saidRaw r ≡ rawIn (now (p .entry)) (plfRow (now (plf .entry))) ptc k (some width) ⌝ }
+    ensures { λ r. ⌜ ((plf : declared.PlfRow) → location ≡ locationOf plf → saidRaw r ≡ rawIn (now (p .entry)) plf ptc k (some width)) ⌝ }
 {
-    let row = plf_of(plf);
-    if row.nbocc as usize <= k {
+    if location.nbocc as usize <= k {
         return RawValue::Refused(Refusal::NoOccurrence);
     }
-    let start = start_of(row.offby, row.offbi, row.lgocc, k);
-    field_raw(p, ptc, width, start)
+    field_raw(p, ptc, width, start_of(location, k))
 }
 
-// The raw value of occurrence k by the line of its plf row, and its pcf row, which is decoded once for all occurrences.
-pub fn raw_of(p: &[u8], plf: &[u8], pcf: PcfRow, k: usize) -> RawValue
-    ensures { λ r. ⌜ saidRaw r ≡ rawOf (now (p .entry)) (plfRow (now (plf .entry))) pcf k ⌝ }
+// The raw value of occurrence k by any plf row that locates it here, and its pcf row.
+pub fn raw_of(p: &[u8], location: Location, pcf: PcfRow, k: usize) -> RawValue
+    ensures { λ r. ⌜ ((plf : declared.PlfRow) → location ≡ locationOf plf → saidRaw r ≡ rawOf (now (p .entry)) plf pcf k) ⌝ }
 {
     if PACKET_BYTES < p.len() {
         return RawValue::Refused(Refusal::PacketLength);
     }
     match width_of(pcf.ptc, pcf.pfc) {
-        Width::Bits(width) => occurrence_raw(p, plf, pcf.ptc, width, k),
+        Width::Bits(width) => occurrence_raw(p, location, pcf.ptc, width, k),
         Width::Refused => RawValue::Refused(Refusal::NoPlfRow),
     }
 }

@@ -1,8 +1,20 @@
-// Where an occurrence of a parameter starts.
-use units::BitOffset;
+// Where a parameter's occurrences are.
 use units::ByteOffset;
 ghost use mathlib.Core.Path.{_≡_};
-ghost use Prim.Native.Nat.{_+_, _*_, _<_, _^_};
+ghost use Prim.Native.Nat.{_+_, _*_, _<_};
+
+// A byte of the packet and a number of bits, as a line holds them: in 32 bits.
+pub struct LineByte(pub u32);
+
+pub struct LineBits(pub u32);
+
+// By four columns of a plf row.
+pub struct Location {
+    pub offby: LineByte,
+    pub offbi: LineBits,
+    pub nbocc: u32,
+    pub lgocc: LineBits,
+}
 
 // A byte of the packet and a bit of it, kept apart: a start in bits can pass a word.
 pub(crate) struct FieldStart {
@@ -10,19 +22,14 @@ pub(crate) struct FieldStart {
     pub bit: usize,
 }
 
-// Occurrence k, of which every number was read from a line.
-pub(crate) fn start_of(
-    offby: ByteOffset,
-    offbi: BitOffset,
-    lgocc: BitOffset,
-    k: usize,
-) -> FieldStart
-    requires { ⌜ (offby .0 < 2 ^ 32) × (offbi .0 < 2 ^ 32) × (lgocc .0 < 2 ^ 32) × (k + 1 < 2 ^ 32) ⌝ }
-    ensures { λ r. ⌜ (8 * r .byte .0 + r .bit ≡ 8 * offby .0 + offbi .0 + k * lgocc .0) × (r .bit < 8) ⌝ }
+// Where occurrence k starts.
+pub(crate) fn start_of(location: Location, k: usize) -> FieldStart
+    requires { ⌜ k < location .nbocc ⌝ }
+    ensures { λ r. ⌜ (8 * r .byte .0 + r .bit ≡ 8 * location .offby .0 + location .offbi .0 + k * location .lgocc .0) × (r .bit < 8) ⌝ }
 {
-    let bits = offbi.0 + k * lgocc.0;
+    let bits = location.offbi.0 as usize + k * location.lgocc.0 as usize;
     FieldStart {
-        byte: ByteOffset(offby.0 + bits / 8),
+        byte: ByteOffset(location.offby.0 as usize + bits / 8),
         bit: bits % 8,
     }
 }

@@ -10,7 +10,7 @@ use Rattle.raw_values.proofs.raw_of.Tie as tie
 
 returns : tie.Need-returns
 unfolding saidRaw refusedBy refusalNumber refusalPlace
-returns c = packet-too-long _ _ _ _ (c .if1 .taken)
+returns c plf d = packet-too-long _ plf _ _ (c .if1 .taken)
 
 width-of-requires : tie.Need-width-of-requires
 width-of-requires c κs = search needs
@@ -27,14 +27,14 @@ enum-told : tie.Need-enum-told
 enum-told c = search needs
 
 returns-2 : tie.Need-returns-2
-returns-2 c = let w = c .before .before .before .before in
-    c .occurrence-raw .ensures
-    ∙ raw-in-bits _ _ _ _ _ _ (w .before .if1 .left) refl (w .width-of .ensures) _ (c .before .before .width .given .1)
+returns-2 c plf d = let w = c .before .before .before .before in
+    c .occurrence-raw .ensures plf d
+    ∙ raw-in-bits _ plf _ _ _ _ (w .before .if1 .left) refl (w .width-of .ensures) _ (c .before .before .width .given .1)
 
 returns-3 : tie.Need-returns-3
 unfolding saidRaw refusedBy refusalNumber refusalPlace
-returns-3 c = let w = c .before .before in
-    raw-refused _ _ _ _ _ _ (w .before .if1 .left) refl (w .width-of .ensures) (c .enum-told .given .1)
+returns-3 c plf d = let w = c .before .before in
+    raw-refused _ plf _ _ _ _ (w .before .if1 .left) refl (w .width-of .ensures) (c .enum-told .given .1)
 
 pub raw-of-spec : {M : Type 1} → statement M
 raw-of-spec =
