@@ -27,8 +27,7 @@ module _ (rows : Rows) (p : List ℕ) (spid : ℕ) (row : OcpRow) where
     unfolding applies firstRaw hasValue andThen
     applies-nowhere f = rw (t, ← is, at-missing texts columns at f)
 
-    pub applies-located : at .found ≡ true → (raw : Outcome Value) {b : Bool} (plf : List ℕ) (pcf : PcfRow)
-        → plf ≡ rowAt texts columns (at .plf) .bytes → pcf ≡ pcfRow (rowAt texts columns (at .pcf) .bytes)
-        → raw ≡ rawOf p (plfRow plf) pcf 0 → b ≡ hasValue raw (row .valpar) → b ≡ applies rows p spid row
+    pub applies-located : at .found ≡ true → (raw : Outcome Value) {b : Bool} (pcf : PcfRow) → pcf ≡ pcfRow (rowAt texts columns (at .pcf) .bytes)
+        → raw ≡ rawOf p (plfRow (rowAt texts columns (at .plf) .bytes)) pcf 0 → b ≡ hasValue raw (row .valpar) → b ≡ applies rows p spid row
     unfolding applies firstRaw andThen byLines
-    applies-located f raw plf pcf el ec er eb = rw (t, ← is, at-found texts columns at f, ← el, ← ec, ← er) eb
+    applies-located f raw pcf ec er eb = rw (t, ← is, at-found texts columns at f, ← ec, ← er) eb

@@ -1,10 +1,10 @@
 // Which checks of a parameter apply in a packet.
-use database::line_of;
+use found_rows::location_at;
+use found_rows::pcf_at;
 use parameters::locate;
 use raw_values::RawValue;
 use raw_values::raw_of;
 use readings::equals;
-use rows::decoded::pcf_of;
 use rows::records::OcpRow;
 use tables::TABLES;
 use units::Spid;
@@ -46,7 +46,7 @@ pub fn applies(
     if !at.found {
         return false;
     }
-    let plf = line_of(tables, columns, at.plf);
-    let pcf = pcf_of(line_of(tables, columns, at.pcf));
-    has_value(raw_of(p, plf, pcf, 0), row.valpar)
+    let location = location_at(tables, columns, at.plf);
+    let pcf = pcf_at(tables, columns, at.pcf);
+    has_value(raw_of(p, location, pcf, 0), row.valpar)
 }

@@ -40,9 +40,9 @@ module _ (texts : List (List ℕ)) (columns : List ℕ) (passes : OcpRow → Boo
   fill-start places lows highs levels s r = record { few = omega arith; within = omega arith; short = s; checks = refl; room = r }
 
   module _ {places : List ℕ} {lows highs : List ℤ} {levels : List ℕ} {n i : ℕ} (f : Filling places lows highs levels n i) where
-    module _ (h : i < length places) {line : List ℕ} {row : OcpRow} (l : line ≡ rowAt texts columns (getD places i 0) .bytes) (e : row ≡ ocpRow line) where
+    module _ (h : i < length places) {row : OcpRow} (e : row ≡ ocpRow (rowAt texts columns (getD places i 0) .bytes)) where
       read : ocpRow (rowAt texts columns (getD places i 0) .bytes) ≡ row
-      read = sym (e ∙ ap ocpRow l)
+      read = sym e
 
       with-row : passes row ≡ true → counting (drop i places) ≡ checkOf row ∷ counting (drop (i + 1) places)
       with-row t = rw (split places i 0 h, read, t)

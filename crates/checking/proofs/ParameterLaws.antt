@@ -32,13 +32,13 @@ then-then (answer a) f g = refl
 
 module _ (rows : Rows) (p : List ℕ) (spid : ℕ) (ocf : OcfRow) (progress : Progress) where
   -- by its manner, and any checks
-  pub manner-checked : (checks : List Check) (place kind : List ℕ) {plf : List ℕ} {pcf : PcfRow} {manner : Manner} {xs ys : List ℤ}
-      → plf ≡ place → pcf ≡ pcfRow kind → MannerOf rows p spid ocf pcf manner xs ys
-      → checkedBy (rawOf p (plfRow plf) pcf) (plfRow plf .nbocc) (scaleIn (manner .scale) xs ys) (manner .valid) checks (manner .nbchck) progress
+  pub manner-checked : (checks : List Check) (place kind : List ℕ) {pcf : PcfRow} {manner : Manner} {xs ys : List ℤ}
+      → pcf ≡ pcfRow kind → MannerOf rows p spid ocf pcf manner xs ys
+      → checkedBy (rawOf p (plfRow place) pcf) (plfRow place .nbocc) (scaleIn (manner .scale) xs ys) (manner .valid) checks (manner .nbchck) progress
       ≡ andThen (valuesOf rows p spid ocf (byLines place kind)) (λ values. answer (progressBy checks (ocf .nbchck) progress values))
   unfolding checkedBy valuesOf byLines
-  manner-checked checks place kind l k m =
-      rw (m .scale, m .valid, m .nbchck, l, k)
+  manner-checked checks place kind k m =
+      rw (m .scale, m .valid, m .nbchck, k)
       (then-then (rawsOf (rawOf p (plfRow place) (pcfRow kind)) (occurrencesFrom 0 (plfRow place .nbocc)))
       (valuesOn (scaleUnder rows (ocf .inter) (pcfRow kind .curtx)) (validity rows p spid (pcfRow kind)))
       (λ values. answer (progressBy checks (ocf .nbchck) progress values)))

@@ -2,10 +2,9 @@
 use crate::parameter::Subject;
 use applying::applies;
 use database::MOST_MEMBERS;
-use database::line_of;
 use database::list_members;
+use found_rows::ocp_at;
 use key_symbols::limits_key;
-use rows::decoded::ocp_of;
 use severity::level_of;
 use tables::TABLES;
 use units::Spid;
@@ -44,7 +43,7 @@ fn fill_checks(
     let mut i: usize = 0;
     while i < places.len() {
         let place = places[i];
-        let row = ocp_of(line_of(tables, columns, place));
+        let row = ocp_at(tables, columns, place);
         if applies(tables, words, links, columns, p, spid, row) {
             let low = row.lvalu;
             let high = row.hvalu;

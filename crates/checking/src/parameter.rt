@@ -4,14 +4,14 @@ use announced::Progress;
 use curve_values::scale::Scale;
 use curve_values::scale::gather_scale;
 use database::MOST_MEMBERS;
-use database::line_of;
+use found_rows::location_at;
+use found_rows::pcf_at;
 use lines::names::Name;
 use located_readings::validity;
 use occurrences::Checked;
 use occurrences::Manner;
 use occurrences::check_occurrences;
 use parameters::Places;
-use rows::decoded::pcf_of;
 use rows::letters::LimitValue;
 use rows::records::OcfRow;
 use rows::records::OptionalCurve;
@@ -112,7 +112,7 @@ fn check_by(
     let mut xs = [0i64; MOST_MEMBERS];
     let mut ys = [0i64; MOST_MEMBERS];
     let at = subject.at;
-    let pcf = pcf_of(line_of(tables, columns, at.pcf));
+    let pcf = pcf_at(tables, columns, at.pcf);
     let manner = manner_of(
         tables,
         words,
@@ -124,7 +124,7 @@ fn check_by(
         &mut xs,
         &mut ys,
     );
-    let plf = line_of(tables, columns, at.plf);
+    let plf = location_at(tables, columns, at.plf);
     check_occurrences(p, plf, pcf, &xs, &ys, lows, highs, levels, manner, progress)
 }
 

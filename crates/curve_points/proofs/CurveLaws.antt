@@ -46,21 +46,21 @@ module _ (texts : List (List ℕ)) (words links columns : List ℕ) (name : Curv
     unfolding curveEnds
     ends-polynomial t = sym (ap curveEnds holder ∙ rw (kind-is texts columns (at - 1) is t))
 
-    pub ends-some : kind ≡ false → {read : CafRow} {line : List ℕ} → read ≡ cafRow line → line ≡ row .bytes
+    pub ends-some : kind ≡ false → {read : CafRow} → read ≡ cafRow (row .bytes)
         → Are (read .inter) ≡ curveEnds (answers (database texts words links columns) .holder (curve name))
     unfolding curveEnds
-    ends-some f r l =
-        ap (λ (read : CafRow). Are (read .inter)) (r ∙ ap cafRow l) ∙ sym (ap curveEnds holder ∙ rw (kind-is texts columns (at - 1) is f))
+    ends-some f r =
+        ap (λ (read : CafRow). Are (read .inter)) r ∙ sym (ap curveEnds holder ∙ rw (kind-is texts columns (at - 1) is f))
 
 -- a point's row, read
-module _ (row : Row) {line : List ℕ} {point : CapRow} (e : point ≡ capRow line) (l : line ≡ row .bytes) where
+module _ (row : Row) {point : CapRow} (e : point ≡ capRow (row .bytes)) where
   pub xvals-are : point .xvals ≡ xvalsOf row
   unfolding xvalsOf
-  xvals-are = ap (λ (p : CapRow). p .xvals) (e ∙ ap capRow l)
+  xvals-are = ap (λ (p : CapRow). p .xvals) e
 
   pub yvals-are : point .yvals ≡ yvalsOf row
   unfolding yvalsOf
-  yvals-are = ap (λ (p : CapRow). p .yvals) (e ∙ ap capRow l)
+  yvals-are = ap (λ (p : CapRow). p .yvals) e
 
 -- the points that were gathered
 pub points-are : (rows : Rows) (name : CurveName) {ends : Ends} {n : ℕ} → ends ≡ curveEnds (rows .holder (curve name)) → n ≡ length (rows .members (curve name))

@@ -2,12 +2,11 @@
 use database::MOST_MEMBERS;
 use database::holder_of;
 use database::is_polynomial;
-use database::line_of;
 use database::list_members;
+use found_rows::caf_at;
+use found_rows::cap_at;
 use key_symbols::curve_key;
 use lines::names::CurveName;
-use rows::decoded::caf_of;
-use rows::decoded::cap_of;
 use rows::letters::OffEnds;
 use tables::TABLES;
 ghost use mathlib.Core.Path.{_≡_};
@@ -50,7 +49,7 @@ pub fn curve_ends(
     if is_polynomial(columns, at - 1) {
         return Ends::NoCurve;
     }
-    let row = caf_of(line_of(tables, columns, at - 1));
+    let row = caf_at(tables, columns, at - 1);
     let inter = row.inter;
     Ends::Are(inter)
 }
@@ -72,7 +71,7 @@ fn fill_points(
     let mut i: usize = 0;
     while i < places.len() {
         let place = places[i];
-        let row = cap_of(line_of(tables, columns, place));
+        let row = cap_at(tables, columns, place);
         let x = row.xvals;
         let y = row.yvals;
         xs[i] = x;

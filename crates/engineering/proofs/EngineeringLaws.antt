@@ -45,10 +45,10 @@ module _ (rows : Rows) {kind : Category} (curtx : OptionalCurve) (raw : ℤ) {z 
   unfolding byCategory
   text-raw e = rw (e, q)
 
-pub by-row : (rows : Rows) {row read : PcfRow} (raw : ℤ) {z : ℤ} {x : Outcome Engineered} → read ≡ row → z ≡ raw
-    → x ≡ byCategory rows (read .categ) (read .curtx) z → x ≡ engineered rows row raw
+pub by-row : (rows : Rows) (row : PcfRow) (raw : ℤ) {z : ℤ} {x : Outcome Engineered} → z ≡ raw → x ≡ byCategory rows (row .categ) (row .curtx) z
+    → x ≡ engineered rows row raw
 unfolding engineered
-by-row rows raw e q h = h ∙ rw (e, q)
+by-row rows row raw q h = h ∙ rw q
 
 -- 02, P1: "31 is for caf curves only", and so is 30: where CURTX of an N parameter names a polynomial, it is answered
 -- whatever the raw value is

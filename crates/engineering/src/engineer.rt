@@ -6,9 +6,9 @@ use outcomes::Value;
 use polynomial_curves::Found;
 use polynomial_curves::find_polynomial;
 use polynomials::evaluate;
-use rows::decoded::pcf_of;
 use rows::letters::Category;
 use rows::records::OptionalCurve;
+use rows::records::PcfRow;
 use tables::TABLES;
 use texts::TextResult;
 use texts::text_value;
@@ -16,7 +16,6 @@ use units::RowNumber;
 use units::TableOffset;
 ghost use mathlib.Core.Path.{_≡_};
 ghost use mathlib.Core.List.{map};
-ghost use Rattle.rows.specs.Records.{pcfRow};
 ghost use Rattle.outcomes.specs.Outcome.{andThen};
 ghost use Rattle.database.specs.Arrays.{database, answers};
 ghost use Rattle.curve_values.specs.Along.{saidResult};
@@ -91,20 +90,19 @@ fn by_category(
     }
 }
 
-// The engineering value of a raw one, by the line of its parameter in pcf.
+// The engineering value of a raw one, by the pcf row of its parameter.
 pub fn engineer_value(
     tables: [&[u8]; TABLES],
     words: &[u64],
     links: &[u16],
     columns: &[u16],
-    line: &[u8],
+    row: PcfRow,
     raw: i64,
 ) -> Engineered
     ensures { λ r. ⌜ saidEngineered r
         ≡ engineered (answers (database (map now (tables .entry)) (now (words .entry)) (now (links .entry)) (now (columns .entry))))
-        (pcfRow (now (line .entry))) raw ⌝ }
+        row raw ⌝ }
 {
-    let row = pcf_of(line);
     let category = row.categ;
     let curtx = row.curtx;
     by_category(tables, words, links, columns, category, curtx, raw)

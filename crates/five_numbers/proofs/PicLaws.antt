@@ -45,7 +45,7 @@ module _ (texts : List (List ℕ)) (columns : List ℕ) where
     unfolding rowFor identifiersFrom
     no-fields z = rw (← e, eq-eqb at 0 z)
 
-    pub row-fields : {x : Outcome Identifiers} {r : PicRow} {line : List ℕ} → (at ≡ 0 → ⊥) → line ≡ rowAt texts columns (at - 1) .bytes → r ≡ picRow line
+    pub row-fields : {x : Outcome Identifiers} {r : PicRow} → (at ≡ 0 → ⊥) → r ≡ picRow (rowAt texts columns (at - 1) .bytes)
         → x ≡ identifiersBy p r → x ≡ identifiersFrom p row
     unfolding rowFor identifiersFrom
-    row-fields n l r x = rw (← e, ne-eqb at 0 n) (x ∙ ap (identifiersBy p) (r ∙ ap picRow l))
+    row-fields n r x = rw (← e, ne-eqb at 0 n) (x ∙ ap (identifiersBy p) r)

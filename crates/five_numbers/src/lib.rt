@@ -1,14 +1,13 @@
 // The five numbers of a packet whose header is known.
 use arrays::byte_at;
 use database::holder_of;
-use database::line_of;
+use found_rows::pic_at;
 use headers::Head;
 use identifiers::Fields;
 use identifiers::Identifiers;
 use identifiers::read_fields;
 use key_symbols::FiveNumbers;
 use key_symbols::identification_key;
-use rows::decoded::pic_of;
 use rows::records::OptionalApid;
 use tables::TABLES;
 ghost use mathlib.Core.Path.{_≡_};
@@ -99,5 +98,5 @@ pub fn identifiers_of(
         return Fields::Are(Identifiers { pi1: 0, pi2: 0 });
     }
     let i = at - 1;
-    read_fields(p, pic_of(line_of(tables, columns, i)))
+    read_fields(p, pic_at(tables, columns, i))
 }

@@ -29,7 +29,7 @@ module _ (rows : Rows) (n : FiveNumbers) where
   unfolding chooseBy chosen
   choice-none e = rw e
 
-  pub choice-some : {row : Row} {number : ℕ} {spid : Spid} {line : List ℕ} → rows .holder (packetOf n) ≡ some row → number ≡ row .number
-      → line ≡ row .bytes → spid ≡ pidRow line .spid → answer (record { row = number; spid = spid .0; numbers = n }) ≡ chooseBy rows n
+  pub choice-some : {row : Row} {number : ℕ} {spid : Spid} → rows .holder (packetOf n) ≡ some row → number ≡ row .number
+      → spid ≡ pidRow (row .bytes) .spid → answer (record { row = number; spid = spid .0; numbers = n }) ≡ chooseBy rows n
   unfolding chooseBy chosen
-  choice-some e m l p = rw (e, m, p, l)
+  choice-some e m p = rw (e, m, p)

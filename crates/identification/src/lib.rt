@@ -1,25 +1,21 @@
 // Which packet it is.
 use database::holder_of;
-use database::line_of;
 use database::number_of;
 use five_numbers::identifiers_of;
 use five_numbers::numbers_of;
+use found_rows::spid_at;
 use headers::Head;
 use headers::Headed;
 use headers::read_header;
 use identifiers::Fields;
 use key_symbols::FiveNumbers;
 use key_symbols::packet_key;
-use lines::columns::column;
-use lines::columns::divide;
 use outcomes::Refusal;
-use rows::values::natural_or;
 use tables::TABLES;
 use units::RowNumber;
 use units::Spid;
 ghost use mathlib.Core.Path.{_≡_};
 ghost use mathlib.Core.List.{map};
-ghost use Rattle.rows.specs.Records.{pidRow};
 ghost use Rattle.database.specs.Arrays.{database, answers};
 ghost use Rattle.identification.specs.Identification.{chooseBy, identifyHeaded, identifyBy, saidIdentified};
 
@@ -27,14 +23,6 @@ ghost use Rattle.identification.specs.Identification.{chooseBy, identify
 pub enum Identified {
     Is(RowNumber, Spid, FiveNumbers),
     Refused(Refusal),
-}
-
-// The SPID of a pid row: of its line the sixth column alone is decoded.
-fn spid_of(line: &[u8]) -> Spid
-    ensures { λ r. ⌜ r ≡ pidRow (now (line .entry)) .spid ⌝ }
-{
-    let ends = divide(line);
-    Spid(natural_or(column(line, &ends, 5), 0))
 }
 
 // The pid row that the five numbers choose.
@@ -57,7 +45,7 @@ fn choose(
         return Identified::Refused(Refusal::NoPidRow);
     }
     let i = at - 1;
-    let spid = spid_of(line_of(tables, columns, i));
+    let spid = spid_at(tables, columns, i);
     Identified::Is(number_of(columns, i), spid, numbers)
 }
 

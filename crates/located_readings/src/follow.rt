@@ -1,11 +1,11 @@
 // A VALID chain read row by row, each row found and decoded once.
-use database::line_of;
+use found_rows::location_at;
+use found_rows::pcf_at;
 use outcomes::Value;
 use parameters::locate;
 use raw_values::RawValue;
 use raw_values::raw_of;
 use readings::BLOCK_ROWS;
-use rows::decoded::pcf_of;
 use rows::records::PcfRow;
 use tables::TABLES;
 use units::Spid;
@@ -105,9 +105,9 @@ fn ask(
     if !at.found {
         return unreadable(row);
     }
-    let plf = line_of(tables, columns, at.plf);
-    let pcf = pcf_of(line_of(tables, columns, at.pcf));
-    raw_asked(raw_of(p, plf, pcf, 0), pcf)
+    let location = location_at(tables, columns, at.plf);
+    let pcf = pcf_at(tables, columns, at.pcf);
+    raw_asked(raw_of(p, location, pcf, 0), pcf)
 }
 
 // Stores of each row with VALID, from this one on, what its validity parameter reads and its VALPAR,

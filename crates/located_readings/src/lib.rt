@@ -2,7 +2,8 @@
 mod follow;
 
 use crate::follow::follow;
-use database::line_of;
+use found_rows::location_at;
+use found_rows::pcf_at;
 use lines::names::Name;
 use outcomes::Refusal;
 use parameters::locate;
@@ -11,7 +12,6 @@ use raw_values::raw_of;
 use readings::BLOCK_ROWS;
 use readings::Reading;
 use readings::valid_chain;
-use rows::decoded::pcf_of;
 use rows::records::PcfRow;
 use tables::MOST_ROWS;
 use tables::TABLES;
@@ -136,8 +136,8 @@ pub fn read(
     if !at.found {
         return Reading::Refused(Refusal::NoPlfRow);
     }
-    let plf = line_of(tables, columns, at.plf);
-    let pcf = pcf_of(line_of(tables, columns, at.pcf));
+    let location = location_at(tables, columns, at.plf);
+    let pcf = pcf_at(tables, columns, at.pcf);
     let valid = validity(tables, words, links, columns, p, spid, pcf);
-    with_validity(raw_of(p, plf, pcf, k), valid)
+    with_validity(raw_of(p, location, pcf, k), valid)
 }

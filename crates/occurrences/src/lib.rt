@@ -8,15 +8,15 @@ use outcomes::Refusal;
 use outcomes::Value;
 use outcomes::number_of;
 use raw_values::RawValue;
+use raw_values::place::Location;
 use raw_values::raw_of;
-use rows::decoded::plf_of;
 use rows::records::PcfRow;
 use severity::severity_in;
 ghost use mathlib.Core.Path.{_≡_};
-ghost use Rattle.rows.specs.Records.{plfRow};
+ghost use Rattle.rows.specs.declared.records.PlfRow as declared;
 ghost use Rattle.outcomes.specs.Outcome.{andThen};
 ghost use Rattle.outcomes.specs.Values.{valueOf};
-ghost use Rattle.raw_values.specs.RawValues.{saidRaw, rawOf};
+ghost use Rattle.raw_values.specs.RawValues.{saidRaw, rawOf, locationOf};
 ghost use Rattle.curve_values.specs.Scale.{onScale, scaleIn};
 ghost use Rattle.severity.specs.Checks.{checksIn, severityIn};
 ghost use Rattle.occurrences.specs.Values.{integerIn};
@@ -129,11 +129,11 @@ fn end_pass(pass: Pass) -> Checked
     Checked::Is(progress)
 }
 
-// By the line of the parameter's plf row, and its pcf row.
+// By any plf row that locates the parameter here, and its pcf row.
 // A field that leaves the packet is refused wherever it stands, valid or not.
 pub fn check_occurrences(
     p: &[u8],
-    plf: &[u8],
+    location: Location,
     pcf: PcfRow,
     xs: &[i64],
     ys: &[i64],
@@ -143,12 +143,12 @@ pub fn check_occurrences(
     manner: Manner,
     progress: Progress,
 ) -> Checked
-    ensures { λ r. ⌜ saidChecked r
-        ≡ checkedBy (rawOf (now (p .entry)) (plfRow (now (plf .entry))) pcf) (plfRow (now (plf .entry)) .nbocc)
+    ensures { λ r. ⌜ ((plf : declared.PlfRow) → location ≡ locationOf plf → saidChecked r
+        ≡ checkedBy (rawOf (now (p .entry)) plf pcf) (plf .nbocc)
         (scaleIn (manner .scale) (now (xs .entry)) (now (ys .entry))) (manner .valid)
-        (checksIn (now (lows .entry)) (now (highs .entry)) (now (levels .entry))) (manner .nbchck) progress ⌝ }
+        (checksIn (now (lows .entry)) (now (highs .entry)) (now (levels .entry))) (manner .nbchck) progress) ⌝ }
 {
-    let nbocc = plf_of(plf).nbocc;
+    let nbocc = location.nbocc;
     let nbchck = manner.nbchck;
     let valid = manner.valid;
     let scale = manner.scale;
@@ -159,7 +159,7 @@ pub fn check_occurrences(
     };
     let mut k: usize = 0;
     while k < nbocc as usize {
-        match number_in(raw_of(p, plf, pcf, k)) {
+        match number_in(raw_of(p, location, pcf, k)) {
             RawNumber::Is(raw) => {
                 if valid {
                     pass = check_value(scale, xs, ys, lows, highs, levels, nbchck, raw, pass);

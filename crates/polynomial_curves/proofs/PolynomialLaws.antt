@@ -40,11 +40,11 @@ module _ (texts : List (List ℕ)) (words links columns : List ℕ) (name : Curv
     unfolding polynomialIn
     found-other f = sym (ap polynomialIn holder ∙ rw (kind-is texts columns (at - 1) is f))
 
-    pub found-polynomial : kind ≡ true → {read : McfRow} {line : List ℕ} → read ≡ mcfRow line → line ≡ row .bytes
+    pub found-polynomial : kind ≡ true → {read : McfRow} → read ≡ mcfRow (row .bytes)
         → Is (read .polynomial) ≡ polynomialIn (answers (database texts words links columns) .holder (curve name))
     unfolding polynomialIn
-    found-polynomial t r l =
-        ap (λ (read : McfRow). Is (read .polynomial)) (r ∙ ap mcfRow l) ∙ sym (ap polynomialIn holder ∙ rw (kind-is texts columns (at - 1) is t))
+    found-polynomial t r =
+        ap (λ (read : McfRow). Is (read .polynomial)) r ∙ sym (ap polynomialIn holder ∙ rw (kind-is texts columns (at - 1) is t))
 
 -- by CURTX
 module _ (rows : Rows) (curtx : OptionalCurve) where

@@ -1,11 +1,10 @@
 // The polynomial that a parameter's CURTX names.
 use database::holder_of;
 use database::is_polynomial;
-use database::line_of;
+use found_rows::mcf_at;
 use key_symbols::curve_key;
 use lines::names::CurveName;
 use polynomials::Polynomial;
-use rows::decoded::mcf_of;
 use rows::records::OptionalCurve;
 use tables::TABLES;
 ghost use mathlib.Core.Path.{_≡_};
@@ -38,7 +37,7 @@ fn polynomial_of(
     if !is_polynomial(columns, at - 1) {
         return Found::Nothing;
     }
-    let row = mcf_of(line_of(tables, columns, at - 1));
+    let row = mcf_at(tables, columns, at - 1);
     let polynomial = row.polynomial;
     Found::Is(polynomial)
 }

@@ -67,12 +67,11 @@ module _ (rows : Rows) (p : List ℕ) (spid : ℕ) (valid : PcfRow → Bool) (na
   unfolding readingWith andThen
   read-unlocated f = rw (← is, at-missing texts columns at f)
 
-  pub read-located : at .found ≡ true → (raw : Outcome Value) (b : Bool) (plf : List ℕ) (pcf : PcfRow)
-      → plf ≡ rowAt texts columns (at .plf) .bytes → pcf ≡ pcfRow (rowAt texts columns (at .pcf) .bytes)
-      → raw ≡ rawOf p (plfRow plf) pcf k → b ≡ valid pcf
+  pub read-located : at .found ≡ true → (raw : Outcome Value) (b : Bool) (pcf : PcfRow) → pcf ≡ pcfRow (rowAt texts columns (at .pcf) .bytes)
+      → raw ≡ rawOf p (plfRow (rowAt texts columns (at .plf) .bytes)) pcf k → b ≡ valid pcf
       → andThen raw (withValidity b) ≡ readingWith rows p spid valid name k
   unfolding readingWith andThen byLines
-  read-located f raw b plf pcf el ec er eb = rw (← is, at-found texts columns at f, er, eb, el, ec)
+  read-located f raw b pcf ec er eb = rw (← is, at-found texts columns at f, er, eb, ec)
 
 -- Validity, one step at a time
 

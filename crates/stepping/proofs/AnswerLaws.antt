@@ -54,10 +54,10 @@ module _ (rows : Rows) (p : List ℕ) (name : Name) (s : LimitState) (head : Hea
       unfolding stepOf limitsOf limitsFrom andThen
       no-place l = rw (e, ← l)
 
-      pub with-place : {line : List ℕ} {ocf : OcfRow} {at : Located} → ocf ≡ ocfRow line → line ≡ row .bytes → answer at ≡ located rows spid name
+      pub with-place : {ocf : OcfRow} {at : Located} → ocf ≡ ocfRow (row .bytes) → answer at ≡ located rows spid name
           → stepAt rows p name s head spid ocf at ≡ stepOf rows p name s head spid
       unfolding stepOf limitsOf limitsFrom andThen
-      with-place o b l = rw (e, ← l, o, b)
+      with-place o l = rw (e, ← l, o)
 
 -- The state
 

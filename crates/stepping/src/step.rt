@@ -8,7 +8,7 @@ use announced::Progress;
 use checking::parameter::Subject;
 use checking::parameter::check_parameter;
 use database::holder_of;
-use database::line_of;
+use found_rows::ocf_at;
 use headers::Head;
 use headers::Headed;
 use headers::read_header;
@@ -21,7 +21,6 @@ use lines::names::Name;
 use lines::names::name_of;
 use outcomes::Refusal;
 use parameters::locate;
-use rows::decoded::ocf_of;
 use tables::TABLES;
 use units::Spid;
 ghost use mathlib.Core.Path.{_≡_};
@@ -87,7 +86,7 @@ fn step_of(
     let subject = Subject {
         spid,
         name,
-        limits: ocf_of(line_of(tables, columns, place - 1)),
+        limits: ocf_at(tables, columns, place - 1),
         at,
     };
     step_at(tables, words, links, columns, p, head, subject, state)

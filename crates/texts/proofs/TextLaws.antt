@@ -1,5 +1,5 @@
 -- Texts case by case.
-use mathlib.Core.Path.{_≡_, ap, subst, _∙_}
+use mathlib.Core.Path.{_≡_, ap, subst}
 use mathlib.Core.Bool.{true, false}
 use mathlib.Core.List.{List, map}
 use mathlib.Core.Option.{some}
@@ -21,10 +21,7 @@ use Rattle.database.specs.Rows.{Row, Rows}
 use Rattle.texts.specs.Texts.{fromOf, toOf, altxtOf, foundIn, textIn, textFor}
 
 -- a range's row, read
-module _ (row : Row) {line : List ℕ} {range : TxpRow} (e : range ≡ txpRow line) (l : line ≡ row .bytes) where
-  read : range ≡ txpRow (row .bytes)
-  read = e ∙ ap txpRow l
-
+module _ (row : Row) {range : TxpRow} (read : range ≡ txpRow (row .bytes)) where
   pub from-is : range .from ≡ fromOf row
   unfolding fromOf
   from-is = ap (λ (r : TxpRow). r .from) read

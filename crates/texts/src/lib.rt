@@ -3,15 +3,14 @@ use calibration::nearest::Found;
 use calibration::nearest::not_above;
 use curves::ints::less;
 use database::MOST_MEMBERS;
-use database::line_of;
 use database::list_members;
 use database::number_of;
 use database::start_of;
 use fields::text::string_part;
+use found_rows::txp_at;
 use key_symbols::texts_key;
 use lines::names::CurveName;
 use outcomes::Refusal;
-use rows::decoded::txp_of;
 use tables::TABLES;
 use units::ByteOffset;
 use units::RowNumber;
@@ -37,7 +36,7 @@ pub enum TextResult {
 fn text_of(tables: [&[u8]; TABLES], columns: &[u16], place: usize, raw: i64) -> TextResult
     ensures { λ r. ⌜ saidText r ≡ textIn (some (rowAt (map now (tables .entry)) (now (columns .entry)) place)) raw ⌝ }
 {
-    let row = txp_of(line_of(tables, columns, place));
+    let row = txp_at(tables, columns, place);
     let to = row.to;
     if less(to, raw) {
         return TextResult::Refused(Refusal::NoText);
@@ -60,7 +59,7 @@ fn fill_froms(
     let mut i: usize = 0;
     while i < places.len() {
         let place = places[i];
-        let row = txp_of(line_of(tables, columns, place));
+        let row = txp_at(tables, columns, place);
         let from = row.from;
         froms[i] = from;
         i += 1;

@@ -4,7 +4,6 @@ use mir.Facts.{toZ-ofZ}
 use mir.Syntax.{w64}
 use mir.Val.{SFits, toZ, ofZ}
 use borrow.Author.Needs.{needs}
-use Rattle.rows.specs.Records.{pcfRow}
 use borrow.Author.Tests.{not-true, not-false}
 use Rattle.applying.specs.Checks.{hasValue}
 use Rattle.applying.proofs.ApplyLaws.{applies-free, applies-nowhere, applies-located}
@@ -28,14 +27,11 @@ returns-2 c =
     let a = c .before .before in
     applies-nowhere _ _ _ _ _ _ _ (not-false _ (a .before .before .if1 .left)) (a .locate .ensures _) (not-true _ (c .if2 .taken))
 
-line-of-requires : tie.Need-line-of-requires
-line-of-requires c κs = search needs
+location-at-requires : tie.Need-location-at-requires
+location-at-requires c κs = search needs
 
-line-of-requires-2 : tie.Need-line-of-requires-2
-line-of-requires-2 c κs = search needs
-
-pcf-of-requires : tie.Need-pcf-of-requires
-pcf-of-requires c κs = search needs
+pcf-at-requires : tie.Need-pcf-at-requires
+pcf-at-requires c κs = search needs
 
 raw-of-requires : tie.Need-raw-of-requires
 raw-of-requires c κs = search needs
@@ -46,13 +42,12 @@ has-value-requires c κs = search needs
 returns-3 : tie.Need-returns-3
 returns-3 c =
     let r = c .before .before in
-    let e = r .before .before .before .before in
+    let e = r .before .before .before in
     let a = e .before .before in
     let g = a .before .before in
     let s = g .before .before .before .before .before .before in
     applies-located _ _ _ (s .args .row) _ _ _ (not-false _ (g .if1 .left)) (a .locate .ensures _) (not-false _ (e .if2 .left))
-    _ _ _ (r .before .before .before .line-of .ensures) (r .before .pcf-of .ensures ∙ ap pcfRow (r .before .before .line-of2 .ensures))
-    (r .raw-of .ensures) (c .has-value .ensures ∙ ap (hasValue _) (valpar-word s))
+    _ _ (r .before .pcf-at .ensures) (r .raw-of .ensures _ (r .before .before .location-at .ensures)) (c .has-value .ensures ∙ ap (hasValue _) (valpar-word s))
 
 pub applies-spec : {M : Type 1} → statement M
 applies-spec =
@@ -61,9 +56,8 @@ applies-spec =
     returns
     locate-requires
     returns-2
-    line-of-requires
-    line-of-requires-2
-    pcf-of-requires
+    location-at-requires
+    pcf-at-requires
     raw-of-requires
     has-value-requires
     returns-3)

@@ -26,24 +26,20 @@ returns-2 c =
     let h = i .before in
     ends-polynomial _ _ _ _ _ (h .before .curve-key .ensures) (h .holder-of .ensures .0) (i .if1 .left) (p .is-polynomial .ensures) (c .if2 .taken)
 
-sub-line-of : tie.Need-sub-line-of
-sub-line-of c = search needs
+sub-caf-at : tie.Need-sub-caf-at
+sub-caf-at c = search needs
 
-line-of-requires : tie.Need-line-of-requires
-line-of-requires c κs = tt
-
-caf-of-requires : tie.Need-caf-of-requires
-caf-of-requires c κs = tt
+caf-at-requires : tie.Need-caf-at-requires
+caf-at-requires c κs = tt
 
 returns-3 : tie.Need-returns-3
 returns-3 c =
-    let l = c .before in
-    let q = l .before in
+    let q = c .before in
     let p = q .before in
     let i = p .before in
     let h = i .before in
     ends-some _ _ _ _ _ (h .before .curve-key .ensures) (h .holder-of .ensures .0) (i .if1 .left) (p .is-polynomial .ensures) (q .if2 .left)
-    (c .caf-of .ensures) (l .line-of .ensures)
+    (c .caf-at .ensures)
 
 pub curve-ends-spec : {M : Type 1} → statement M
 curve-ends-spec =
@@ -55,7 +51,6 @@ curve-ends-spec =
     sub-is-polynomial
     is-polynomial-requires
     returns-2
-    sub-line-of
-    line-of-requires
-    caf-of-requires
+    sub-caf-at
+    caf-at-requires
     returns-3)

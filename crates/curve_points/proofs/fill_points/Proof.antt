@@ -34,11 +34,8 @@ mul-place c = omega arith
 shared-slice-read-place : tie.Need-shared-slice-read-place Inv-loop μ-loop
 shared-slice-read-place c = omega arith
 
-line-of-requires : tie.Need-line-of-requires Inv-loop μ-loop
-line-of-requires c κs = tt
-
-cap-of-requires : tie.Need-cap-of-requires Inv-loop μ-loop
-cap-of-requires c κs = tt
+cap-at-requires : tie.Need-cap-at-requires Inv-loop μ-loop
+cap-at-requires c κs = tt
 
 mul-x : tie.Need-mul-x Inv-loop μ-loop
 mul-x c = omega arith
@@ -59,25 +56,24 @@ loop-less : tie.Need-loop-less Inv-loop μ-loop
 loop-less c = omega arith
 
 -- the two integers passed their words unchanged
-x-word : (c : tie.After-struct-told2 Inv-loop μ-loop) → (let z = c .before .before .cap-of .result .xvals in toZ w64 (ofZ w64 z) ≡ z)
+x-word : (c : tie.After-struct-told2 Inv-loop μ-loop) → (let z = c .before .before .cap-at .result .xvals in toZ w64 (ofZ w64 z) ≡ z)
 x-word c =
-    let f : SFits w64 (c .before .before .cap-of .result .xvals) = search needs in
+    let f : SFits w64 (c .before .before .cap-at .result .xvals) = search needs in
     toZ-ofZ f
 
-y-word : (c : tie.After-struct-told2 Inv-loop μ-loop) → (let z = c .before .before .cap-of .result .yvals in toZ w64 (ofZ w64 z) ≡ z)
+y-word : (c : tie.After-struct-told2 Inv-loop μ-loop) → (let z = c .before .before .cap-at .result .yvals in toZ w64 (ofZ w64 z) ≡ z)
 y-word c =
-    let f : SFits w64 (c .before .before .cap-of .result .yvals) = search needs in
+    let f : SFits w64 (c .before .before .cap-at .result .yvals) = search needs in
     toZ-ofZ f
 
 loop-again : tie.Need-loop-again Inv-loop μ-loop
 loop-again c =
     let r = c .before .before in
-    let l = r .before in
-    let t = l .before .before in
+    let t = r .before .before in
     let k = t .before .loop .inv in (
       omega arith,
-      fill-more _ _ (k .1) (t .loop-test .taken) (x-word c ∙ xvals-are _ (r .cap-of .ensures) (l .line-of .ensures)),
-      fill-more _ _ (k .2) (t .loop-test .taken) (y-word c ∙ yvals-are _ (r .cap-of .ensures) (l .line-of .ensures)),
+      fill-more _ _ (k .1) (t .loop-test .taken) (x-word c ∙ xvals-are _ (r .cap-at .ensures)),
+      fill-more _ _ (k .2) (t .loop-test .taken) (y-word c ∙ yvals-are _ (r .cap-at .ensures)),
     )
 
 returns : tie.Need-returns Inv-loop μ-loop
@@ -92,8 +88,7 @@ fill-points-spec =
     loop-holds
     mul-place
     shared-slice-read-place
-    line-of-requires
-    cap-of-requires
+    cap-at-requires
     mul-x
     element-set-from-x
     mul-y

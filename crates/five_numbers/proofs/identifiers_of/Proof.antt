@@ -15,11 +15,8 @@ returns c = no-fields _ _ _ _ (c .before .find-pic .ensures _) (c .if1 .taken)
 sub-i : tie.Need-sub-i
 sub-i c = search needs
 
-line-of-requires : tie.Need-line-of-requires
-line-of-requires c κs = search needs
-
-pic-of-requires : tie.Need-pic-of-requires
-pic-of-requires c κs = search needs
+pic-at-requires : tie.Need-pic-at-requires
+pic-at-requires c κs = search needs
 
 read-fields-requires : tie.Need-read-fields-requires
 read-fields-requires c κs = search needs
@@ -27,9 +24,8 @@ read-fields-requires c κs = search needs
 returns-2 : tie.Need-returns-2
 returns-2 c =
     let r = c .before in
-    let l = r .before in
-    let i = l .before in
-    row-fields _ _ _ _ (i .before .find-pic .ensures _) (i .if1 .left) (l .line-of .ensures) (r .pic-of .ensures) (c .read-fields .ensures)
+    let i = r .before in
+    row-fields _ _ _ _ (i .before .find-pic .ensures _) (i .if1 .left) (r .pic-at .ensures) (c .read-fields .ensures)
 
 pub identifiers-of-spec : {M : Type 1} → statement M
 identifiers-of-spec =
@@ -38,7 +34,6 @@ identifiers-of-spec =
     find-pic-requires
     returns
     sub-i
-    line-of-requires
-    pic-of-requires
+    pic-at-requires
     read-fields-requires
     returns-2)

@@ -38,11 +38,8 @@ returns-2 c =
 sub-i : tie.Need-sub-i
 sub-i c = search needs
 
-line-of-requires : tie.Need-line-of-requires
-line-of-requires c κs = search needs
-
-spid-of-requires : tie.Need-spid-of-requires
-spid-of-requires c κs = search needs
+spid-at-requires : tie.Need-spid-at-requires
+spid-at-requires c κs = search needs
 
 number-of-requires : tie.Need-number-of-requires
 number-of-requires c κs = search needs
@@ -51,11 +48,10 @@ returns-3 : tie.Need-returns-3
 unfolding saidIdentified
 returns-3 c =
     let r = c .before in
-    let l = r .before in
-    let i = l .before in
+    let i = r .before in
     let h = i .before in
     choice-some _ _ (holder-some _ _ _ _ _ _ (fit (h .before) .0) (fit (h .before) .1) _ (h .holder-of .ensures .0) (i .if2 .left))
-    (c .number-of .ensures ∙ number-alone _ _ _) (l .line-of .ensures) (r .spid-of .ensures)
+    (c .number-of .ensures ∙ number-alone _ _ _) (r .spid-at .ensures)
 
 pub choose-spec : {M : Type 1} → statement M
 choose-spec =
@@ -66,7 +62,6 @@ choose-spec =
     holder-of-requires
     returns-2
     sub-i
-    line-of-requires
-    spid-of-requires
+    spid-at-requires
     number-of-requires
     returns-3)

@@ -1,6 +1,5 @@
 -- By the rows of the parameter.
-use mathlib.Core.Path.{ap, _∙_}
-use Rattle.rows.specs.Records.{pcfRow}
+use mathlib.Core.Path.{_∙_}
 use Rattle.outcomes.specs.Refusals.{refusedBy, refusalNumber, refusalPlace}
 use Rattle.readings.specs.Readings.{saidReading, reading}
 use Rattle.readings.proofs.ReadingLaws.{not-true, not-false, read-unlocated, read-located}
@@ -15,14 +14,11 @@ returns : tie.Need-returns
 unfolding reading saidReading refusedBy refusalNumber refusalPlace
 returns c = read-unlocated _ _ _ _ _ _ _ _ _ (c .before .before .locate .ensures _) (not-true _ (c .if1 .taken))
 
-line-of-requires : tie.Need-line-of-requires
-line-of-requires c κs = search needs
+location-at-requires : tie.Need-location-at-requires
+location-at-requires c κs = search needs
 
-line-of-requires-2 : tie.Need-line-of-requires-2
-line-of-requires-2 c κs = search needs
-
-pcf-of-requires : tie.Need-pcf-of-requires
-pcf-of-requires c κs = search needs
+pcf-at-requires : tie.Need-pcf-at-requires
+pcf-at-requires c κs = search needs
 
 validity-requires : tie.Need-validity-requires
 validity-requires c κs = search needs
@@ -39,10 +35,10 @@ returns-2 c =
     let v = c .before .before in
     let q = v .before in
     let l = q .before in
-    let e = l .before .before in
+    let e = l .before in
     c .with-validity .ensures
-    ∙ read-located _ _ _ _ _ _ _ _ _ (e .before .before .locate .ensures _) (not-false _ (e .if1 .left)) _ _ _ _
-    (l .before .line-of .ensures) (q .pcf-of .ensures ∙ ap pcfRow (l .line-of2 .ensures)) (c .before .raw-of .ensures) (v .validity .ensures)
+    ∙ read-located _ _ _ _ _ _ _ _ _ (e .before .before .locate .ensures _) (not-false _ (e .if1 .left)) _ _ _
+    (q .pcf-at .ensures) (c .before .raw-of .ensures _ (l .location-at .ensures)) (v .validity .ensures)
 
 pub read-spec : {M : Type 1} → statement M
 read-spec =
@@ -50,9 +46,8 @@ read-spec =
     (tie.spec
     locate-requires
     returns
-    line-of-requires
-    line-of-requires-2
-    pcf-of-requires
+    location-at-requires
+    pcf-at-requires
     validity-requires
     raw-of-requires
     with-validity-requires

@@ -28,25 +28,21 @@ returns-2 c =
     found-other _ _ _ _ _ (h .before .curve-key .ensures) (h .holder-of .ensures .0) (i .if1 .left) (p .is-polynomial .ensures)
     (not-true _ (c .if2 .taken))
 
-sub-line-of : tie.Need-sub-line-of
-sub-line-of c = search needs
+sub-mcf-at : tie.Need-sub-mcf-at
+sub-mcf-at c = search needs
 
-line-of-requires : tie.Need-line-of-requires
-line-of-requires c κs = tt
-
-mcf-of-requires : tie.Need-mcf-of-requires
-mcf-of-requires c κs = tt
+mcf-at-requires : tie.Need-mcf-at-requires
+mcf-at-requires c κs = tt
 
 returns-3 : tie.Need-returns-3
 returns-3 c =
     let m = c .before in
-    let l = m .before in
-    let q = l .before in
+    let q = m .before in
     let p = q .before in
     let i = p .before in
     let h = i .before in
     found-polynomial _ _ _ _ _ (h .before .curve-key .ensures) (h .holder-of .ensures .0) (i .if1 .left) (p .is-polynomial .ensures)
-    (not-false _ (q .if2 .left)) (m .mcf-of .ensures) (l .line-of .ensures)
+    (not-false _ (q .if2 .left)) (m .mcf-at .ensures)
 
 pub polynomial-of-spec : {M : Type 1} → statement M
 polynomial-of-spec =
@@ -58,7 +54,6 @@ polynomial-of-spec =
     sub-is-polynomial
     is-polynomial-requires
     returns-2
-    sub-line-of
-    line-of-requires
-    mcf-of-requires
+    sub-mcf-at
+    mcf-at-requires
     returns-3)

@@ -31,11 +31,8 @@ mul-place c = omega arith
 shared-slice-read-place : tie.Need-shared-slice-read-place Inv-loop μ-loop
 shared-slice-read-place c = omega arith
 
-line-of-requires : tie.Need-line-of-requires Inv-loop μ-loop
-line-of-requires c κs = tt
-
-txp-of-requires : tie.Need-txp-of-requires Inv-loop μ-loop
-txp-of-requires c κs = tt
+txp-at-requires : tie.Need-txp-at-requires Inv-loop μ-loop
+txp-at-requires c κs = tt
 
 mul-from : tie.Need-mul-from Inv-loop μ-loop
 mul-from c = omega arith
@@ -50,17 +47,16 @@ loop-less : tie.Need-loop-less Inv-loop μ-loop
 loop-less c = omega arith
 
 -- the integer passed its word unchanged
-word : (c : tie.After-struct-told Inv-loop μ-loop) → (let z = c .before .txp-of .result .from in toZ w64 (ofZ w64 z) ≡ z)
+word : (c : tie.After-struct-told Inv-loop μ-loop) → (let z = c .before .txp-at .result .from in toZ w64 (ofZ w64 z) ≡ z)
 word c =
-    let f : SFits w64 (c .before .txp-of .result .from) = search needs in
+    let f : SFits w64 (c .before .txp-at .result .from) = search needs in
     toZ-ofZ f
 
 loop-again : tie.Need-loop-again Inv-loop μ-loop
 loop-again c =
     let r = c .before in
-    let l = r .before in
-    let t = l .before .before in
-    (omega arith, fill-more _ _ (t .before .loop .inv .1) (t .loop-test .taken) (word c ∙ from-is _ (r .txp-of .ensures) (l .line-of .ensures)))
+    let t = r .before .before in
+    (omega arith, fill-more _ _ (t .before .loop .inv .1) (t .loop-test .taken) (word c ∙ from-is _ (r .txp-at .ensures .0)))
 
 returns : tie.Need-returns Inv-loop μ-loop
 returns c = fill-done _ _ (c .before .loop .inv .1) (omega arith)
@@ -74,8 +70,7 @@ fill-froms-spec =
     loop-holds
     mul-place
     shared-slice-read-place
-    line-of-requires
-    txp-of-requires
+    txp-at-requires
     mul-from
     element-set-from-from
     add-i

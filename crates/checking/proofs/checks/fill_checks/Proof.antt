@@ -26,14 +26,14 @@ abbrev μ-loop : tie.MeasureT-loop
     length places - i
 
 -- the two integers passed their words unchanged
-low-word : (c : tie.After-level-of Inv-loop μ-loop) → (let z = c .before .before .before .before .before .ocp-of .result .lvalu in toZ w64 (ofZ w64 z) ≡ z)
+low-word : (c : tie.After-level-of Inv-loop μ-loop) → (let z = c .before .before .before .before .before .ocp-at .result .lvalu in toZ w64 (ofZ w64 z) ≡ z)
 low-word c =
-    let f : SFits w64 (c .before .before .before .before .before .ocp-of .result .lvalu) = search needs in
+    let f : SFits w64 (c .before .before .before .before .before .ocp-at .result .lvalu) = search needs in
     toZ-ofZ f
 
-high-word : (c : tie.After-level-of Inv-loop μ-loop) → (let z = c .before .before .before .before .before .ocp-of .result .hvalu in toZ w64 (ofZ w64 z) ≡ z)
+high-word : (c : tie.After-level-of Inv-loop μ-loop) → (let z = c .before .before .before .before .before .ocp-at .result .hvalu in toZ w64 (ofZ w64 z) ≡ z)
 high-word c =
-    let f : SFits w64 (c .before .before .before .before .before .ocp-of .result .hvalu) = search needs in
+    let f : SFits w64 (c .before .before .before .before .before .ocp-at .result .hvalu) = search needs in
     toZ-ofZ f
 
 loop-holds : tie.Need-loop-holds Inv-loop μ-loop
@@ -45,11 +45,8 @@ mul-place c = omega arith
 shared-slice-read-place : tie.Need-shared-slice-read-place Inv-loop μ-loop
 shared-slice-read-place c = omega arith
 
-line-of-requires : tie.Need-line-of-requires Inv-loop μ-loop
-line-of-requires c κs = tt
-
-ocp-of-requires : tie.Need-ocp-of-requires Inv-loop μ-loop
-ocp-of-requires c κs = tt
+ocp-at-requires : tie.Need-ocp-at-requires Inv-loop μ-loop
+ocp-at-requires c κs = tt
 
 applies-requires : tie.Need-applies-requires Inv-loop μ-loop
 applies-requires c κs = tt
@@ -86,9 +83,9 @@ loop-again c =
     let i = c .before .before .before in
     let a = i .before in
     let o = a .before in
-    let t = o .before .before .before in
-    let row = o .ocp-of .ensures in
-    fill-more _ _ _ (t .before .loop .inv) (t .loop-test .taken) (o .before .line-of .ensures) row (a .applies .ensures) (i .if1 .taken)
+    let t = o .before .before in
+    let row = o .ocp-at .ensures in
+    fill-more _ _ _ (t .before .loop .inv) (t .loop-test .taken) row (a .applies .ensures) (i .if1 .taken)
     (low-word c) (high-word c) (c .level-of .ensures)
 
 add-i-2 : tie.Need-add-i-2 Inv-loop μ-loop
@@ -101,8 +98,8 @@ loop-again-2 : tie.Need-loop-again-2 Inv-loop μ-loop
 loop-again-2 c =
     let a = c .before in
     let o = a .before in
-    let t = o .before .before .before in
-    fill-other _ _ _ (t .before .loop .inv) (t .loop-test .taken) (o .before .line-of .ensures) (o .ocp-of .ensures) (a .applies .ensures) (c .if1 .left)
+    let t = o .before .before in
+    fill-other _ _ _ (t .before .loop .inv) (t .loop-test .taken) (o .ocp-at .ensures) (a .applies .ensures) (c .if1 .left)
 
 returns : tie.Need-returns Inv-loop μ-loop
 returns c =
@@ -118,8 +115,7 @@ fill-checks-spec =
     loop-holds
     mul-place
     shared-slice-read-place
-    line-of-requires
-    ocp-of-requires
+    ocp-at-requires
     applies-requires
     mul-low
     element-set-from-low

@@ -1,24 +1,20 @@
 -- The manner that was gathered, and the occurrences checked by it.
-use mathlib.Core.Path.{ap, sym, _∙_}
+use mathlib.Core.Path.{sym, _∙_}
 use lib.IntN.{pos}
 use lib.ListN.{length-replicate}
-use Rattle.rows.specs.Records.{pcfRow}
 use Rattle.checking.proofs.ParameterLaws.{manner-checked}
 use borrow.Author.Needs.{needs}
 use Rattle.checking.proofs.parameter.check_by.Statement.{statement}
 use Rattle.checking.proofs.parameter.check_by.Tie as tie
 
-line-of-requires : tie.Need-line-of-requires
-line-of-requires c κs = tt
-
-pcf-of-requires : tie.Need-pcf-of-requires
-pcf-of-requires c κs = tt
+pcf-at-requires : tie.Need-pcf-at-requires
+pcf-at-requires c κs = tt
 
 manner-of-requires : tie.Need-manner-of-requires
 manner-of-requires c κs = (length-replicate 1024 (pos 0), length-replicate 1024 (pos 0))
 
-line-of-requires-2 : tie.Need-line-of-requires-2
-line-of-requires-2 c κs = tt
+location-at-requires : tie.Need-location-at-requires
+location-at-requires c κs = tt
 
 slice-aggregate-check-occurrences : tie.Need-slice-aggregate-check-occurrences
 slice-aggregate-check-occurrences c = sym (c .before .before .manner-of .ensures .long .0)
@@ -34,17 +30,15 @@ returns c =
     let l = c .before .before .before in
     let m = l .before in
     let q = m .before .before .before in
-    c .check-occurrences .ensures
-    ∙ manner-checked _ _ _ _ _ _ _ _ (l .line-of2 .ensures) (q .pcf-of .ensures ∙ ap pcfRow (q .before .line-of .ensures)) (m .manner-of .ensures)
+    c .check-occurrences .ensures _ (l .location-at .ensures) ∙ manner-checked _ _ _ _ _ _ _ _ (q .pcf-at .ensures) (m .manner-of .ensures)
 
 pub check-by-spec : {M : Type 1} → statement M
 check-by-spec =
     tie.close
     (tie.spec
-    line-of-requires
-    pcf-of-requires
+    pcf-at-requires
     manner-of-requires
-    line-of-requires-2
+    location-at-requires
     slice-aggregate-check-occurrences
     slice-aggregate-check-occurrences-2
     check-occurrences-requires

@@ -1,6 +1,5 @@
 -- By the rows of the validity parameter.
 use mathlib.Core.Path.{refl, ap, _∙_}
-use Rattle.rows.specs.Records.{pcfRow}
 use Rattle.readings.specs.Readings.{agrees}
 use Rattle.readings.proofs.ReadingLaws.{not-true, not-false, read-unlocated, read-located}
 use Rattle.located_readings.proofs.FollowLaws.{never-agrees}
@@ -21,14 +20,11 @@ returns c valid valpar =
     never-agrees valid _ valpar (c .unreadable .ensures)
     ∙ ap (λ r. agrees r valpar) (read-unlocated _ _ _ valid _ _ _ _ _ (e .before .before .locate .ensures _) (not-true _ (e .if1 .taken)))
 
-line-of-requires : tie.Need-line-of-requires
-line-of-requires c κs = search needs
+location-at-requires : tie.Need-location-at-requires
+location-at-requires c κs = search needs
 
-line-of-requires-2 : tie.Need-line-of-requires-2
-line-of-requires-2 c κs = search needs
-
-pcf-of-requires : tie.Need-pcf-of-requires
-pcf-of-requires c κs = search needs
+pcf-at-requires : tie.Need-pcf-at-requires
+pcf-at-requires c κs = search needs
 
 raw-of-requires : tie.Need-raw-of-requires
 raw-of-requires c κs = search needs
@@ -40,10 +36,10 @@ returns-2 : tie.Need-returns-2
 returns-2 c valid valpar =
     let q = c .before .before in
     let l = q .before in
-    let e = l .before .before in
+    let e = l .before in
     c .raw-asked .ensures valid valpar
-    ∙ ap (λ r. agrees r valpar) (read-located _ _ _ valid _ _ _ _ _ (e .before .before .locate .ensures _) (not-false _ (e .if1 .left)) _ _ _ _
-    (l .before .line-of .ensures) (q .pcf-of .ensures ∙ ap pcfRow (l .line-of2 .ensures)) (c .before .raw-of .ensures) refl)
+    ∙ ap (λ r. agrees r valpar) (read-located _ _ _ valid _ _ _ _ _ (e .before .before .locate .ensures _) (not-false _ (e .if1 .left)) _ _ _
+    (q .pcf-at .ensures) (c .before .raw-of .ensures _ (l .location-at .ensures)) refl)
 
 pub ask-spec : {M : Type 1} → statement M
 ask-spec =
@@ -52,9 +48,8 @@ ask-spec =
     locate-requires
     unreadable-requires
     returns
-    line-of-requires
-    line-of-requires-2
-    pcf-of-requires
+    location-at-requires
+    pcf-at-requires
     raw-of-requires
     raw-asked-requires
     returns-2)

@@ -55,24 +55,21 @@ returns-2 c =
     answers-as (c .refuse2 .ensures)
     (no-place _ _ _ _ _ _ (found-limits (l .before)) (sym (at-missing _ _ _ (not-true _ (c .before .if2 .taken))) ∙ l .locate .ensures _))
 
-sub-line-of : tie.Need-sub-line-of
-sub-line-of c = omega arith
+sub-ocf-at : tie.Need-sub-ocf-at
+sub-ocf-at c = omega arith
 
-line-of-requires : tie.Need-line-of-requires
-line-of-requires c κs = search needs
-
-ocf-of-requires : tie.Need-ocf-of-requires
-ocf-of-requires c κs = search needs
+ocf-at-requires : tie.Need-ocf-at-requires
+ocf-at-requires c κs = search needs
 
 step-at-requires : tie.Need-step-at-requires
 step-at-requires c κs = search needs
 
 returns-3 : tie.Need-returns-3
 returns-3 c =
-    let l = c .before .before .before .before .before in
+    let l = c .before .before .before .before in
     answers-as (c .step-at .ensures)
-    (with-place _ _ _ _ _ _ (found-limits (l .before)) (c .before .ocf-of .ensures) (c .before .before .line-of .ensures)
-    (sym (at-found _ _ _ (not-false _ (c .before .before .before .if2 .left))) ∙ l .locate .ensures _))
+    (with-place _ _ _ _ _ _ (found-limits (l .before)) (c .before .ocf-at .ensures)
+    (sym (at-found _ _ _ (not-false _ (c .before .before .if2 .left))) ∙ l .locate .ensures _))
 
 pub step-of-spec : {M : Type 1} → statement M
 step-of-spec =
@@ -85,8 +82,7 @@ step-of-spec =
     locate-requires
     refuse-requires-2
     returns-2
-    sub-line-of
-    line-of-requires
-    ocf-of-requires
+    sub-ocf-at
+    ocf-at-requires
     step-at-requires
     returns-3)
