@@ -1,2 +1,3 @@
 pub mod Extraction
 pub mod Engineering
+pub mod Located

@@ -1,42 +1,46 @@
-// The engineering value of a parameter in a packet.
-use crate::extract::extract_in;
-use database::holder_of;
-use database::line_of;
+// The engineering value of a parameter in a packet, valid or not: its VALID chain is not read.
 use engineering::engineer::Engineered;
 use engineering::engineer::engineer_value;
-use key_symbols::parameter_key;
+use found_rows::location_at;
+use found_rows::pcf_at;
+use identification::Identified;
+use identification::identify_in;
+use lines::names::Name;
 use lines::names::name_of;
 use outcomes::Refusal;
 use outcomes::Value;
-use readings::Reading;
+use parameters::locate;
+use raw_values::RawValue;
+use raw_values::raw_of;
+use rows::records::PcfRow;
 use tables::TABLES;
+use units::Spid;
 ghost use mathlib.Core.Path.{_≡_};
 ghost use mathlib.Core.List.{map};
-ghost use Rattle.lines.specs.Names.{nameOf};
-ghost use Rattle.outcomes.specs.Values.{number, valueOf};
+ghost use Rattle.outcomes.specs.Outcome.{andThen};
+ghost use Rattle.outcomes.specs.Values.{valueOf};
 ghost use Rattle.database.specs.Arrays.{database, answers};
+ghost use Rattle.raw_values.specs.RawValues.{saidRaw};
 ghost use Rattle.engineering.specs.Engineering.{saidEngineered};
-ghost use Rattle.extraction.specs.Engineering.{engineeredFrom, engineerBy};
+ghost use Rattle.extraction.specs.Engineering.{engineerBy};
+ghost use Rattle.extraction.specs.Located.{engineeredBy, engineeredIn};
 
-// Of a raw value that is a number, by the parameter's good pcf row.
-fn engineer_number(
+// Of a value, by the parameter's pcf row.
+fn engineer_read(
     tables: [&[u8]; TABLES],
     words: &[u64],
     links: &[u16],
     columns: &[u16],
-    name: &[u8],
-    raw: i64,
+    pcf: PcfRow,
+    value: Value,
 ) -> Engineered
     ensures { λ r. ⌜ saidEngineered r
-        ≡ engineeredFrom (answers (database (map now (tables .entry)) (now (words .entry)) (now (links .entry)) (now (columns .entry))))
-        (nameOf (now (name .entry))) (number raw) ⌝ }
+        ≡ engineeredBy (answers (database (map now (tables .entry)) (now (words .entry)) (now (links .entry)) (now (columns .entry)))) pcf (valueOf value) ⌝ }
 {
-    let at = holder_of(words, links, columns, parameter_key(name_of(name)));
-    if at == 0 {
-        return Engineered::Refused(Refusal::NoPlfRow);
+    match value {
+        Value::Number(z) => engineer_value(tables, words, links, columns, pcf, z),
+        Value::Part(from, bytes) => Engineered::Is(Value::Part(from, bytes)),
     }
-    let pcf = line_of(tables, columns, at - 1);
-    engineer_value(tables, words, links, columns, pcf, raw)
 }
 
 fn engineer_raw(
@@ -44,17 +48,48 @@ fn engineer_raw(
     words: &[u64],
     links: &[u16],
     columns: &[u16],
-    name: &[u8],
-    raw: Value,
+    pcf: PcfRow,
+    raw: RawValue,
 ) -> Engineered
     ensures { λ r. ⌜ saidEngineered r
-        ≡ engineeredFrom (answers (database (map now (tables .entry)) (now (words .entry)) (now (links .entry)) (now (columns .entry))))
-        (nameOf (now (name .entry))) (valueOf raw) ⌝ }
+        ≡ andThen (saidRaw raw)
+        (engineeredBy (answers (database (map now (tables .entry)) (now (words .entry)) (now (links .entry)) (now (columns .entry)))) pcf) ⌝ }
 {
     match raw {
-        Value::Number(z) => engineer_number(tables, words, links, columns, name, z),
-        Value::Part(from, bytes) => Engineered::Is(Value::Part(from, bytes)),
+        RawValue::Is(value) => engineer_read(tables, words, links, columns, pcf, value),
+        RawValue::Refused(refusal) => Engineered::Refused(refusal),
     }
+}
+
+// Of occurrence k of a parameter in a packet of this SPID: its two rows are found and decoded once.
+fn engineer_located(
+    tables: [&[u8]; TABLES],
+    words: &[u64],
+    links: &[u16],
+    columns: &[u16],
+    p: &[u8],
+    spid: Spid,
+    name: Name,
+    k: usize,
+) -> Engineered
+    ensures { λ r. ⌜ saidEngineered r
+        ≡ engineeredIn (answers (database (map now (tables .entry)) (now (words .entry)) (now (links .entry)) (now (columns .entry))))
+        (now (p .entry)) (spid .0) name k ⌝ }
+{
+    let at = locate(words, links, columns, spid, name);
+    if !at.found {
+        return Engineered::Refused(Refusal::NoPlfRow);
+    }
+    let location = location_at(tables, columns, at.plf);
+    let pcf = pcf_at(tables, columns, at.pcf);
+    engineer_raw(
+        tables,
+        words,
+        links,
+        columns,
+        pcf,
+        raw_of(p, location, pcf, k),
+    )
 }
 
 // Of tables that are loaded.
@@ -71,8 +106,17 @@ pub fn engineer_in(
         (now (columns .entry))))
         (now (p .entry)) (now (name .entry)) occurrence ⌝ }
 {
-    match extract_in(tables, words, links, columns, p, name, occurrence) {
-        Reading::Is(raw, _) => engineer_raw(tables, words, links, columns, name, raw),
-        Reading::Refused(refusal) => Engineered::Refused(refusal),
+    match identify_in(tables, words, links, columns, p) {
+        Identified::Is(_, spid, _) => engineer_located(
+            tables,
+            words,
+            links,
+            columns,
+            p,
+            spid,
+            name_of(name),
+            occurrence,
+        ),
+        Identified::Refused(refusal) => Engineered::Refused(refusal),
     }
 }
