@@ -5,6 +5,8 @@ use mathlib.Core.List.{List, []}
 use Prim.Native.Nat.{ℕ, _-_, _≤_, _<_}
 use borrow.Author.Tests.{eq-eqb, ne-eqb, le-leb, lt-leb}
 use Rattle.lines.specs.Columns.{printable, divided, columnIn}
+use Rattle.lines.specs.declared.columns.Scanned.{Scanned}
+use Rattle.lines.proofs.WalkedLaws.{Walked, ends-are, end-is}
 use Rattle.key_texts.specs.Shown.{shownAs, lineIn, columnText, keyColumn}
 
 module _ (b : ℕ) where
@@ -44,7 +46,7 @@ module _ (table : List ℕ) (start k : ℕ) where
   unfolding columnText
   text-some e = rw (ne-eqb k 0 e)
 
-  -- by what was read
-  pub text-read : (k ≡ 0 → ⊥) → (line : List ℕ) → line ≡ lineIn table start → (ends : List ℕ) → ends ≡ divided line
+  -- by a walk over the row's line
+  pub text-read : (k ≡ 0 → ⊥) → {walk : Scanned} {line ends : List ℕ} → Walked table start walk line ends
       → (r : List ℕ) → r ≡ columnIn line ends (k - 1) → r ≡ columnText table start k
-  text-read z line l ends d r e = e ∙ rw (d, l) (text-some z)
+  text-read z w r e = e ∙ rw (ends-are w, w .part, end-is w) (text-some z)

@@ -5,10 +5,10 @@ use judged::parts::START;
 use judged::parts::TABLE;
 use key_rows::byte;
 use key_rows::half;
+use lines::columns::MOST_COLUMNS;
 use lines::columns::column;
-use lines::columns::divide;
 use lines::columns::part;
-use lines::walk::next_line;
+use lines::columns::scan;
 use tables::TABLES;
 use tables::table_at;
 use words::say::words;
@@ -16,7 +16,7 @@ ghost use mathlib.Core.Path.{_≡_};
 ghost use lib.Seq.{sets};
 ghost use Rattle.laws.specs.Values.{tabulate};
 ghost use mathlib.Core.List.{map};
-ghost use Rattle.key_texts.specs.Shown.{shownAs, shownAt, lineIn, textOf, keyColumn};
+ghost use Rattle.key_texts.specs.Shown.{shownAs, shownAt, textOf, keyColumn};
 
 // A text is shown up to so many bytes.
 const SHOWN: usize = 64;
@@ -62,14 +62,7 @@ fn say_text(text: &[u8]) {
     }
 }
 
-fn line_at<'a>(table: &'a [u8], start: usize) -> &'a [u8]
-    ensures { λ r. ⌜ now r ≡ lineIn (now (table .entry)) start ⌝ }
-{
-    let end = next_line(table, start).end;
-    part(table, start, end)
-}
-
-// Column k of row i, from 1; nothing for column 0.
+// Column k of row i, from 1; nothing for column 0. Its line is walked once.
 fn text_of<'a>(
     tables: [&'a [u8]; TABLES],
     halves: &[u16],
@@ -80,11 +73,13 @@ fn text_of<'a>(
     ensures { λ r. ⌜ now r ≡ textOf (map now (tables .entry)) (now (halves .entry)) (now (bytes .entry)) i k ⌝ }
 {
     let table = table_at(tables, byte(bytes, TABLE, i) as usize);
-    let line = line_at(table, half(halves, START, i) as usize);
+    let start = half(halves, START, i) as usize;
+    let mut ends = [0usize; MOST_COLUMNS];
+    let walk = scan(table, start, true, &mut ends);
+    let line = part(table, start, walk.end);
     if k == 0 {
         return part(line, 0, 0);
     }
-    let ends = divide(line);
     column(line, &ends, k - 1)
 }
 
