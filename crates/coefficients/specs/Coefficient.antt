@@ -53,8 +53,8 @@ valued written.TooWide = TooWide
 unfoldable pub coefficientOf : List ℕ → Coefficient
 coefficientOf text = valued (parsedOf text)
 
--- 02, P1: "else reason 7"; 02, P2: '6 becomes "no digits", for "-" …, 13 "a wrong digit", for any other bad number'; 01: "5 too wide".
--- 0 where it is good. bare: the text is a minus alone
+-- 02, P1: "else reason 7"; 02, P2: '6 becomes "no digits", for "-" …, 13 "a wrong digit", for any other bad number';
+-- 01: "5 too wide". 0 where it is good. bare: the text is a minus alone
 unfoldable pub coefficientReason : (bare : Bool) → Coefficient → ℕ
 coefficientReason bare (Double x) = 0
 coefficientReason bare NotCoefficient = cond bare 6 13

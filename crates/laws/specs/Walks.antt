@@ -14,8 +14,8 @@ pub record Begins (isWord : List ℕ → Bool) (text : List ℕ) : Type 0 where
   pub rest : List ℕ
   pub word : isWord (text ++ rest) ≡ true
 
--- 02, P2: "the first character at which no allowed number can go on": the longest beginning of the text that is the beginning of a
--- word has n characters
+-- 02, P2: "the first character at which no allowed number can go on": the longest beginning of the text that is the
+-- beginning of a word has n characters
 pub record Longest (isWord : List ℕ → Bool) (text : List ℕ) (n : ℕ) : Type 0 where
   pub within : n ≤ length text
   pub begins : Begins isWord (take n text)

@@ -38,8 +38,8 @@ listed letters [] = false
 listed letters (b ∷ []) = isIn b letters
 listed letters (b ∷ c ∷ bs) = false
 
--- 01: "6 not a number or not a listed letter, 7 out of range"; 02, P2: '6 becomes "no digits" …, 13 "a wrong digit", for any other
--- bad number, 14 "a letter not listed"'. bare: the text is one of those without digits
+-- 01: "6 not a number or not a listed letter, 7 out of range"; 02, P2: '6 becomes "no digits" …, 13 "a wrong digit",
+-- for any other bad number, 14 "a letter not listed"'. bare: the text is one of those without digits
 unfoldable pub numberReason : ℤ → ℤ → (bare : Bool) → Option ℤ → ℕ
 numberReason lowest highest bare none = cond bare 6 13
 numberReason lowest highest bare (some v) = cond (leZ lowest v && leZ v highest) 0 7
