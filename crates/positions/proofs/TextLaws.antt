@@ -73,5 +73,6 @@ position-low table line =
     let v : ℕ = formed table line in
     let k : ℕ = v % 256 - 1 in
     bool-cases (tellsPosition (v / 256))
-    (λ t. rw t (omega (arith, tells-short table line t, position-most (kindOf table k) (getD (columnsFrom [] (line .bytes)) k []), column-within [] (line .bytes) k)))
+    (λ t. let text : List ℕ = getD (columnsFrom [] (line .bytes)) k [] in
+    rw t (omega (arith, tells-short table line t, position-most (kindOf table k) text, column-within [] (line .bytes) k)))
     (λ f. rw f (omega arith))

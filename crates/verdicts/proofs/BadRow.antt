@@ -48,7 +48,8 @@ demand-3 texts edit u r is apart lent lent′ takes takes′ =
       samePlace = place-kept texts edit u r;
       same = imported-at texts lent takes u r is ∙ verdict-kept texts edit u r is apart ∙ sym (imported-at (edited texts edit) lent′ takes′ u r is′);
       samePosition =
-          imported-position texts lent takes u r is ∙ position-kept texts edit u r is (apart .other) ∙ sym (imported-position (edited texts edit) lent′ takes′ u r is′);
+          imported-position texts lent takes u r is ∙ position-kept texts edit u r is (apart .other)
+          ∙ sym (imported-position (edited texts edit) lent′ takes′ u r is′);
     }
 
 -- what import promises of its answer and of the buffers after makes these the cells and positions of `demand-3`
