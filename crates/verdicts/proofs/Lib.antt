@@ -10,5 +10,6 @@ pub mod CellLaws
 pub mod Isolation
 pub mod EditLaws
 pub mod BadRow
+pub mod PositionLaws
 pub mod LineEdits
 pub mod OwnerLaws
