@@ -15,8 +15,7 @@ use Rattle.verdicts.proofs.OwnerLaws.{tableIndex, ownersOf}
 use Rattle.database.specs.Rows.{Row}
 use Rattle.database.specs.GoodRows.{tableOf, holdsKey}
 use Rattle.database.specs.Kinds.{isPolynomial}
-use Rattle.readings.proofs.ParameterRows.{table-number}
-use Rattle.refusal_places.proofs.GoodRows.{holds-owner}
+use Rattle.database.proofs.OwnerLaws.{holds-owner, table-number}
 
 pub polynomial-table : (row : Row) → isPolynomial row ≡ true → tableOf row ≡ Mcf
 unfolding isPolynomial

@@ -18,7 +18,7 @@ use Rattle.database.specs.Rows.{Row}
 use Rattle.database.specs.GoodRows.{rowsOf, rowsFrom, rowsIn, isGood, goodRows}
 use Rattle.database.proofs.RowLaws.{in-table, in-tables}
 
-abbrev Same : Row → Row → Type 0
+abbrev pub Same : Row → Row → Type 0
 Same a b = (a .table ≡ b .table) × (a .number ≡ b .number)
 
 pub data Distinct : List Row → Type 0 where

@@ -25,7 +25,8 @@ use Rattle.verdicts.proofs.KeyLaws.{same-key-is}
 use Rattle.verdicts.proofs.OwnerLaws.{ownersOf}
 use Rattle.database.specs.Rows.{Row}
 use Rattle.database.specs.GoodRows.{tableOf, holdsKey, ofTables}
-use Rattle.refusal_places.proofs.GoodRows.{only-owner, owner-line}
+use Rattle.database.proofs.OwnerLaws.{only-owner}
+use Rattle.refusal_places.proofs.GoodRows.{owner-line}
 use Rattle.at_verdicts.proofs.NamedRows.{found-good, found-holds, named-row, named-meets}
 
 -- A row's table and key

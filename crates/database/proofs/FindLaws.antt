@@ -1,7 +1,7 @@
 -- What was found is what the database answers.
-use mathlib.Core.Path.{_≡_, ap, sym, _∙_}
+use mathlib.Core.Path.{_≡_, refl, ap, sym, _∙_}
 use mathlib.Core.Bool.{true}
-use mathlib.Core.List.{List, map}
+use mathlib.Core.List.{List, [], map}
 use mathlib.Core.Option.{none, some}
 use Prim.Native.Nat.{ℕ, _-_}
 use borrow.Author.Tests.{eq-eqb, ne-eqb}
@@ -10,6 +10,11 @@ use Rattle.verdicts.specs.Key.{Key}
 use Rattle.key_symbols.specs.Keyed.{symbolOf}
 use Rattle.key_symbols.specs.Bounded.{keyFits}
 use Rattle.database.specs.Arrays.{database, holderColumn, firstColumn, rowAt, rowFor, keyed, keyedBy, groupPlaces, answers}
+
+-- a row's number stands in the columns alone
+pub number-alone : (texts : List (List ℕ)) (columns : List ℕ) (i : ℕ) → rowAt [] columns i .number ≡ rowAt texts columns i .number
+unfolding rowAt
+number-alone texts columns i = refl
 
 module _ (texts : List (List ℕ)) (words links columns : List ℕ) (k : Key) (s : Symbol) (is : s ≡ symbolOf k) (fit : keyFits k ≡ true) where
   keyed-by : (column : ℕ) → keyed words links columns column s ≡ keyedBy words links columns column k

@@ -4,3 +4,4 @@ pub mod FindLaws
 pub mod GatherLaws
 pub mod RowLaws
 pub mod KindLaws
+pub mod OwnerLaws

@@ -1,7 +1,7 @@
 -- The database: tables in lent arrays, in which a row is found by its key, and rows are followed by their group. What
 -- they answer, whatever they hold; that after loading they answer what the tables do is a law of `loading`.
 use Prim.Native.Nat.{ℕ, _+_, _*_, _-_}
-use mathlib.Core.Bool.{cond}
+use mathlib.Core.Bool.{cond, not, _&&_}
 use mathlib.Core.Path.{_≡_, refl}
 use mathlib.Core.List.{List, [], _∷_, map}
 use mathlib.Core.Option.{Option, none, some}
@@ -17,8 +17,9 @@ use Rattle.verdicts.specs.Key.{Key}
 use Rattle.verdicts.specs.Places.{textAt}
 use Rattle.verdicts.specs.Answer.{mostRows}
 use Rattle.key_symbols.specs.Keyed.{symbolOf}
-use Rattle.key_symbols.specs.Bounded.{keyFits}
+use Rattle.key_symbols.specs.Bounded.{keyFits, packetOf}
 use Rattle.database.specs.Rows.{Row, Rows}
+use Rattle.database.specs.Packets.{numbersIn}
 
 -- the bytes of the tables, the symbols of keys with the links that lead to them, and columns of numbers
 pub record Database : Type 0 where
@@ -83,12 +84,20 @@ mostMembers = mostRows
 unfoldable pub groupPlaces : (columns : List ℕ) → ℕ → List ℕ
 groupPlaces columns first = chain (drop nextColumn columns) mostMembers first
 
+-- the row after number − 1 others, if it has that number and the database gives it for its own five numbers
+unfoldable pub packetAt : Database → (number : ℕ) → Option Row
+packetAt d number =
+    let row : Row = rowAt (d .texts) (d .columns) (number - 1) in
+    let held : ℕ = keyedBy (d .words) (d .links) (d .columns) holderColumn (packetOf (numbersIn row)) in
+    cond (not (eqb number 0) && (eqb (row .number) number && eqb held number)) (some row) none
+
 -- what the database answers
 unfoldable pub answers : Database → Rows
 answers d =
     record {
       holder = λ key. rowFor (d .texts) (d .columns) (keyedBy (d .words) (d .links) (d .columns) holderColumn key);
       members = λ group. map (rowAt (d .texts) (d .columns)) (groupPlaces (d .columns) (keyedBy (d .words) (d .links) (d .columns) firstColumn group));
+      numbered = packetAt d;
     }
 
 -- one row in table 0 and none else: the text has the row of its columns

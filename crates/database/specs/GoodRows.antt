@@ -15,6 +15,7 @@ use Rattle.verdicts.specs.Facts.{factsOf}
 use Rattle.verdicts.specs.Entries.{carried, carriedAt}
 use Rattle.verdicts.specs.Places.{verdictAt}
 use Rattle.database.specs.Rows.{Row, Rows}
+use Rattle.database.specs.Packets.{isPacketRow}
 
 -- the rows of table t, from its row r on, whose lines start at a byte
 unfoldable pub rowsOf : (t r start : ℕ) → List Line → List Row
@@ -56,7 +57,12 @@ find passes (row ∷ rows) = cond (passes row) (some row) (find passes rows)
 
 -- what rows answer
 unfoldable pub among : List Row → Rows
-among rows = record { holder = λ key. find (holdsKey key) rows; members = λ group. keep (inGroup group) rows }
+among rows =
+    record {
+      holder = λ key. find (holdsKey key) rows;
+      members = λ group. keep (inGroup group) rows;
+      numbered = λ number. find (isPacketRow number) rows;
+    }
 
 -- what the tables answer
 unfoldable pub ofTables : List (List ℕ) → Rows

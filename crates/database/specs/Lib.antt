@@ -1,4 +1,5 @@
 pub mod Rows
+pub mod Packets
 pub mod GoodRows
 pub mod Kinds
 pub mod Arrays

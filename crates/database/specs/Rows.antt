@@ -19,3 +19,5 @@ pub record Rows : Type 0 where
   -- the good rows that are counted in a group, in table order: a curve's points, the ranges of texts,
   -- a parameter's checks
   pub members : Key → List Row
+  -- the good VALID Y pid row of this number. 02, P4: "pid row numbers"
+  pub numbered : ℕ → Option Row

@@ -9,12 +9,14 @@ use Rattle.lines.specs.Lines.{lineFrom}
 use Rattle.lines.specs.Columns.{endsOf, partOf, columnIn, walked, scanned}
 use Rattle.lines.specs.declared.columns.Scanned.{Scanned}
 use Rattle.rows.specs.Values.{naturalOr}
-use Rattle.rows.specs.Records.{plfRow}
-use Rattle.rows.proofs.PlaceLaws.{plf-divided}
+use Rattle.rows.specs.Records.{pidRow, plfRow}
+use Rattle.rows.proofs.PlaceLaws.{pid-divided, plf-divided}
 use Rattle.lines.proofs.WalkedLaws.{walked-over, line-is, ends-are}
 use Rattle.verdicts.specs.Places.{textAt}
 use Rattle.raw_values.specs.RawValues.{locationOf}
 use Rattle.raw_values.specs.declared.place.Location.{Location}
+use Rattle.key_symbols.specs.declared.FiveNumbers.{FiveNumbers}
+use Rattle.database.specs.Packets.{fiveOf, numbersIn}
 use Rattle.database.specs.Arrays.{rowAt}
 use Rattle.found_rows.specs.Divided.{DividedRow}
 
@@ -44,3 +46,11 @@ module _ {texts : List (List ℕ)} {columns : List ℕ} {i : ℕ} {line ends : L
       (locationOf (plfRow (rowAt texts columns i .bytes)))
   unfolding locationOf
   location-found a b n l = found (λ (bytes : List ℕ). locationOf (plfRow bytes)) (rw (a, b, n, l) (ap locationOf (plf-divided line (d .are-ends))))
+
+  -- the five numbers of a pid row
+  pub numbers-found : {ptype stype apid pi1 pi2 : ℕ} → ptype ≡ naturalOr 0 (columnIn line ends 0) → stype ≡ naturalOr 0 (columnIn line ends 1)
+      → apid ≡ naturalOr 0 (columnIn line ends 2) → pi1 ≡ naturalOr 0 (columnIn line ends 3) → pi2 ≡ naturalOr 0 (columnIn line ends 4)
+      → _≡_ {A = FiveNumbers} record { ptype = ptype; stype = stype; apid = apid; pi1 = pi1; pi2 = pi2 } (numbersIn (rowAt texts columns i))
+  unfolding numbersIn
+  numbers-found a b c e f =
+      found (λ (bytes : List ℕ). fiveOf (pidRow bytes)) (rw (a, b, c, e, f) (ap fiveOf (pid-divided line (d .are-ends))))

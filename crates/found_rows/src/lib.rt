@@ -1,6 +1,7 @@
 // Rows that a question found, decoded: of each the line is walked once, which tells where it and its columns end.
 use database::start_of;
 use database::table_of;
+use key_symbols::FiveNumbers;
 use lines::columns::MOST_COLUMNS;
 use lines::columns::column;
 use lines::columns::part;
@@ -35,6 +36,7 @@ ghost use Rattle.lines.specs.Columns.{columnIn};
 ghost use Rattle.rows.specs.Values.{naturalOr};
 ghost use Rattle.rows.specs.Records.{pidRow, picRow, plfRow, pcfRow, cafRow, capRow, txpRow, ocfRow, ocpRow, mcfRow};
 ghost use Rattle.raw_values.specs.RawValues.{locationOf};
+ghost use Rattle.database.specs.Packets.{numbersIn};
 ghost use Rattle.database.specs.Arrays.{rowAt};
 ghost use Rattle.found_rows.specs.Divided.{DividedRow};
 
@@ -68,6 +70,21 @@ pub fn spid_at(tables: [&[u8]; TABLES], columns: &[u16], i: usize) -> Spid
     let mut ends = [0usize; MOST_COLUMNS];
     let line = divide_row(tables, columns, i, &mut ends);
     Spid(number_in(line, &ends, 5, 0))
+}
+
+// The five numbers of the pid row i.
+pub fn numbers_at(tables: [&[u8]; TABLES], columns: &[u16], i: usize) -> FiveNumbers
+    ensures { λ r. ⌜ r ≡ numbersIn (rowAt (map now (tables .entry)) (now (columns .entry)) i) ⌝ }
+{
+    let mut ends = [0usize; MOST_COLUMNS];
+    let line = divide_row(tables, columns, i, &mut ends);
+    FiveNumbers {
+        ptype: number_in(line, &ends, 0, 0),
+        stype: number_in(line, &ends, 1, 0),
+        apid: number_in(line, &ends, 2, 0),
+        pi1: number_in(line, &ends, 3, 0) as u64,
+        pi2: number_in(line, &ends, 4, 0) as u64,
+    }
 }
 
 // Where the plf row i locates its parameter.

@@ -1,7 +1,6 @@
 -- The pid row that the five numbers choose.
-use mathlib.Core.Path.{_≡_, refl}
+use mathlib.Core.Path.{_≡_}
 use mathlib.Core.Bool.{false}
-use mathlib.Core.List.{List, []}
 use mathlib.Core.Option.{none, some}
 use Prim.Native.Nat.{ℕ}
 use Rattle.rows.specs.Records.{pidRow}
@@ -11,18 +10,13 @@ use Rattle.key_symbols.specs.Bounded.{keyFits, packetOf}
 use Rattle.key_symbols.specs.declared.FiveNumbers.{FiveNumbers}
 use Rattle.outcomes.specs.Outcome.{answer, refused}
 use Rattle.database.specs.Rows.{Row, Rows}
-use Rattle.database.specs.Arrays.{Database, rowAt, rowFor, keyedBy, answers}
+use Rattle.database.specs.Arrays.{Database, rowFor, keyedBy, answers}
 use Rattle.identification.specs.Identification.{chosen, chooseBy}
 
 -- a key that doesn't fit is held by no row
 pub holder-unfit : (d : Database) (k : Key) → keyFits k ≡ false → answers d .holder k ≡ none
 unfolding answers keyedBy rowFor
 holder-unfit d k e = rw e
-
--- a row's number stands in the columns alone
-pub number-alone : (texts : List (List ℕ)) (columns : List ℕ) (i : ℕ) → rowAt [] columns i .number ≡ rowAt texts columns i .number
-unfolding rowAt
-number-alone texts columns i = refl
 
 module _ (rows : Rows) (n : FiveNumbers) where
   pub choice-none : rows .holder (packetOf n) ≡ none → refused 25 0 ≡ chooseBy rows n

@@ -35,7 +35,7 @@ use Rattle.loading.proofs.KeyLaws.{good-holds, none-holds}
 use Rattle.loading.proofs.IndexedRows.{IndexedRows, row-is, mark-at, row-holds}
 
 -- the first of rows
-abbrev firstOf : List Row → Option Row
+abbrev pub firstOf : List Row → Option Row
 firstOf [] = none
 firstOf (row ∷ rows) = some row
 
@@ -44,6 +44,11 @@ find-kept : (f : Row → Bool) (rows : List Row) → find f rows ≡ firstOf (ke
 unfolding find
 find-kept f [] = refl
 find-kept f (row ∷ rows) = cond-cases₂ (λ (a : Option Row) (k : List Row). a ≡ firstOf k) (f row) (λ _. refl) (λ _. find-kept f rows)
+
+-- of the good ones
+pub find-good : (texts : List (List ℕ)) (f : Row → Bool) → find f (goodRows texts) ≡ firstOf (keep (λ row. isGood texts row && f row) (rowsIn texts))
+unfolding goodRows
+find-good texts f = find-kept f (keep (isGood texts) (rowsIn texts)) ∙ ap firstOf (keep-keep (isGood texts) f (rowsIn texts))
 
 -- two passes from nothing note the last row of each key
 noted-twice : (m : ℕ) (marks ids₁ ids₂ once twice : List ℕ) (n id : ℕ) → Noted marks ids₁ (replicate m 0) once n → Noted marks ids₂ once twice n → id < m
@@ -73,7 +78,7 @@ module _ {texts : List (List ℕ)} {words links : List ℕ} {count : ℕ} {halve
   found = keyedBy words links columns holderColumn k
 
   -- row i is good and holds the key
-  abbrev held : ℕ → Bool
+  abbrev pub held : ℕ → Bool
   held i = goodAt texts i && holds (meaning.keptEntry (allRows texts) i) k
 
   hit-known : Known coding ls k → Hit held n found
@@ -99,11 +104,11 @@ module _ {texts : List (List ℕ)} {words links : List ℕ} {count : ℕ} {halve
       }
 
   -- what the column says of the key leads to a good row that holds it, if there is one
-  hit : Hit held n found
+  pub hit : Hit held n found
   hit = known-cases (r .held .stored .table) (r .held .stored .small) k hit-known hit-none
 
   -- it is the only one
-  only : (i j : ℕ) → i < n → j < n → held i ≡ true → held j ≡ true → i ≡ j
+  pub only : (i j : ℕ) → i < n → j < n → held i ≡ true → held j ≡ true → i ≡ j
   only i j p q a b =
       only-holder (allRows texts) (r .held .tables) k j i q p (and-right (goodAt texts j) _ b) (and-right (goodAt texts i) _ a)
       (good-alone texts i p (and-left (goodAt texts i) _ a))
@@ -131,8 +136,4 @@ module _ {texts : List (List ℕ)} {words links : List ℕ} {count : ℕ} {halve
 
   -- THE LAW OF HOLDERS
   pub holder-is : rowFor texts columns (keyedBy words links columns holderColumn k) ≡ find (holdsKey k) (goodRows texts)
-  unfolding goodRows
-  holder-is =
-      first-is found hit
-      ∙ ap firstOf (sym (keep-keep (isGood texts) (holdsKey k) (rowsIn texts)))
-      ∙ sym (find-kept (holdsKey k) (keep (isGood texts) (rowsIn texts)))
+  holder-is = first-is found hit ∙ sym (find-good texts (holdsKey k))

@@ -17,6 +17,7 @@ use Rattle.loading.specs.Index.{Indexed}
 use Rattle.loading.proofs.IndexedRows.{IndexedRows}
 use Rattle.loading.proofs.HolderLaws.{holder-is}
 use Rattle.loading.proofs.MemberLaws.{members-are}
+use Rattle.loading.proofs.PacketLaws.{packet-is}
 
 -- by every key
 rows-answer : {texts : List (List ℕ)} {words links : List ℕ} {count : ℕ} {halves bytes cells columns : List ℕ}
@@ -26,6 +27,7 @@ rows-answer r =
     λ i. record {
       holder = λ key. holder-is r key i;
       members = λ key. members-are r key i;
+      numbered = λ number. packet-is r number i;
     }
 
 -- cells into which the verdicts were put

@@ -9,6 +9,7 @@ pub mod GroupTables
 pub mod IndexedRows
 pub mod HolderLaws
 pub mod MemberLaws
+pub mod PacketLaws
 pub mod IndexLaws
 pub mod NumberLaws
 pub mod LoadedLaws

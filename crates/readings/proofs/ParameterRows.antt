@@ -1,31 +1,30 @@
 -- The rows that hold parameters are of pcf, which has at most 1,024 where the tables aren't refused.
-use mathlib.Core.Path.{_≡_, refl, ap, sym, _∙_, subst}
+use mathlib.Core.Path.{_≡_, refl, ap, _∙_}
 use mathlib.Core.Bool.{Bool, true, false, cond}
-use mathlib.Core.List.{List, [], _∷_, _++_, List·Memᴰ, List·Memᴰ·head, List·Memᴰ·tail, List·Memᴰ·eq-of-singleton}
+use mathlib.Core.List.{List, [], _∷_, _++_, List·Memᴰ, List·Memᴰ·head, List·Memᴰ·tail}
 use mathlib.Core.Option.{some}
 use Prim.Native.Nat.{ℕ, suc, _+_, _≤_, _<_}
 use native.Mathlib.Omega.{arith}
-use lib.Dec.{eqb, ltb}
-use lib.ListN.{length, getD, length-append, List·getD-eq-default}
-use borrow.Author.Tests.{eq-eqb, ne-eqb, eqb-true, ltb-true, ltb-false}
+use lib.Dec.{eqb}
+use lib.ListN.{length, getD, length-append}
+use borrow.Author.Tests.{eq-eqb, ne-eqb, eqb-true}
 use Rattle.laws.specs.Lists.{keep}
 use Rattle.laws.proofs.Cases.{bool-cases, cond-cases}
-use Rattle.laws.proofs.Tests.{any-witness, keep-mem, keep-length}
+use Rattle.laws.proofs.Tests.{keep-mem, keep-length}
 use Rattle.lines.specs.Lines.{Line, linesOf}
 use Rattle.lines.specs.declared.names.Name.{Name}
 use Rattle.schemas.specs.declared.Table.{Table}
-use Rattle.schemas.specs.declared.Table.the-variants.{Pcf, Ocp}
+use Rattle.schemas.specs.declared.Table.the-variants.{Pcf}
 use Rattle.rows.specs.declared.records.PcfRow.{PcfRow}
-use Rattle.verdicts.specs.Key.{Key, parameter, sameKey}
-use Rattle.verdicts.specs.Facts.{factsOf}
-use Rattle.verdicts.specs.Entries.{carried, tableCount, carriedAt}
+use Rattle.verdicts.specs.Key.{parameter}
+use Rattle.verdicts.specs.Entries.{carried}
 use Rattle.verdicts.specs.Answer.{mostRows, tooManyRows}
-use Rattle.verdicts.proofs.KeyLaws.{same-key-is}
-use Rattle.verdicts.proofs.OwnerLaws.{tableIndex, index-is, ownersOf, of-table}
+use Rattle.verdicts.proofs.OwnerLaws.{tableIndex, ownersOf}
 use Rattle.tables.proofs.SizeLaws.{few}
 use Rattle.database.specs.Rows.{Row}
-use Rattle.database.specs.GoodRows.{rowsOf, rowsFrom, rowsIn, isGood, goodRows, tableOf, holdsKey, among, ofTables}
+use Rattle.database.specs.GoodRows.{rowsOf, rowsFrom, rowsIn, isGood, goodRows, holdsKey, among, ofTables}
 use Rattle.database.proofs.RowLaws.{found-passes}
+use Rattle.database.proofs.OwnerLaws.{only-owner, table-number}
 use Rattle.readings.specs.Readings.{agrees, validity, reading}
 use Rattle.readings.proofs.ValidityLaw.{FewParameters, validity-law}
 
@@ -49,21 +48,11 @@ module _ {A : Type 0} where
 
 -- Rows that hold parameters
 
--- the number of a table, but of the one that stands for what is past the last
-pub table-number : (u : ℕ) (t : Table) → (t ≡ Ocp → ⊥) → carriedAt u ≡ t → u ≡ tableIndex t
-table-number u t other e =
-    bool-cases (ltb u tableCount)
-    (λ b. sym (index-is u (ltb-true u tableCount b)) ∙ ap tableIndex e)
-    (λ f. absurd (other (sym e ∙ List·getD-eq-default carried Ocp {n = u} (ltb-false u tableCount f))))
-
 -- pcf is the fourth table
 holds-number : (name : Name) (row : Row) → holdsKey (parameter name) row ≡ true → row .table ≡ 3
-unfolding holdsKey ownersOf tableIndex
+unfolding ownersOf tableIndex
 holds-number name row e =
-    let w = any-witness (sameKey (parameter name)) (factsOf (tableOf row) (row .bytes) .keys) e in
-    let m = subst (λ (k : Key). List·Memᴰ k (factsOf (tableOf row) (row .bytes) .keys)) (sym (same-key-is (parameter name) (w .0) (w .2))) (w .1) in
-    table-number (row .table) Pcf (λ q. omega (arith, ap tableIndex q))
-    (List·Memᴰ·eq-of-singleton (of-table (tableOf row) (row .bytes) (parameter name) m))
+    table-number (row .table) Pcf (λ q. omega (arith, ap tableIndex q)) (only-owner (parameter name) Pcf row refl e)
 
 -- The rows of one table
 

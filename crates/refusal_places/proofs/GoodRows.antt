@@ -1,41 +1,27 @@
 -- A row that holds a key is a good row, of a table that has such keys.
 use mathlib.Core.Path.{_≡_, sym, subst, _∙_}
-use mathlib.Core.Bool.{true}
-use mathlib.Core.List.{List, [], _∷_, List·Memᴰ, List·Memᴰ·eq-of-singleton}
+use mathlib.Core.List.{List, [], _∷_}
 use mathlib.Core.Option.{some}
 use Prim.Native.Nat.{ℕ, _-_}
 use native.Mathlib.Omega.{arith}
 use lib.ListN.{getD}
 use borrow.Author.Tests.{eqb-true}
 use Rattle.laws.proofs.Cases.{and-left}
-use Rattle.laws.proofs.Tests.{any-witness, keep-mem}
+use Rattle.laws.proofs.Tests.{keep-mem}
 use Rattle.lines.specs.Lines.{Line, linesOf}
 use Rattle.schemas.specs.declared.Table.{Table}
 use Rattle.formed.specs.Formed.{formed}
-use Rattle.verdicts.specs.Key.{Key, sameKey}
-use Rattle.verdicts.specs.Facts.{factsOf}
+use Rattle.verdicts.specs.Key.{Key}
 use Rattle.verdicts.specs.Entries.{own, allRows, carriedAt, carried}
 use Rattle.verdicts.specs.Verdicts.{sound}
 use Rattle.verdicts.specs.Places.{textAt, noLine, entryAt, verdictAt}
 use Rattle.verdicts.proofs.EntryLaws.{own-reading}
 use Rattle.verdicts.proofs.GoodLaw.{good-law}
-use Rattle.verdicts.proofs.KeyLaws.{same-key-is}
-use Rattle.verdicts.proofs.OwnerLaws.{ownersOf, of-table}
+use Rattle.verdicts.proofs.OwnerLaws.{ownersOf}
 use Rattle.database.specs.Rows.{Row}
 use Rattle.database.specs.GoodRows.{rowsIn, isGood, goodRows, tableOf, holdsKey, among, ofTables}
 use Rattle.database.proofs.RowLaws.{found-passes, in-tables}
-
--- The table of a key
-
-pub holds-owner : (k : Key) (row : Row) → holdsKey k row ≡ true → List·Memᴰ (tableOf row) (ownersOf k)
-unfolding holdsKey
-holds-owner k row e =
-    let w = any-witness (sameKey k) (factsOf (tableOf row) (row .bytes) .keys) e in
-    subst (λ (x : Key). List·Memᴰ (tableOf row) (ownersOf x)) (sym (same-key-is k (w .0) (w .2))) (of-table (tableOf row) (row .bytes) (w .0) (w .1))
-
--- of a key that rows of one table hold
-pub only-owner : (k : Key) (table : Table) (row : Row) → ownersOf k ≡ table ∷ [] → holdsKey k row ≡ true → tableOf row ≡ table
-only-owner k table row o e = List·Memᴰ·eq-of-singleton (subst (λ (l : List Table). List·Memᴰ (tableOf row) l) o (holds-owner k row e))
+use Rattle.database.proofs.OwnerLaws.{only-owner}
 
 -- A good row
 

@@ -196,12 +196,14 @@ module _ (rows : Rows) (ranges : InRanges rows) (p : List ℕ) where
       (λ _. or-ranged _ _ (ranges .pic (typeOf head p) (subtypeOf head p) (Only (head .apid))) (ranges .pic (typeOf head p) (subtypeOf head p) Any))
       (λ _ row e. absurd (let z : _≡_ {A = ℕ} 0 1 = cc in omega arith))
 
+  pub five-small : (head : Head) → Small (fiveNumbers rows head p)
+  unfolding fiveNumbers
+  five-small head =
+      small-then (identifiersFrom p (picRowOf rows head p)) _ (identifiers-small p (picRowOf rows head p) (pic-ranged head)) (λ pair _. small-answer _)
+
   pub headed-small : (head : Head) → Small (identifyHeaded rows head p)
-  unfolding identifyHeaded fiveNumbers chooseBy
-  headed-small head =
-      small-then (fiveNumbers rows head p) _
-      (small-then (identifiersFrom p (picRowOf rows head p)) _ (identifiers-small p (picRowOf rows head p) (pic-ranged head)) (λ pair _. small-answer _))
-      (λ n _. chosen-small n (rows .holder _))
+  unfolding identifyHeaded chooseBy
+  headed-small head = small-then (fiveNumbers rows head p) _ (five-small head) (λ n _. chosen-small n (rows .holder _))
 
   pub identify-small : Small (identifyBy rows p)
   unfolding identifyBy

@@ -6,9 +6,9 @@ use mathlib.Core.Bool.{true}
 use Rattle.key_symbols.specs.Keyed.{symbolOf}
 use Rattle.key_symbols.specs.Bounded.{keyFits, packetOf}
 use Rattle.outcomes.specs.Refusals.{refusedBy, refusalNumber, refusalPlace}
-use Rattle.database.proofs.FindLaws.{holder-none, holder-some}
+use Rattle.database.proofs.FindLaws.{number-alone, holder-none, holder-some}
 use Rattle.identification.specs.Identification.{saidIdentified}
-use Rattle.identification.proofs.PidLaws.{holder-unfit, number-alone, choice-none, choice-some}
+use Rattle.identification.proofs.PidLaws.{holder-unfit, choice-none, choice-some}
 use Rattle.identification.proofs.choose.Statement.{statement}
 use Rattle.identification.proofs.choose.Tie as tie
 
