@@ -1,0 +1,3 @@
+pub mod ShiftLaws
+pub mod MakeLaws
+pub mod TakenLaws
