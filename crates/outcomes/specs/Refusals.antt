@@ -24,9 +24,10 @@ use Rattle.outcomes.specs.declared.Refusal.the-variants.{
   NoState,
   NotNewer,
   OtherApid,
+  NoIndex,
 }
 
--- 01: "Refused calls"
+-- 01: "Refused calls"; 02, P4: "refused with 40"
 unfoldable pub refusalNumber : Refusal → ℕ
 refusalNumber (TableTooLong table) = 1
 refusalNumber (TooManyRows table) = 2
@@ -48,6 +49,7 @@ refusalNumber NoLimits = 33
 refusalNumber NoState = 34
 refusalNumber NotNewer = 35
 refusalNumber OtherApid = 36
+refusalNumber NoIndex = 40
 
 -- 01: "for 1 and 2 the first such table, 1 to 10; for 24, 28 and 29 the byte in which the first such field starts;
 -- else 0".
@@ -73,6 +75,7 @@ refusalPlace NoLimits = 0
 refusalPlace NoState = 0
 refusalPlace NotNewer = 0
 refusalPlace OtherApid = 0
+refusalPlace NoIndex = 0
 
 -- a call that is refused so
 unfoldable pub refusedBy : {A : Type 0} → Refusal → Outcome A

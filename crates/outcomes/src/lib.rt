@@ -32,6 +32,7 @@ pub enum Refusal {
     NoState,
     NotNewer,
     OtherApid,
+    NoIndex,
 }
 
 // 01's number.
@@ -59,6 +60,7 @@ pub fn number_of(refusal: Refusal) -> u8
         Refusal::NoState => 34,
         Refusal::NotNewer => 35,
         Refusal::OtherApid => 36,
+        Refusal::NoIndex => 40,
     }
 }
 
@@ -87,5 +89,6 @@ pub fn place_of(refusal: Refusal) -> usize
         Refusal::NoState => 0,
         Refusal::NotNewer => 0,
         Refusal::OtherApid => 0,
+        Refusal::NoIndex => 0,
     }
 }

@@ -65,6 +65,9 @@ enum-told-14 c = search needs
 enum-told-15 : tie.Need-enum-told-15
 enum-told-15 c = search needs
 
+enum-told-16 : tie.Need-enum-told-16
+enum-told-16 c = search needs
+
 returns : tie.Need-returns
 unfolding refusalPlace
 returns c = sym (ap refusalPlace (c .before .refusal .given .1))
@@ -145,6 +148,10 @@ returns-20 : tie.Need-returns-20
 unfolding refusalPlace
 returns-20 c = sym (ap refusalPlace (c .enum-told15 .given .1))
 
+returns-21 : tie.Need-returns-21
+unfolding refusalPlace
+returns-21 c = sym (ap refusalPlace (c .enum-told16 .given .1))
+
 pub place-of-spec : {M : Type 1} → statement M
 place-of-spec =
     tie.close
@@ -169,6 +176,7 @@ place-of-spec =
     enum-told-13
     enum-told-14
     enum-told-15
+    enum-told-16
     returns
     returns-2
     returns-3
@@ -188,4 +196,5 @@ place-of-spec =
     returns-17
     returns-18
     returns-19
-    returns-20)
+    returns-20
+    returns-21)
