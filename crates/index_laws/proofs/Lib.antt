@@ -1,0 +1,3 @@
+pub mod HolderLaws
+pub mod TableLaws
+pub mod CallLaws
