@@ -5,17 +5,18 @@
  * Tables, packets and names are bytes, each a pointer and a length in bytes. The tables stand in the order
  * pid, pic, plf, pcf, caf, cap, txf, txp, ocf, ocp, mcf; an empty table has length 0. They are read only, need no
  * alignment and no end mark, and may overlap each other. No pointer is null, not even where the length is 0.
- * `cells` and `positions` (2-byte aligned), `state` (5 numbers) and `answer` (8 numbers, both 8-byte aligned) overlap
- * nothing else that is passed: the state of the next step is copied out of the answer of the last.
+ * `cells`, `positions`, `rows` and `index` (2-byte aligned), `state` (5 numbers) and `answer` (8 numbers, both 8-byte
+ * aligned) overlap nothing else that is passed: the state of the next step is copied out of the answer of the last.
  * The functions keep nothing between calls, call nothing but memcpy and memset, and may run in several threads at
  * once. Each needs up to 2 MiB of stack.
  *
  * The result is 0 for an answer, whose values then stand in the first places of `answer`; further places stay as they
  * were. Else it is refused: the number of the refusal * 2^32 + its place, and nothing is written, neither to `answer`
- * nor to `cells` and `positions`. petrolyaz_number and petrolyaz_place take a result apart. The place is, for 1 and 2,
- * the first such table, 1 to 11; for 24, 28 and 29 the byte of the packet, from 0, in which the first such field starts;
- * else 0.
- * The least number decides; a limit step seeks refusals in the order 1, 2, 34, 20 to 25, 33, 26, 36, 35, 28, 30, 31.
+ * (but for 25 of petrolyaz_search) nor to `cells`, `positions` and `rows`. petrolyaz_number and petrolyaz_place take a
+ * result apart. The place is, for 1 and 2, the first such table, 1 to 11; for 24, 28 and 29 the byte of the packet,
+ * from 0, in which the first such field starts; else 0.
+ * The least number decides, but petrolyaz_search seeks refusals in the order 1, 2, 40, 20 to 25, and a limit step in the
+ * order 1, 2, 34, 20 to 25, 33, 26, 36, 35, 28, 30, 31.
  */
 #ifndef PETROLYAZ_H
 #define PETROLYAZ_H
@@ -30,12 +31,15 @@ extern "C" {
 
 /* Raised with each change of a signature or an answer: a library whose petrolyaz_version() is PETROLYAZ_VERSION is
  * what this header declares. */
-#define PETROLYAZ_VERSION 3
+#define PETROLYAZ_VERSION 4
 
 uint32_t petrolyaz_version(void);
 
 /* The most rows that eleven tables have, 1,024 each: so many cells and positions are enough for any tables. */
 #define PETROLYAZ_MOST_CELLS 11264
+
+/* The most entries of an index: the rows of a table. */
+#define PETROLYAZ_MOST_ENTRIES 1024
 
 /* The tables, by the number that is the place of refusals 1 and 2. */
 enum petrolyaz_table {
@@ -77,7 +81,7 @@ enum petrolyaz_reason {
 enum petrolyaz_refusal {
     PETROLYAZ_TABLE_TOO_LONG = 1,        /* a table over 65,536 bytes */
     PETROLYAZ_TOO_MANY_ROWS = 2,         /* a table over 1,024 rows */
-    PETROLYAZ_TOO_FEW_CELLS = 3,         /* import: fewer cells than rows, or fewer positions */
+    PETROLYAZ_TOO_FEW_CELLS = 3,         /* import: fewer cells than rows, or fewer positions; index: too short a list */
     PETROLYAZ_PACKET_LENGTH = 20,        /* packet under 7 or over 8,192 bytes */
     PETROLYAZ_PACKET_VERSION = 21,       /* version not 0, or the type bit set */
     PETROLYAZ_LENGTH_FIELD = 22,         /* length field plus 7 isn't the packet's length */
@@ -94,7 +98,8 @@ enum petrolyaz_refusal {
     PETROLYAZ_NO_LIMITS = 33,            /* no good ocf row */
     PETROLYAZ_NO_STATE = 34,             /* no such state: see petrolyaz_limit_step */
     PETROLYAZ_NOT_NEWER = 35,            /* packet not newer */
-    PETROLYAZ_OTHER_APID = 36            /* packet of another APID */
+    PETROLYAZ_OTHER_APID = 36,           /* packet of another APID */
+    PETROLYAZ_NO_INDEX = 40              /* search: the list isn't the index of these tables */
 };
 
 /* What an answer of petrolyaz_extract and petrolyaz_engineer is; its first place says it. */
@@ -147,6 +152,18 @@ uint64_t petrolyaz_import(PETROLYAZ_TABLES, uint16_t *cells, size_t cells_count,
  * PI1 and PI2 are stored as 64 bits: one above 2^63 - 1 would stand there as itself less 2^64. Fields of 32 bits never
  * are. */
 uint64_t petrolyaz_identify(PETROLYAZ_TABLES, PETROLYAZ_PACKET, PETROLYAZ_ANSWER);
+
+/* Makes the index of the tables: the numbers, from 1, of the good VALID Y pid rows, rising by TYPE, STYPE, APID, PI1_VAL
+ * and PI2_VAL. It has at most PETROLYAZ_MOST_ENTRIES; `rows_count` counts entries, not bytes. Further entries stay as
+ * they were; refused by 3, where the list is too short, all do. answer: the number of entries. */
+uint64_t petrolyaz_index(PETROLYAZ_TABLES, uint16_t *rows, size_t rows_count, PETROLYAZ_ANSWER);
+
+/* Which packet it is, as petrolyaz_identify tells, by a search of the index: of n entries the one at n / 2 is compared,
+ * from 0, then those before it or after it. Refused by 40, next after 1 and 2, unless the list is exactly the one that
+ * petrolyaz_index makes for these tables. answer: the seven values of petrolyaz_identify, and how many entries were
+ * compared, at most 11. Refused by 25, that number is answer[0] and nothing else is written: it is the one refusal that
+ * tells more than its number and place. */
+uint64_t petrolyaz_search(PETROLYAZ_TABLES, PETROLYAZ_PACKET, const uint16_t *index, size_t index_count, PETROLYAZ_ANSWER);
 
 /* The raw value of a parameter in a packet, occurrences from 0.
  * answer: 0, the value, valid (1) or not (0);

@@ -27,6 +27,13 @@ static const struct table misspelt[11] = {
     TEXT(""), TEXT(""), TEXT(""), TEXT(""), TEXT("Q\t\t1e\t\t\t\t\n"),
 };
 
+/* Subtypes 25, 5, 9, which is VALID N, and 17. */
+static const struct table packets[11] = {
+    TEXT("3\t25\t10\t\t\t7\t\t\t\t\t\t\t\t\t\t\n3\t5\t10\t\t\t8\t\t\t\t\t\t\t\t\t\t\n"
+         "3\t9\t10\t\t\t9\t\t\t\t\t\t\tN\t\t\t\n3\t17\t10\t\t\t6\t\t\t\t\t\t\t\t\t\t\n"),
+    TEXT(""), TEXT(""), TEXT(""), TEXT(""), TEXT(""), TEXT(""), TEXT(""), TEXT(""), TEXT(""), TEXT(""),
+};
+
 static const struct table asked[11] = {
     TEXT("3\t25\t10\t\t\t7\t\t\t\t\t\t\t\t\t\t\n"),
     TEXT(""),
@@ -78,6 +85,8 @@ static void expect_double(const char *what, double answered, double expected)
 
 #define VALUES(...) sizeof((int64_t[]){__VA_ARGS__}) / 8, (const int64_t[]){__VA_ARGS__}
 #define NOTHING 0, answer
+#define INDEX(count) petrolyaz_index(ALL(packets), rows, count, answer)
+#define SEARCH(tables, count) petrolyaz_search(ALL(tables), packet, 14, rows, count, answer)
 #define EXTRACT(name) petrolyaz_extract(ALL(asked), packet, 14, NAME(name), 0, answer)
 #define ENGINEER(name) petrolyaz_engineer(ALL(asked), packet, 14, NAME(name), 0, answer)
 #define STEP(packet, name, ...) petrolyaz_limit_step(ALL(asked), packet, 14, NAME(name), (const int64_t[5]){__VA_ARGS__}, answer)
@@ -88,6 +97,8 @@ int main(void)
     const uint16_t untouched[6] = {9, 9, 9, 9, 9, 9};
     const uint16_t judged[6] = {2567, 2817, 2817, 9, 9, 9}, nowhere[6] = {0, 0, 0, 9, 9, 9};
     const uint16_t faults[6] = {3588, 2817, 3330, 1539, 3331, 9}, places[6] = {0, 0, 2, 2, 3, 9};
+    uint16_t rows[6] = {9, 9, 9, 9, 9, 9};
+    const uint16_t rising[6] = {2, 4, 1, 9, 9, 9};
     uint64_t result;
 
     memset(answer, 0, sizeof answer);
@@ -104,6 +115,14 @@ int main(void)
     expect_words("08 goes wrong at 2", positions, places);
     expect("APID 10, type 3, subtype 25", petrolyaz_identify(ALL(asked), packet, 14, answer), 0, 0, VALUES(1, 7, 10, 3, 25, 0, 0));
     expect("packet of six bytes", petrolyaz_identify(ALL(asked), packet, 6, answer), 20, 0, NOTHING);
+    expect("two entries are too few", INDEX(2), 3, 0, NOTHING);
+    expect_words("no entry touched", rows, untouched);
+    expect("an index of three rows", INDEX(6), 0, 0, VALUES(3));
+    expect_words("subtypes 5, 17 and 25", rows, rising);
+    expect("the second entry compared, and the third", SEARCH(packets, 3), 0, 0, VALUES(1, 7, 10, 3, 25, 0, 0, 2));
+    expect("an entry missing", SEARCH(packets, 2), 40, 0, NOTHING);
+    expect("an entry too many", SEARCH(packets, 4), 40, 0, NOTHING);
+    expect("no rows, and nothing to compare", SEARCH(counted, 0), 25, 0, VALUES(0));
     expect("unsigned 16 at byte 12", EXTRACT("WORD"), 0, 0, VALUES(0, 4660, 1));
     expect("signed 8 at byte 10", EXTRACT("BYTE"), 0, 0, VALUES(0, -1, 1));
     expect("16 bits at byte 13", EXTRACT("PAST"), 28, 13, NOTHING);

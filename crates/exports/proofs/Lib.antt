@@ -1,3 +1,4 @@
 pub mod ImportPlaces
 pub mod StepPlaces
+pub mod IndexPlaces
 pub mod DeliverLaws

@@ -3,6 +3,10 @@ use calls::engineer::engineer;
 use calls::extract::extract;
 use calls::identify::identify;
 use import::import;
+use index_calls::make;
+use index_calls::search;
+use index_telling::tell_made;
+use index_telling::tell_searched;
 use offered_step::limit_step_from;
 use telling::deliver::deliver;
 use telling::tell::tell_engineered;
@@ -14,12 +18,14 @@ ghost use mathlib.Core.Path.{_≡_};
 ghost use Rattle.offered.specs.Offered.{offeredState};
 ghost use Rattle.calls.specs.Calls.{identifyOf, extractOf, engineerOf};
 ghost use Rattle.offered_step.specs.OfferedStep.{limitStepFrom};
+ghost use Rattle.index_calls.specs.IndexCalls.{searchOf};
+ghost use Rattle.index_telling.specs.Values.{plainSearch};
 ghost use Rattle.telling.specs.Values.{ofIdentity, ofReading, ofEngineered, ofState};
 ghost use Rattle.telling.specs.Answers.{plainOf, Told};
-ghost use Rattle.exports.specs.Exports.{ImportTold, inOrder, interfaceVersion};
+ghost use Rattle.exports.specs.Exports.{ImportTold, IndexTold, inOrder, interfaceVersion};
 
 // The version of these functions, which PETROLYAZ_VERSION of the header is too.
-const VERSION: u32 = 3;
+const VERSION: u32 = 4;
 
 #[no_mangle]
 pub extern "C" fn petrolyaz_version() -> u32
@@ -79,6 +85,59 @@ pub extern "C" fn petrolyaz_identify<'a>(
 {
     let tables = [pid, pic, plf, pcf, caf, cap, txf, txp, ocf, ocp, mcf];
     deliver(tell_identified(identify(tables, packet)), answer)
+}
+
+// Makes the index of the good VALID Y pid rows.
+#[no_mangle]
+pub extern "C" fn petrolyaz_index<'a>(
+    pid: &'a [u8],
+    pic: &'a [u8],
+    plf: &'a [u8],
+    pcf: &'a [u8],
+    caf: &'a [u8],
+    cap: &'a [u8],
+    txf: &'a [u8],
+    txp: &'a [u8],
+    ocf: &'a [u8],
+    ocp: &'a [u8],
+    mcf: &'a [u8],
+    rows: &mut [u16],
+    answer: &mut [i64; 8],
+) -> u64
+    ensures { λ r. ⌜ IndexTold
+        (inOrder (now (pid .entry)) (now (pic .entry)) (now (plf .entry)) (now (pcf .entry)) (now (caf .entry))
+        (now (cap .entry)) (now (txf .entry)) (now (txp .entry)) (now (ocf .entry)) (now (ocp .entry)) (now (mcf .entry)))
+        (now (rows .entry)) (now (rows .exit)) (now (answer .entry)) (now (answer .exit)) r ⌝ }
+{
+    let tables = [pid, pic, plf, pcf, caf, cap, txf, txp, ocf, ocp, mcf];
+    deliver(tell_made(make(tables, rows)), answer)
+}
+
+// Which packet it is, by a search of that index.
+#[no_mangle]
+pub extern "C" fn petrolyaz_search<'a>(
+    pid: &'a [u8],
+    pic: &'a [u8],
+    plf: &'a [u8],
+    pcf: &'a [u8],
+    caf: &'a [u8],
+    cap: &'a [u8],
+    txf: &'a [u8],
+    txp: &'a [u8],
+    ocf: &'a [u8],
+    ocp: &'a [u8],
+    mcf: &'a [u8],
+    packet: &[u8],
+    index: &[u16],
+    answer: &mut [i64; 8],
+) -> u64
+    ensures { λ r. ⌜ Told (plainSearch (searchOf
+        (inOrder (now (pid .entry)) (now (pic .entry)) (now (plf .entry)) (now (pcf .entry)) (now (caf .entry))
+        (now (cap .entry)) (now (txf .entry)) (now (txp .entry)) (now (ocf .entry)) (now (ocp .entry)) (now (mcf .entry)))
+        (now (index .entry)) (now (packet .entry)))) (now (answer .entry)) (now (answer .exit)) r ⌝ }
+{
+    let tables = [pid, pic, plf, pcf, caf, cap, txf, txp, ocf, ocp, mcf];
+    deliver(tell_searched(search(tables, packet, index)), answer)
 }
 
 // What a packet says of a parameter: its raw value and whether it is valid.

@@ -1,7 +1,7 @@
 // Every answer of the library in plain numbers, as a caller in another language takes it.
 pub mod deliver;
 pub mod tell;
-mod words;
+pub mod words;
 
 // The number and the place of a refusal, both 0 where there are values; and the first `count` of these,
 // which are the answer's.

@@ -26,7 +26,7 @@ ghost use Rattle.telling.specs.Values.{countsOf, ofCounts, ofIdentity, o
 ghost use Rattle.telling.specs.Answers.{toldPlainly, withValues, refusedWith, plainOf};
 
 // The first `count` of these values.
-fn tell(values: [i64; 8], count: usize) -> Telling
+pub fn tell(values: [i64; 8], count: usize) -> Telling
     ensures { λ r. ⌜ toldPlainly r ≡ withValues (take count values) ⌝ }
 {
     Telling {
@@ -37,7 +37,7 @@ fn tell(values: [i64; 8], count: usize) -> Telling
     }
 }
 
-fn tell_refusal(refusal: Refusal) -> Telling
+pub fn tell_refusal(refusal: Refusal) -> Telling
     ensures { λ r. ⌜ toldPlainly r ≡ refusedWith (refusalNumber refusal) (refusalPlace refusal) ⌝ }
 {
     let number = number_of(refusal);
