@@ -4,7 +4,7 @@ use mathlib.Core.Path.{_≡_, refl}
 use mathlib.Core.Bool.{cond}
 use mathlib.Core.List.{List, [], _∷_, _++_}
 use mathlib.Core.Option.{Option, some, none}
-use lib.Dec.{eqb}
+use lib.Dec.{eqb, ltb}
 use lib.ListN.{getD}
 use Rattle.laws.specs.Text.{ascii}
 use Rattle.limit_state.specs.declared.state.LimitState.{LimitState}
@@ -16,7 +16,9 @@ use Rattle.answers.specs.declared.compare.Verdict.the-variants.{Unread}
 use Rattle.answers.specs.Compared.{verdictOf}
 use Rattle.replies.specs.Replies.{replyOf, stateAnswer}
 use Rattle.cell_questions.specs.CellReplies.{importReply, rowReply}
+use Rattle.answers.specs.declared.answer.Answer.{Answer}
 use Rattle.packet_questions.specs.PacketReplies.{replyTo}
+use Rattle.index_questions.specs.IndexReplies.{indexReplyTo}
 use Rattle.questions.specs.declared.Judged.{Judged}
 
 -- a limit step, after which the state is the new one
@@ -27,10 +29,14 @@ stepJudged texts packet text s line =
       state = stateAfter s (limitStepOf texts packet text s);
     }
 
+-- the questions that lend no cells; those of an index come after the others
+unfoldable pub answerTo : ℕ → List (List ℕ) → (packet text : List ℕ) → Answer
+answerTo k texts packet text = cond (ltb k 12) (replyTo k texts packet text) (indexReplyTo k texts packet text)
+
 unfoldable pub questionVerdict : ℕ → List (List ℕ) → (packet text line : List ℕ) → Verdict
 questionVerdict k texts packet text line =
     cond (eqb k 0) (importReply texts text line)
-    (cond (eqb k 1) (rowReply text line) (verdictOf (replyTo k texts packet text) (getD texts 7 []) [] [] line))
+    (cond (eqb k 1) (rowReply text line) (verdictOf (answerTo k texts packet text) (getD texts 7 []) [] [] line))
 
 unfoldable pub judgedText : ℕ → List (List ℕ) → (packet : List ℕ) → LimitState → (line text : List ℕ) → Judged
 judgedText k texts packet s line text =

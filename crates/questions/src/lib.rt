@@ -1,9 +1,11 @@
 // A question asked of the tables and the packet, and whether the line under it is the answer.
+use answers::answer::Answer;
 use answers::compare::Verdict;
 use answers::compare::compare;
 use calls::limit_step::limit_step;
 use cell_questions::judge_import;
 use cell_questions::judge_row;
+use index_questions::answer_by_index;
 use limit_state::state::LimitState;
 use lines::columns::part;
 use packet_questions::answer_to;
@@ -17,7 +19,7 @@ use tables::table_at;
 ghost use mathlib.Core.Path.{_≡_};
 ghost use mathlib.Core.List.{map};
 ghost use Rattle.scripts.specs.Escapes.{readIn};
-ghost use Rattle.questions.specs.Questions.{stepJudged, questionVerdict, judgedText, questionBytes, judged};
+ghost use Rattle.questions.specs.Questions.{stepJudged, answerTo, questionVerdict, judgedText, questionBytes, judged};
 
 // Whether the line under a question is its answer, and the limit state after it.
 pub struct Judged {
@@ -56,6 +58,16 @@ fn judge_step(
     }
 }
 
+// The questions that lend no cells; those of an index come after the others.
+fn answer_of(k: usize, tables: [&[u8]; TABLES], packet: &[u8], text: &[u8]) -> Answer
+    ensures { λ r. ⌜ r ≡ answerTo k (map now (tables .entry)) (now (packet .entry)) (now (text .entry)) ⌝ }
+{
+    if k < 12 {
+        return answer_to(k, tables, packet, text);
+    }
+    answer_by_index(k, tables, packet, text)
+}
+
 fn judge_question(
     name: &[u8],
     number: usize,
@@ -75,7 +87,7 @@ fn judge_question(
     }
     let cells = [0u16; 0];
     let positions = [0u16; 0];
-    let answer = answer_to(k, tables, packet, text);
+    let answer = answer_of(k, tables, packet, text);
     compare(
         name,
         number,

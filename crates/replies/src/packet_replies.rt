@@ -30,7 +30,7 @@ ghost use Rattle.accepting.specs.Answer.{saidStep};
 ghost use Rattle.answers.specs.Answers.{refusing};
 ghost use Rattle.replies.specs.Replies.{replyOf, identityAnswer, rawAnswer, readingAnswer, valueAnswer, engineeredAnswer, stateAnswer};
 
-fn refused_question(refusal: Refusal) -> Answer
+pub fn refused_question(refusal: Refusal) -> Answer
     ensures { λ r. ⌜ r ≡ refusing (refusalNumber refusal) (refusalPlace refusal) ⌝ }
 {
     refused(number_of(refusal) as u64, place_of(refusal) as u64)

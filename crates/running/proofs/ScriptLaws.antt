@@ -5,13 +5,13 @@ use mathlib.Core.List.{List, [], _∷_}
 use mathlib.Core.Option.{some, none}
 use Prim.Native.Nat.{ℕ, _<_, _≤_}
 use native.Mathlib.Omega.{arith}
-use lib.ListN.{length, getD, drop}
+use lib.ListN.{length, getD, drop, replicate}
 use borrow.Author.Tests.{eq-eqb, ne-eqb, lt-ltb, le-ltb}
 use Rattle.lines.specs.Lines.{linesOf, nextLine}
 use Rattle.lines.specs.Columns.{partOf}
 use Rattle.lines.specs.declared.walk.NextLine.{NextLine}
 use Rattle.lines.proofs.LineLaws.{lines-next, lines-none}
-use Rattle.scripts.specs.Words.{wordOf, afterWord, settingOf, questionOf}
+use Rattle.scripts.specs.Words.{wordOf, afterWord, settingOf, questionOf, questionCount}
 use Rattle.running.specs.Script.{Standing, nextStanding, nextBy, taken, underQuestion, setBy, unreadLine, afterLines, standingIn}
 use Rattle.running.specs.declared.Standing as held
 use Rattle.tallies.specs.declared.Tally.{Tally}
@@ -55,25 +55,27 @@ module _ (s : Standing) where
   taken-comment [] h e = absurd (omega arith)
   taken-comment (b ∷ bs) h e = rw (eq-eqb b 35 e)
 
-  pub taken-question : (line : List ℕ) → 0 < length line → (getD line 0 0 ≡ 35 → ⊥) → questionOf (wordOf line) < 12
+  pub taken-question : (line : List ℕ) → 0 < length line → (getD line 0 0 ≡ 35 → ⊥) → questionOf (wordOf line) < questionCount
       → record { space = s .space; ends = s .ends; state = s .state; waits = some line; tally = s .tally } ≡ taken s line
   unfolding taken
   taken-question [] h n q = absurd (omega arith)
-  taken-question (b ∷ bs) h n q = rw (ne-eqb b 35 n, lt-ltb (questionOf (wordOf (b ∷ bs))) 12 q)
+  taken-question (b ∷ bs) h n q = rw (ne-eqb b 35 n, lt-ltb (questionOf (wordOf (b ∷ bs))) questionCount q)
 
-  pub taken-setting : (line : List ℕ) → 0 < length line → (getD line 0 0 ≡ 35 → ⊥) → 12 ≤ questionOf (wordOf line) → settingOf (wordOf line) < settingCount
+  pub taken-setting : (line : List ℕ) → 0 < length line → (getD line 0 0 ≡ 35 → ⊥) → questionCount ≤ questionOf (wordOf line)
+      → settingOf (wordOf line) < settingCount
       → setBy s (settingOf (wordOf line)) (afterWord line) ≡ taken s line
   unfolding taken
   taken-setting [] h n q k = absurd (omega arith)
   taken-setting (b ∷ bs) h n q k =
-      rw (ne-eqb b 35 n, le-ltb (questionOf (wordOf (b ∷ bs))) 12 q, lt-ltb (settingOf (wordOf (b ∷ bs))) settingCount k)
+      rw (ne-eqb b 35 n, le-ltb (questionOf (wordOf (b ∷ bs))) questionCount q, lt-ltb (settingOf (wordOf (b ∷ bs))) settingCount k)
 
-  pub taken-unread : (line : List ℕ) → 0 < length line → (getD line 0 0 ≡ 35 → ⊥) → 12 ≤ questionOf (wordOf line) → settingCount ≤ settingOf (wordOf line)
+  pub taken-unread : (line : List ℕ) → 0 < length line → (getD line 0 0 ≡ 35 → ⊥) → questionCount ≤ questionOf (wordOf line)
+      → settingCount ≤ settingOf (wordOf line)
       → unreadLine s ≡ taken s line
   unfolding taken
   taken-unread [] h n q k = absurd (omega arith)
   taken-unread (b ∷ bs) h n q k =
-      rw (ne-eqb b 35 n, le-ltb (questionOf (wordOf (b ∷ bs))) 12 q, le-ltb (settingOf (wordOf (b ∷ bs))) settingCount k)
+      rw (ne-eqb b 35 n, le-ltb (questionOf (wordOf (b ∷ bs))) questionCount q, le-ltb (settingOf (wordOf (b ∷ bs))) settingCount k)
 
 -- A standing as it is held
 
@@ -120,7 +122,7 @@ module _ (space ends : List ℕ) (state : LimitState) (tally : Tally) (r : held.
 
 pub first-standing : (text space ends : List ℕ) (r : held.Standing)
     → r ≡ stood (record { fresh = true; apid = 0; count = 0; run = 0; announced = 0 })
-    (record { asked = 0 ∷ 0 ∷ 0 ∷ 0 ∷ 0 ∷ 0 ∷ 0 ∷ 0 ∷ 0 ∷ 0 ∷ 0 ∷ 0 ∷ []; differ = 0; unread = 0 })
+    (record { asked = replicate questionCount 0; differ = 0; unread = 0 })
     → standingIn text space ends r ≡ firstStanding space ends
 unfolding standingIn stood firstStanding noTally
 first-standing text space ends r e = rw e

@@ -15,7 +15,7 @@ use Rattle.lines.specs.Columns.{partOf, columnsOf, columnsFrom}
 use Rattle.lines.specs.Names.{nameOf, sameName, sameBytes}
 use Rattle.fields.specs.Text.{partAt}
 use Rattle.limit_state.specs.declared.state.LimitState.{LimitState}
-use Rattle.scripts.specs.Words.{wordOf, afterWord, upto, wordPlace, settingOf, questionOf}
+use Rattle.scripts.specs.Words.{wordOf, afterWord, upto, wordPlace, settingOf, questionOf, questionCount}
 use Rattle.scripts.specs.Escapes.{unescaped, whereRoom, before, beforeByte, plain}
 use Rattle.answers.specs.declared.compare.Verdict.the-variants.{Unread}
 use Rattle.answers.specs.Answers.{saying, composed, integerAnswer, wordsAnswer}
@@ -23,7 +23,7 @@ use Rattle.answers.specs.Spoken.{spoken, signText, spelled, decimal, places, ce
 use Rattle.answers.specs.Compared.{verdictOf}
 use Rattle.inside.specs.Inside.{numberAnswer}
 use Rattle.questions.specs.declared.Judged.{Judged}
-use Rattle.questions.specs.Questions.{judged, judgedBytes, judgedText, questionBytes, questionVerdict}
+use Rattle.questions.specs.Questions.{judged, judgedBytes, judgedText, questionBytes, questionVerdict, answerTo}
 use Rattle.packet_questions.specs.PacketReplies.{replyTo}
 use Rattle.tables.specs.Parts as tables
 use Rattle.areas.specs.Memory.{Memory, memory, areaIn, areaTables, cleared, firstCleared, allCleared, packetArea, areaCount}
@@ -70,7 +70,7 @@ unfoldable pub taken : Standing → List ℕ → Standing
 taken s [] = s
 taken s (b ∷ bs) =
     cond (eqb b (char "#")) s
-    (cond (ltb (questionOf (wordOf (b ∷ bs))) 12)
+    (cond (ltb (questionOf (wordOf (b ∷ bs))) questionCount)
     (record { space = s .space; ends = s .ends; state = s .state; waits = some (b ∷ bs); tally = s .tally })
     (cond (ltb (settingOf (wordOf (b ∷ bs))) settingCount) (setBy s (settingOf (wordOf (b ∷ bs))) (afterWord (b ∷ bs))) (unreadLine s)))
 
@@ -127,13 +127,13 @@ stood state tally = record { state = state; waits = false; from = 0; to = 0; tal
 -- a number, one whose answer is another, a word that isn't of the format, and a question that no line follows
 pub record Examples : Type 0 where
   pub four : tallyOf [] (ascii "# numbers\nnumber 08\n= no number\nnumber 7\n= 8\nnumbers 7\nnumber 9\n")
-      ≡ record { asked = 0 ∷ 0 ∷ 0 ∷ 0 ∷ 0 ∷ 0 ∷ 2 ∷ 0 ∷ 0 ∷ 0 ∷ 0 ∷ 0 ∷ []; differ = 1; unread = 2 }
+      ≡ record { asked = 0 ∷ 0 ∷ 0 ∷ 0 ∷ 0 ∷ 0 ∷ 2 ∷ replicate 7 0; differ = 1; unread = 2 }
 
 pub examples : Examples
 unfolding
     tallyOf closing closedBy afterLines nextStanding nextBy taken underQuestion tallyAfter plus setBy unreadLine firstStanding noTally
     allCleared firstCleared cleared linesOf lead onFirst wordOf afterWord upto wordPlace settingOf questionOf columnsOf columnsFrom nameOf sameName sameBytes
-    judged judgedBytes judgedText questionBytes whereRoom unescaped before beforeByte plain questionVerdict replyTo verdictOf
+    judged judgedBytes judgedText questionBytes whereRoom unescaped before beforeByte plain questionVerdict answerTo replyTo verdictOf
     numberAnswer integerAnswer wordsAnswer saying composed numberOf meaning spelt after digitOn digitOf answerOf
     spoken signText spelled decimal places partAt cellsText areaTables areaIn tables.tablesIn tables.tableIn tabulate
 examples = record { four = refl }

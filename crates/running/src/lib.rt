@@ -11,6 +11,7 @@ use limit_state::state::LimitState;
 use lines::columns::part;
 use lines::walk::next_line;
 use questions::judge;
+use scripts::verb::QUESTIONS;
 use scripts::verb::question_of;
 use scripts::verb::setting_of;
 use scripts::verb::text_of;
@@ -140,7 +141,7 @@ fn take_line(
         return stands(state, tally);
     }
     let word = word_of(line);
-    if question_of(word) < 12 {
+    if question_of(word) < QUESTIONS {
         return Standing {
             state,
             waits: true,
@@ -204,7 +205,7 @@ fn run_lines(name: &[u8], text: &[u8], space: &mut [u8], ends: &mut [usize]) -> 
             announced: 0,
         },
         Tally {
-            asked: [0; 12],
+            asked: [0; QUESTIONS],
             differ: 0,
             unread: 0,
         },

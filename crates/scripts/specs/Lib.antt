@@ -1,3 +1,4 @@
 pub mod Escapes
 pub mod Words
 pub mod Numerals
+pub mod Lists

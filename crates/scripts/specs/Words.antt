@@ -30,9 +30,13 @@ wordPlace word (w ∷ ws) = cond (sameName (nameOf w) (nameOf word)) 0 (suc (wor
 unfoldable pub settingOf : List ℕ → ℕ
 settingOf word = wordPlace word (columnsOf (ascii "pid\tpic\tplf\tpcf\tcaf\tcap\ttxf\ttxp\tocf\tocp\tmcf\tpacket\tpacket+\tfill\tclear\tstate"))
 
--- the questions; 12 is none of them
+abbrev pub questionCount : ℕ
+questionCount = 14
+
+-- the questions; their number is none of them
 unfoldable pub questionOf : List ℕ → ℕ
-questionOf word = wordPlace word (columnsOf (ascii "import\trow\tidentify\textract\tengineer\tstep\tnumber\twidth\tunsigned\tsigned\tstring\tline"))
+questionOf word =
+    wordPlace word (columnsOf (ascii "import\trow\tidentify\textract\tengineer\tstep\tnumber\twidth\tunsigned\tsigned\tstring\tline\tsearch\tindex"))
 
 pub record Examples : Type 0 where
   pub word : wordOf (ascii "extract T1|0") ≡ ascii "extract"
@@ -41,7 +45,9 @@ pub record Examples : Type 0 where
   pub eighth : settingOf (ascii "txp") ≡ 7
   pub none-such : settingOf (ascii "txq") ≡ 16
   pub fourth : questionOf (ascii "extract") ≡ 3
+  pub last : questionOf (ascii "index") ≡ 13
+  pub no-question : questionOf (ascii "indexes") ≡ questionCount
 
 pub examples : Examples
 unfolding wordOf afterWord upto settingOf questionOf wordPlace columnsOf columnsFrom nameOf sameName sameBytes
-examples = record { word = refl; text = refl; alone = refl; eighth = refl; none-such = refl; fourth = refl }
+examples = record { word = refl; text = refl; alone = refl; eighth = refl; none-such = refl; fourth = refl; last = refl; no-question = refl }

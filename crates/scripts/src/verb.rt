@@ -68,12 +68,15 @@ pub fn setting_of(word: &[u8]) -> usize
     )
 }
 
-// The questions; 12 for no such word.
+// How many questions there are.
+pub const QUESTIONS: usize = 14;
+
+// The questions; their number for no such word.
 pub fn question_of(word: &[u8]) -> usize
     ensures { λ r. ⌜ r ≡ questionOf (now (word .entry)) ⌝ }
 {
     place_in(
-        b"import\trow\tidentify\textract\tengineer\tstep\tnumber\twidth\tunsigned\tsigned\tstring\tline",
+        b"import\trow\tidentify\textract\tengineer\tstep\tnumber\twidth\tunsigned\tsigned\tstring\tline\tsearch\tindex",
         word,
     )
 }

@@ -2,14 +2,17 @@
 use answers::compare::Verdict;
 use areas::number_at;
 use lines::columns::keep_at;
+use scripts::verb::QUESTIONS;
 ghost use mathlib.Core.Path.{_≡_};
 ghost use lib.ListN.{getD};
+ghost use Rattle.laws.specs.Values.{tabulate};
+ghost use Rattle.scripts.specs.Words.{questionCount};
 ghost use Rattle.tallies.specs.Totals.{tallyAfter, together};
 ghost use Rattle.tallies.specs.Totals.{plus as plusOf};
 
 // How many questions of each kind were asked, how many answers differ, and how many lines can't be read.
 pub struct Tally {
-    pub asked: [usize; 12],
+    pub asked: [usize; QUESTIONS],
     pub differ: usize,
     pub unread: usize,
 }
@@ -58,10 +61,23 @@ pub fn count(tally: Tally, k: usize, verdict: Verdict) -> Tally
     }
 }
 
-fn sum(a: [usize; 12], b: [usize; 12], k: usize) -> usize
+fn sum(a: [usize; QUESTIONS], b: [usize; QUESTIONS], k: usize) -> usize
     ensures { λ r. ⌜ r ≡ plusOf (getD a k 0) (getD b k 0) ⌝ }
 {
     plus(number_at(&a, k), number_at(&b, k))
+}
+
+// Kind by kind.
+fn sums(a: [usize; QUESTIONS], b: [usize; QUESTIONS]) -> [usize; QUESTIONS]
+    ensures { λ r. ⌜ r ≡ tabulate (λ k. plusOf (getD a k 0) (getD b k 0)) 0 questionCount ⌝ }
+{
+    let mut asked = [0usize; QUESTIONS];
+    let mut k: usize = 0;
+    while k < QUESTIONS {
+        asked[k] = sum(a, b, k);
+        k += 1;
+    }
+    asked
 }
 
 // The tally of two files, or of one more.
@@ -71,20 +87,7 @@ pub fn add_up(a: Tally, b: Tally) -> Tally
     let x = a.asked;
     let y = b.asked;
     Tally {
-        asked: [
-            sum(x, y, 0),
-            sum(x, y, 1),
-            sum(x, y, 2),
-            sum(x, y, 3),
-            sum(x, y, 4),
-            sum(x, y, 5),
-            sum(x, y, 6),
-            sum(x, y, 7),
-            sum(x, y, 8),
-            sum(x, y, 9),
-            sum(x, y, 10),
-            sum(x, y, 11),
-        ],
+        asked: sums(x, y),
         differ: plus(a.differ, b.differ),
         unread: plus(a.unread, b.unread),
     }

@@ -10,6 +10,7 @@ use files::source::read_file;
 use libc::ENOENT;
 use lines::columns::part;
 use running::run;
+use scripts::verb::QUESTIONS;
 use tallies::Tally;
 use tallies::add_up;
 use totals::say_totals;
@@ -28,7 +29,7 @@ fn unread_file() -> Tally
     ensures { λ r. ⌜ r ≡ unreadFile ⌝ }
 {
     Tally {
-        asked: [0; 12],
+        asked: [0; QUESTIONS],
         differ: 0,
         unread: 1,
     }
@@ -91,7 +92,7 @@ fn ask_argument(k: usize) -> Tally
 fn main() {
     let count = os::arg_count();
     let mut total = Tally {
-        asked: [0; 12],
+        asked: [0; QUESTIONS],
         differ: 0,
         unread: 0,
     };

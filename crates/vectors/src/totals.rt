@@ -24,6 +24,8 @@ pub(crate) fn say_totals(t: Tally) {
     say_count(b"signed", asked[9]);
     say_count(b"string", asked[10]);
     say_count(b"line", asked[11]);
+    say_count(b"search", asked[12]);
+    say_count(b"index", asked[13]);
     say_count(b"answers that differ", t.differ);
     say_count(b"lines that can't be read", t.unread);
 }

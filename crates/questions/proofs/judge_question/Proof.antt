@@ -19,8 +19,8 @@ returns-2 : tie.Need-returns-2
 unfolding questionVerdict
 returns-2 c = rw (ne-eqb _ 0 (c .before .before .if1 .left), eq-eqb _ 1 (c .before .if2 .taken)) (c .judge-row .ensures)
 
-answer-to-requires : tie.Need-answer-to-requires
-answer-to-requires c κs = search needs
+answer-of-requires : tie.Need-answer-of-requires
+answer-of-requires c κs = search needs
 
 table-at-requires : tie.Need-table-at-requires
 table-at-requires c κs = search needs
@@ -47,7 +47,7 @@ judge-question-spec =
     returns
     judge-row-requires
     returns-2
-    answer-to-requires
+    answer-of-requires
     table-at-requires
     slice-aggregate-compare
     slice-aggregate-compare-2
