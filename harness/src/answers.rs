@@ -1,5 +1,6 @@
 //! Answers as the C interface gives them.
 
+use crate::reference::index::Search;
 use crate::reference::limits::State;
 use crate::reference::packets::{Identity, Raw, Reading};
 use crate::reference::values::Value;
@@ -28,6 +29,26 @@ pub fn answer<T: Values>(answered: &Result<T, Refusal>, mut places: Places) -> A
             Answer { result: 0, places }
         }
         Err(Refusal { number, place }) => Answer { result: (number << 32) + place, places },
+    }
+}
+
+/// The answer to a search: "The answer, 25 included, … tells how many entries were compared". Refused by 25 it is told
+/// in the first place, and no other refusal writes anything.
+pub fn search_answer(searched: &Result<Search, Refusal>, mut places: Places) -> Answer {
+    match searched {
+        Ok(Search { identity, compared }) => {
+            let told_at = if identity.is_ok() { 7 } else { 0 };
+            places[told_at] = *compared as i64;
+            answer(identity, places)
+        }
+        Err(refusal) => answer::<Identity>(&Err(*refusal), places),
+    }
+}
+
+/// The answer to a making: how many entries the index has.
+impl Values for Vec<u16> {
+    fn values(&self) -> Vec<i64> {
+        vec![self.len() as i64]
     }
 }
 

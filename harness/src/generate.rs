@@ -3,6 +3,7 @@
 pub mod consistent;
 pub mod full;
 pub mod hostile;
+pub mod indexes;
 pub mod mutations;
 pub mod packets;
 pub mod sets;

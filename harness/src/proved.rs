@@ -34,6 +34,8 @@ questions! {
         cells: *mut u16, cells_length: usize, positions: *mut u16, positions_length: usize
     );
     petrolyaz_identify(packet: *const u8, packet_length: usize);
+    petrolyaz_index(rows: *mut u16, rows_length: usize);
+    petrolyaz_search(packet: *const u8, packet_length: usize, index: *const u16, index_length: usize);
     petrolyaz_extract(
         packet: *const u8, packet_length: usize, name: *const u8, name_length: usize, occurrence: usize
     );
@@ -71,6 +73,16 @@ pub fn import(tables: &Tables, cells: &mut [u16], positions: &mut [u16], places:
 
 pub fn identify(tables: &Tables, packet: &[u8], places: Places) -> Answer {
     ask!(petrolyaz_identify, tables, places, packet.as_ptr(), packet.len())
+}
+
+/// The numbers of the index's rows, from the first place on.
+pub fn index(tables: &Tables, rows: &mut [u16], places: Places) -> Answer {
+    ask!(petrolyaz_index, tables, places, rows.as_mut_ptr(), rows.len())
+}
+
+pub fn search(tables: &Tables, packet: &[u8], index: &[u16], places: Places) -> Answer {
+    let (packet, packet_length) = (packet.as_ptr(), packet.len());
+    ask!(petrolyaz_search, tables, places, packet, packet_length, index.as_ptr(), index.len())
 }
 
 pub fn extract(tables: &Tables, packet: &[u8], name: &[u8], occurrence: usize, places: Places) -> Answer {

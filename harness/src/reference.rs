@@ -1,8 +1,9 @@
-//! 01, with 02's P1 and P2, as an ordinary Rust program: tables are parsed once and judged once, with vectors and hash maps.
+//! 01, with 02's P1, P2 and P4, as an ordinary Rust program: tables are parsed once and judged once, with vectors and hash maps.
 
 pub mod coefficients;
 pub mod curves;
 pub mod faults;
+pub mod index;
 pub mod judging;
 pub mod limits;
 pub mod lines;

@@ -14,21 +14,24 @@ pub const TABLE_NAMES: [&str; TABLES] =
 pub enum Question {
     Import,
     Identify,
+    Index,
+    Search,
     Extract,
     Engineer,
     LimitStep,
 }
 
-use Question::{Engineer, Extract, Identify, Import, LimitStep};
+use Question::{Engineer, Extract, Identify, Import, Index, LimitStep, Search};
 
-const QUESTIONS: [Question; 5] = [Import, Identify, Extract, Engineer, LimitStep];
+const QUESTIONS: [Question; 7] = [Import, Identify, Index, Search, Extract, Engineer, LimitStep];
 
 impl Question {
-    /// The refusals that 01 has for it.
+    /// The refusals that 01 and 02 have for it.
     fn refusals(self) -> Vec<u64> {
         match self {
-            Import => vec![1, 2, 3],
+            Import | Index => vec![1, 2, 3],
             Identify => [1, 2].into_iter().chain(20..=25).collect(),
+            Search => [1, 2, 40].into_iter().chain(20..=25).collect(),
             Extract => [1, 2].into_iter().chain(20..=29).collect(),
             Engineer => [1, 2].into_iter().chain(20..=32).collect(),
             LimitStep => [1, 2].into_iter().chain(20..=26).chain([28, 30, 31, 33, 34, 35, 36]).collect(),
@@ -146,7 +149,8 @@ impl Tally {
     }
 
     pub fn packet_questions(&self) -> u64 {
-        self.results.iter().filter(|((question, _), _)| *question != Import).map(|(_, count)| count).sum()
+        let of_packets = |question: &Question| !matches!(question, Import | Index);
+        self.results.iter().filter(|((question, _), _)| of_packets(question)).map(|(_, count)| count).sum()
     }
 
     /// What 01 has, and which of these kinds of answers, that was never met.
@@ -211,7 +215,7 @@ impl Tally {
     fn show_results(&self, out: &mut fmt::Formatter) -> fmt::Result {
         write!(out, "\nresult")?;
         QUESTIONS.iter().try_for_each(|question| write!(out, "{:>10}", format!("{question:?}")))?;
-        for number in (0..=3).chain(20..=36) {
+        for number in (0..=3).chain(20..=36).chain([40]) {
             write!(out, "\n{number:6}")?;
             let count = |question| self.results.get(&(question, number)).copied().unwrap_or(0);
             QUESTIONS.iter().try_for_each(|question| write!(out, "{:10}", count(*question)))?;

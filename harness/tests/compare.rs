@@ -3,15 +3,16 @@
 use std::sync::atomic::{AtomicU64, Ordering};
 use std::thread::{available_parallelism, scope, Builder};
 
-use harness::answers::{answer, Answer, Places};
+use harness::answers::{answer, search_answer, Answer, Places};
 use harness::generate::full::{full_packet, full_set, last_by_polynomial, last_parameter, Shape};
 use harness::generate::hostile::hostile_sets;
 use harness::generate::mutations::{mutate_bytes, noise_line};
 use harness::generate::packets::Asked;
 use harness::generate::sets::{large_set, small_set};
-use harness::generate::{borrowed, packets, states, ByteSet};
+use harness::generate::{borrowed, indexes, packets, states, ByteSet};
 use harness::proved;
 use harness::random::Random;
+use harness::reference::index::{make, search};
 use harness::reference::judging::{MOST_CELLS, TABLES};
 use harness::reference::limits::{limit_step_from, State, HARD, SOFT, WITHIN};
 use harness::reference::lines::{count_lines, lines};
@@ -102,7 +103,8 @@ fn the_library_answers_as_the_reference() {
     println!("{tally}");
     assert!(tally.sets >= 20_000 && tally.packet_questions() >= 200_000);
     assert!(tally.replaced.leaning_changed > 0);
-    let missing = tally.missing(&ANSWERS);
+    let wrong_lists = indexes::WRONG.map(|kind| (Question::Search, kind));
+    let missing = tally.missing(&[&ANSWERS[..], &wrong_lists].concat());
     assert!(missing.is_empty(), "never met: {missing:#?}");
 }
 
@@ -185,6 +187,7 @@ impl<'s> Comparison<'s> {
         let tables = borrowed(self.set);
         self.imports(&tables);
         let judged = reference::judged(&tables);
+        self.index(&tables, &judged);
         for _ in 0..PACKETS {
             self.packet_questions(&tables, &judged);
         }
@@ -298,6 +301,7 @@ impl<'s> Comparison<'s> {
             name = last(FULL).into_bytes();
         }
         self.identify(tables, judged, &packet);
+        self.search(tables, judged, &packet);
         self.extract(tables, judged, &packet, &name, occurrence);
         self.engineer(tables, judged, &packet, &name, occurrence);
         let state = states::numbers(&mut self.random, &packet);
@@ -316,6 +320,41 @@ impl<'s> Comparison<'s> {
         let asked = format!("identify {packet:02X?}");
         let library = proved::identify(tables, packet, places);
         self.answered(Question::Identify, &asked, library, answer(&expected, places));
+    }
+
+    /// Makes the index in a list with enough places, with more, or with too few; places past the index stay.
+    fn index(&mut self, tables: &Tables, judged: &Result<Judged, Refusal>) {
+        let entries = ask(judged, |judged| make(judged, MOST_CELLS)).map_or(0, |index| index.len());
+        let room = match self.random.below(10) {
+            0..=4 => entries,
+            5..=7 => self.more(entries),
+            _ => self.fewer(entries),
+        };
+        let (mut rows, places) = (self.words(room), self.places());
+        let mut new_rows = rows.clone();
+        let library = proved::index(tables, &mut new_rows, places);
+        let expected = ask(judged, |judged| make(judged, room));
+        if let Ok(index) = &expected {
+            rows[..index.len()].copy_from_slice(index);
+        }
+        self.answered(Question::Index, "index's answer", library, answer(&expected, places));
+        self.check("index's rows", &new_rows, &rows);
+    }
+
+    /// A search of the index, or of a list that isn't it.
+    fn search(&mut self, tables: &Tables, judged: &Result<Judged, Refusal>, packet: &[u8]) {
+        let places = self.places();
+        let (list, wrong) = match judged {
+            Ok(judged) => indexes::list(&mut self.random, judged),
+            Err(_) => (self.words(3), None),
+        };
+        let expected = ask(judged, |judged| search(judged, packet, &list));
+        let asked = format!("search {list:?} for {packet:02X?}");
+        let library = proved::search(tables, packet, &list, places);
+        self.answered(Question::Search, &asked, library, search_answer(&expected, places));
+        if let (Some(wrong), Err(Refusal { number: 40, .. })) = (wrong, &expected) {
+            self.tally.answer(Question::Search, wrong);
+        }
     }
 
     fn extract(

@@ -102,6 +102,17 @@ fn a_line_that_cannot_be_read_is_told() {
         "extract A|-1",
         "extract A|1|2",
         "identify now",
+        "index x",
+        "index -1",
+        "index 1101",
+        "index 1|1",
+        "search x",
+        "search 1|",
+        "search |1",
+        "search -1",
+        "search 65536",
+        "search 1|65536",
+        "search 1 2",
         "number \\4",
         "number \\4g",
         "width 3",
@@ -143,6 +154,14 @@ impl Asked for Tampered {
 
     fn identify(&self, tables: &Tables, packet: &[u8]) -> Answer {
         Reference.identify(tables, packet)
+    }
+
+    fn index(&self, tables: &Tables, rows: &mut [u16]) -> Answer {
+        Reference.index(tables, rows)
+    }
+
+    fn search(&self, tables: &Tables, packet: &[u8], list: &[u16]) -> Answer {
+        Reference.search(tables, packet, list)
     }
 
     fn extract(&self, tables: &Tables, packet: &[u8], name: &[u8], occurrence: usize) -> Answer {

@@ -10,10 +10,11 @@ use harness::answers::Answer;
 use harness::generate::borrowed;
 use harness::generate::full::{full_packet, full_set, last_by_polynomial, last_parameter, Shape};
 use harness::proved;
-use harness::reference::judging::{MOST_CELLS, TABLES};
-use harness::reference::Tables;
+use harness::reference::index::index;
+use harness::reference::judging::{MOST_CELLS, MOST_ROWS, TABLES};
+use harness::reference::{judged, Tables};
 
-const USAGE: &str = "usage: ask import|identify|extract|engineer|polynomial|limit-step CHAIN [TABLE]
+const USAGE: &str = "usage: ask import|identify|index|search|extract|engineer|polynomial|limit-step CHAIN [TABLE]
 CHAIN is the length of the VALID chains, up to 1024; TABLE the only table that has rows, 1 to 11, or 0 for none";
 
 fn main() {
@@ -46,6 +47,11 @@ fn ask(question: &str, tables: &Tables, packet: &[u8], name: &[u8]) -> Option<An
     Some(match question {
         "import" => proved::import(tables, &mut [0; MOST_CELLS], &mut [0; MOST_CELLS], places),
         "identify" => proved::identify(tables, packet, places),
+        "index" => proved::index(tables, &mut [0; MOST_ROWS], places),
+        "search" => {
+            let list = index(&judged(tables).expect("the tables are taken"));
+            proved::search(tables, packet, &list, places)
+        }
         "extract" => proved::extract(tables, packet, name, 1, places),
         "engineer" | "polynomial" => proved::engineer(tables, packet, name, 1, places),
         "limit-step" => proved::limit_step(tables, packet, name, [1, 0, 0, 0, 0], places),

@@ -4,12 +4,13 @@
 use std::hint::black_box;
 use std::time::{Duration, Instant};
 
-use harness::answers::{answer, Answer, Places};
+use harness::answers::{answer, search_answer, Answer, Places};
 use harness::generate::borrowed;
 use harness::generate::full::{full_packet, full_set, last_by_polynomial, last_parameter, Shape};
 use harness::generate::hostile::hostile_sets;
 use harness::proved;
-use harness::reference::judging::MOST_CELLS;
+use harness::reference::index::{index, make, search};
+use harness::reference::judging::{MOST_CELLS, MOST_ROWS};
 use harness::reference::limits::{limit_step, State};
 use harness::reference::packets::{extract, identify};
 use harness::reference::values::engineer;
@@ -63,6 +64,7 @@ fn measure_all(tables: &Tables, shape: Shape, rounds: usize) {
         || proved::identify(tables, packet, NO_PLACES),
         by_reference,
     );
+    measure_index(tables, &once, packet, rounds);
     let by_reference = |judged: &Judged| answer(&extract(judged, packet, name, 1), NO_PLACES);
     let by_library = || proved::extract(tables, packet, name, 1, NO_PLACES);
     measure_packet("extract", rounds, tables, &once, by_library, by_reference);
@@ -85,6 +87,18 @@ fn measure_import(tables: &Tables, rounds: usize) {
     let by_library = || proved::import(tables, &mut cells, &mut positions, NO_PLACES);
     let by_reference = || answer(&import(tables, MOST_CELLS, MOST_CELLS), NO_PLACES);
     measure("import", rounds, by_library, by_reference, None);
+}
+
+/// The index made, and searched for the packet: what it costs beside `identify` is the test of the list.
+fn measure_index(tables: &Tables, once: &Judged, packet: &[u8], rounds: usize) {
+    let mut rows = vec![0u16; MOST_ROWS];
+    let by_library = || proved::index(tables, &mut rows, NO_PLACES);
+    let by_reference = |judged: &Judged| answer(&make(judged, MOST_ROWS), NO_PLACES);
+    measure_packet("index", rounds, tables, once, by_library, by_reference);
+    let list = index(once);
+    let by_library = || proved::search(tables, packet, &list, NO_PLACES);
+    let by_reference = |judged: &Judged| search_answer(&search(judged, packet, &list), NO_PLACES);
+    measure_packet("search", rounds, tables, once, by_library, by_reference);
 }
 
 /// A packet question: the reference judges the tables in it, and once apart from it.

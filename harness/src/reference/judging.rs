@@ -91,6 +91,11 @@ impl<T, K: Eq + Hash> Table<T, K> {
         self.rows.iter().filter_map(|row| row.fields.as_ref())
     }
 
+    /// The good rows, with their places, from 0.
+    pub fn good_rows(&self) -> impl Iterator<Item = (usize, &T)> {
+        self.rows.iter().enumerate().filter_map(|(at, row)| Some((at, row.standing()?)))
+    }
+
     fn judge(&mut self, reason: impl Fn(&T) -> Verdict) {
         judge_rows(&mut self.rows, reason);
     }

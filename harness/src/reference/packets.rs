@@ -51,7 +51,7 @@ pub fn identify(judged: &Judged, packet: &[u8]) -> Result<Identity, Refusal> {
 }
 
 /// 01: "Without the header flag, type, subtype, PI1 and PI2 are 0."
-fn five_numbers(judged: &Judged, packet: &[u8], header: &Header) -> Result<[i64; 5], Refusal> {
+pub fn five_numbers(judged: &Judged, packet: &[u8], header: &Header) -> Result<[i64; 5], Refusal> {
     let apid = header.apid;
     if !header.flagged {
         return Ok([0, 0, apid, 0, 0]);

@@ -2,8 +2,9 @@
 
 use super::script::Inner;
 use super::spelled;
-use crate::answers::{answer, Answer, Places};
+use crate::answers::{answer, search_answer, Answer, Places};
 use crate::proved;
+use crate::reference::index::{make, search};
 use crate::reference::limits::{limit_step, State};
 use crate::reference::packets::{extract, identify};
 use crate::reference::values::engineer;
@@ -15,6 +16,8 @@ const BLANK: Places = [-1; 8];
 pub trait Asked {
     fn import(&self, tables: &Tables, cells: &mut [u16], positions: &mut [u16]) -> Answer;
     fn identify(&self, tables: &Tables, packet: &[u8]) -> Answer;
+    fn index(&self, tables: &Tables, rows: &mut [u16]) -> Answer;
+    fn search(&self, tables: &Tables, packet: &[u8], list: &[u16]) -> Answer;
     fn extract(&self, tables: &Tables, packet: &[u8], name: &[u8], occurrence: usize) -> Answer;
     fn engineer(&self, tables: &Tables, packet: &[u8], name: &[u8], occurrence: usize) -> Answer;
     fn step(&self, tables: &Tables, packet: &[u8], name: &[u8], state: State) -> Answer;
@@ -32,6 +35,14 @@ impl Asked for Library {
 
     fn identify(&self, tables: &Tables, packet: &[u8]) -> Answer {
         proved::identify(tables, packet, BLANK)
+    }
+
+    fn index(&self, tables: &Tables, rows: &mut [u16]) -> Answer {
+        proved::index(tables, rows, BLANK)
+    }
+
+    fn search(&self, tables: &Tables, packet: &[u8], list: &[u16]) -> Answer {
+        proved::search(tables, packet, list, BLANK)
     }
 
     fn extract(&self, tables: &Tables, packet: &[u8], name: &[u8], occurrence: usize) -> Answer {
@@ -64,6 +75,18 @@ impl Asked for Reference {
 
     fn identify(&self, tables: &Tables, packet: &[u8]) -> Answer {
         answer(&judged(tables).and_then(|judged| identify(&judged, packet)), BLANK)
+    }
+
+    fn index(&self, tables: &Tables, rows: &mut [u16]) -> Answer {
+        let made = judged(tables).and_then(|judged| make(&judged, rows.len()));
+        if let Ok(index) = &made {
+            rows[..index.len()].copy_from_slice(index);
+        }
+        answer(&made, BLANK)
+    }
+
+    fn search(&self, tables: &Tables, packet: &[u8], list: &[u16]) -> Answer {
+        search_answer(&judged(tables).and_then(|judged| search(&judged, packet, list)), BLANK)
     }
 
     fn extract(&self, tables: &Tables, packet: &[u8], name: &[u8], occurrence: usize) -> Answer {

@@ -97,6 +97,12 @@ fn ask(question: &Question, setting: &mut Setting, asked: &impl Asked) -> Option
         Question::Import(room) => import(&tables, *room, asked, spelled::import),
         Question::Row { table, row } => import(&only(*table, row), Room::MOST, asked, spelled::row),
         Question::Identify => spelled::identify(&asked.identify(&tables, packet)),
+        Question::Index { room } => {
+            let mut rows = vec![spelled::UNWRITTEN; *room];
+            let answer = asked.index(&tables, &mut rows);
+            spelled::index(&answer, &rows)
+        }
+        Question::Search { list } => spelled::search(&asked.search(&tables, packet, list)),
         Question::Extract { name, occurrence } => {
             spelled::extract(&asked.extract(&tables, packet, name, *occurrence))
         }

@@ -20,6 +20,11 @@ const MOST_BYTES: usize = 65_537;
 /// The cells and positions that are lent where a question doesn't say how many, and at most.
 const MOST_CELLS: usize = 11_264;
 
+/// The places of a list of rows that an index is lent where a question doesn't say how many, and at most, and the most
+/// entries that a list to search has.
+const MOST_ENTRIES: usize = 1_100;
+const ENTRIES: usize = 1_024;
+
 /// How many cells and how many positions an import is lent.
 #[derive(Clone, Copy, Debug)]
 pub struct Room {
@@ -50,6 +55,8 @@ pub enum Question {
     Import(Room),
     Row { table: usize, row: Vec<u8> },
     Identify,
+    Index { room: usize },
+    Search { list: Vec<u16> },
     Extract { name: Vec<u8>, occurrence: usize },
     Engineer { name: Vec<u8>, occurrence: usize },
     Step { name: Vec<u8> },
@@ -131,6 +138,8 @@ fn question(word: &[u8], text: &[u8]) -> Option<Question> {
         b"import" => room(text).map(Question::Import),
         b"row" => only_row(text),
         b"identify" => text.is_empty().then_some(Question::Identify),
+        b"index" => entries(text).map(|room| Question::Index { room }),
+        b"search" => list(text).map(|list| Question::Search { list }),
         b"extract" => reading(text).map(|(name, occurrence)| Question::Extract { name, occurrence }),
         b"engineer" => reading(text).map(|(name, occurrence)| Question::Engineer { name, occurrence }),
         b"step" => columns(text).map(|[name]| Question::Step { name }),
@@ -152,6 +161,25 @@ fn room(text: &[u8]) -> Option<Room> {
 
 fn lent(count: u64) -> Option<usize> {
     usize::try_from(count).ok().filter(|&count| count <= MOST_CELLS)
+}
+
+fn entries(text: &[u8]) -> Option<usize> {
+    if text.is_empty() {
+        return Some(ENTRIES);
+    }
+    let [room] = naturals(text)?;
+    usize::try_from(room).ok().filter(|&room| room <= MOST_ENTRIES)
+}
+
+/// The entries of a list to search; the empty text is the empty list.
+fn list(text: &[u8]) -> Option<Vec<u16>> {
+    if text.is_empty() {
+        return Some(Vec::new());
+    }
+    let bytes = bytes(text)?;
+    let entry = |column: &[u8]| u16::try_from(natural(column)?).ok();
+    let list: Option<Vec<u16>> = bytes.split(|&byte| byte == b'\t').map(entry).collect();
+    list.filter(|list| list.len() <= MOST_ENTRIES)
 }
 
 /// A table's name and its only row, whose columns follow as they are.
@@ -194,6 +222,8 @@ impl Question {
             Question::Import(_) => "import",
             Question::Row { .. } => "row",
             Question::Identify => "identify",
+            Question::Index { .. } => "index",
+            Question::Search { .. } => "search",
             Question::Extract { .. } => "extract",
             Question::Engineer { .. } => "engineer",
             Question::Step { .. } => "step",

@@ -63,6 +63,25 @@ pub fn identify(answer: &Answer) -> String {
     })
 }
 
+/// How many rows the index has, and the first six of them.
+pub fn index(answer: &Answer, rows: &[u16]) -> String {
+    unless_refused(answer, || {
+        let [count, ..] = answer.places;
+        let told = rows.iter().take(count as usize).take(6);
+        told.fold(format!("{count} rows:"), |spelled, row| format!("{spelled} {row}"))
+    })
+}
+
+/// The count of entries compared is told by 25 too.
+pub fn search(answer: &Answer) -> String {
+    const NO_PID_ROW: u64 = 25 << 32;
+    match (answer.result, answer.places) {
+        (0, [row, spid, .., compared]) => format!("row {row}, SPID {spid}, compared {compared}"),
+        (NO_PID_ROW, [compared, ..]) => format!("refused 25 at 0, compared {compared}"),
+        _ => unless_refused(answer, String::new),
+    }
+}
+
 pub fn extract(answer: &Answer) -> String {
     let validity = |valid| if valid == 1 { "valid" } else { "invalid" };
     unless_refused(answer, || match answer.places {
