@@ -20,7 +20,7 @@ use Rattle.formed.specs.Contradictions.{isWhole, isRefused, pcfContradiction, c
 use Rattle.formed.specs.Formed.{formed}
 use Rattle.formed.proofs.Meaning.{formed-well}
 use Rattle.verdicts.specs.Key.{Key, location, parameter, limits, sameKey}
-use Rattle.verdicts.specs.Facts.{raw, numeric, itself, Naming, factsOf, plfFacts, pcfFacts, ocfFacts}
+use Rattle.verdicts.specs.Facts.{locatable, numeric, itself, Naming, factsOf, plfFacts, pcfFacts, ocfFacts}
 use Rattle.verdicts.proofs.KeyLaws.{same-key-is}
 use Rattle.verdicts.proofs.OwnerLaws.{ownersOf}
 use Rattle.database.specs.Rows.{Row}
@@ -85,9 +85,9 @@ module _ (texts : List (List ℕ)) (name : Name) where
   described : (row : Row) → ofTables texts .holder (parameter name) ≡ some row → Described texts name
   described row e = let w = parameter-width row e in record { row = row; found = e; width = w .0; wide = w .1 }
 
-  -- 01: "NAME names a pcf row with NATUR R"
+  -- 02, P5: "plf NAME may name a pcf row of NATUR R or C"
   abbrev plfNaming : Naming
-  plfNaming = record { column = 1; key = parameter name; kind = itself raw; chained = false }
+  plfNaming = record { column = 1; key = parameter name; kind = itself locatable; chained = false }
 
   plf-names : (row : Row) → tableOf row ≡ Plf → plfRow (row .bytes) .name ≡ name → List·Memᴰ plfNaming (factsOf (tableOf row) (row .bytes) .names)
   unfolding factsOf plfFacts

@@ -4,7 +4,7 @@ use mathlib.Core.List.{List, [], _∷_, map}
 use Prim.Native.Nat.{ℕ, zero, suc, _<_}
 use native.Mathlib.Omega.{arith}
 use lib.ListN.{length, getD, List·getD-map}
-use Rattle.verdicts.specs.Facts.{Condition, anyRow, raw, whole, numeric, points, Kind, itself, through}
+use Rattle.verdicts.specs.Facts.{Condition, anyRow, locatable, whole, numeric, points, Kind, itself, through}
 use Rattle.manners.specs.Manners.{Manner, noManner, secondColumn, secondCondition, manners, mannerAt}
 
 -- a list of what the manners have is looked up as they are
@@ -26,7 +26,7 @@ pub data Asks (k : Kind) : Type 0 where
 pub asks : (code : ℕ) → Asks (mannerAt code .kind)
 unfolding manners mannerAt
 asks zero = of-itself anyRow refl
-asks (suc zero) = of-itself raw refl
+asks (suc zero) = of-itself locatable refl
 asks (suc (suc zero)) = of-itself anyRow refl
 asks (suc (suc (suc zero))) = of-itself whole refl
 asks (suc (suc (suc (suc zero)))) = of-itself anyRow refl

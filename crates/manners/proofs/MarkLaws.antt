@@ -6,7 +6,7 @@ use native.Mathlib.Omega.{arith}
 use lib.Dec.{eqb}
 use borrow.Author.Tests.{eq-eqb, ne-eqb}
 use Rattle.laws.proofs.Cases.{cond-cases}
-use Rattle.verdicts.specs.Facts.{Condition, anyRow, raw, whole, numeric, points}
+use Rattle.verdicts.specs.Facts.{Condition, anyRow, locatable, whole, numeric, points}
 use Rattle.manners.specs.Manners.{secondColumn, secondCondition, secondWeight, bit, mark, weight, mannerAt, marksOf, metBy, isSecond, withSecond}
 
 -- a mark is at most its weight
@@ -29,10 +29,10 @@ module _ (meets : Condition → Bool) where
   abbrev at : Condition → ℕ
   at c = bit (meets c)
 
-  bits : marksOf meets ≡ at anyRow + at raw * 2 + at whole * 4 + at numeric * 8 + at points * 16
+  bits : marksOf meets ≡ at anyRow + at locatable * 2 + at whole * 4 + at numeric * 8 + at points * 16
   unfolding marksOf weight
   bits =
-      rw (mark-bit (meets anyRow) 1, mark-bit (meets raw) 2, mark-bit (meets whole) 4, mark-bit (meets numeric) 8, mark-bit (meets points) 16)
+      rw (mark-bit (meets anyRow) 1, mark-bit (meets locatable) 2, mark-bit (meets whole) 4, mark-bit (meets numeric) 8, mark-bit (meets points) 16)
       (omega arith)
 
   -- the bit of a condition in the sum
@@ -40,19 +40,19 @@ module _ (meets : Condition → Bool) where
   unfolding weight
   bit-of anyRow =
       rw bits
-      (omega (arith, bit-most (meets anyRow), bit-most (meets raw), bit-most (meets whole), bit-most (meets numeric), bit-most (meets points)))
-  bit-of raw =
+      (omega (arith, bit-most (meets anyRow), bit-most (meets locatable), bit-most (meets whole), bit-most (meets numeric), bit-most (meets points)))
+  bit-of locatable =
       rw bits
-      (omega (arith, bit-most (meets anyRow), bit-most (meets raw), bit-most (meets whole), bit-most (meets numeric), bit-most (meets points)))
+      (omega (arith, bit-most (meets anyRow), bit-most (meets locatable), bit-most (meets whole), bit-most (meets numeric), bit-most (meets points)))
   bit-of whole =
       rw bits
-      (omega (arith, bit-most (meets anyRow), bit-most (meets raw), bit-most (meets whole), bit-most (meets numeric), bit-most (meets points)))
+      (omega (arith, bit-most (meets anyRow), bit-most (meets locatable), bit-most (meets whole), bit-most (meets numeric), bit-most (meets points)))
   bit-of numeric =
       rw bits
-      (omega (arith, bit-most (meets anyRow), bit-most (meets raw), bit-most (meets whole), bit-most (meets numeric), bit-most (meets points)))
+      (omega (arith, bit-most (meets anyRow), bit-most (meets locatable), bit-most (meets whole), bit-most (meets numeric), bit-most (meets points)))
   bit-of points =
       rw bits
-      (omega (arith, bit-most (meets anyRow), bit-most (meets raw), bit-most (meets whole), bit-most (meets numeric), bit-most (meets points)))
+      (omega (arith, bit-most (meets anyRow), bit-most (meets locatable), bit-most (meets whole), bit-most (meets numeric), bit-most (meets points)))
 
   -- a condition is met where its mark says so
   pub marked : (c : Condition) → meets c ≡ metBy (marksOf meets) (weight c)
@@ -82,7 +82,7 @@ module _ (marks : ℕ) (t : Bool) where
   other-bits : (c : Condition) → (marks % secondWeight + bit t * secondWeight) / weight c % 2 ≡ marks / weight c % 2
   unfolding weight
   other-bits anyRow = omega (arith, bit-most t)
-  other-bits raw = omega (arith, bit-most t)
+  other-bits locatable = omega (arith, bit-most t)
   other-bits whole = omega (arith, bit-most t)
   other-bits numeric = omega (arith, bit-most t)
   other-bits points = omega (arith, bit-most t)

@@ -5,7 +5,7 @@ use mathlib.Core.List.{List, [], _∷_}
 use Prim.Native.Nat.{ℕ, suc, _+_, _/_, _%_}
 use lib.Dec.{eqb}
 use lib.ListN.{getD}
-use Rattle.verdicts.specs.Facts.{Condition, anyRow, raw, whole, numeric, points, Kind, itself, through, Naming, cafMeets}
+use Rattle.verdicts.specs.Facts.{Condition, anyRow, locatable, whole, numeric, points, Kind, itself, through, Naming, cafMeets}
 
 -- a naming but for its key: the column, the kind of row that it asks for, and whether circles are sought through it
 pub record Manner : Type 0 where
@@ -39,7 +39,7 @@ unfoldable pub manners : List Manner
 manners =
     noManner
     -- 1, 2: plf NAME and SPID
-    ∷ asking 1 (itself raw)
+    ∷ asking 1 (itself locatable)
     ∷ asking 2 (itself anyRow)
     -- 3, 4: pcf VALID and CURTX
     ∷ record { column = 8; kind = itself whole; chained = true }
@@ -62,7 +62,7 @@ mannerAt code = getD manners code noManner
 -- the weight of a condition in the sum of those that a row meets
 unfoldable pub weight : Condition → ℕ
 weight anyRow = 1
-weight raw = 2
+weight locatable = 2
 weight whole = 4
 weight numeric = 8
 weight points = 16
@@ -96,7 +96,7 @@ markOf meets c = mark (meets c) (weight c)
 
 -- all marks of a row, by the conditions that it meets
 unfoldable pub marksOf : (Condition → Bool) → ℕ
-marksOf meets = markOf meets anyRow + markOf meets raw + markOf meets whole + markOf meets numeric + markOf meets points
+marksOf meets = markOf meets anyRow + markOf meets locatable + markOf meets whole + markOf meets numeric + markOf meets points
 
 -- a row with these marks meets the condition, or is of the kind, of this weight
 unfoldable pub metBy : ℕ → ℕ → Bool
@@ -117,7 +117,7 @@ pub record Examples : Type 0 where
   pub secondRow : codeOf (asking 4 (through secondColumn secondCondition)) ≡ 7
   pub foreignSecond : codeOf (asking 4 (through 8 anyRow)) ≡ 0
   pub met : metBy 21 (weight whole) ≡ true
-  pub unmet : metBy 21 (weight raw) ≡ false
+  pub unmet : metBy 21 (weight locatable) ≡ false
   -- a caf row has marks 17, an mcf row 1
   pub caf : marksOf cafMeets ≡ 17
   pub curtx : isSecond 4 17 ≡ true

@@ -4,7 +4,7 @@ use rows::letters::Category;
 use rows::letters::Nature;
 use rows::records::PcfRow;
 ghost use mathlib.Core.Path.{_≡_};
-ghost use Rattle.verdicts.specs.Facts.{raw, numeric, pcfFacts};
+ghost use Rattle.verdicts.specs.Facts.{locatable, numeric, pcfFacts};
 ghost use Rattle.manners.specs.Manners.{mark, marksOf};
 
 // Of a caf row: that it is there, and that it is a curve through points.
@@ -19,8 +19,8 @@ fn mark(met: bool, weight: u8) -> u8
     0
 }
 
-fn is_raw(row: PcfRow) -> bool
-    ensures { λ r. ⌜ r ≡ pcfFacts row .meets raw ⌝ }
+fn is_locatable(row: PcfRow) -> bool
+    ensures { λ r. ⌜ r ≡ pcfFacts row .meets locatable ⌝ }
 {
     let natur = row.natur;
     match natur {
@@ -29,7 +29,7 @@ fn is_raw(row: PcfRow) -> bool
         Nature::Expression => false,
         Nature::HardCoded => false,
         Nature::Saved => false,
-        Nature::Constant => false,
+        Nature::Constant => true,
     }
 }
 
@@ -50,8 +50,8 @@ fn is_numeric(row: PcfRow) -> bool
 pub fn pcf_marks(row: PcfRow) -> u8
     ensures { λ r. ⌜ r ≡ marksOf (pcfFacts row .meets) ⌝ }
 {
-    let raw = mark(is_raw(row), 2);
+    let locatable = mark(is_locatable(row), 2);
     let whole = mark(is_whole(row.ptc), 4);
     let numeric = mark(is_numeric(row), 8);
-    1 + raw + whole + numeric
+    1 + locatable + whole + numeric
 }

@@ -34,8 +34,8 @@ use Rattle.verdicts.specs.Key.{Key, packet, structure, identification, l
 pub data Condition : Type 0 where
   -- nothing more
   anyRow : Condition
-  -- 01: "a pcf row with NATUR R"
-  raw : Condition
+  -- 02, P5: "a pcf row of NATUR R or C"; docs/DECISIONS.md, "Corrections to the specification"
+  locatable : Condition
   -- 01: "a pcf row of PTC 1–4"
   whole : Condition
   -- 01: "a pcf row of PTC 1–4, CATEG N"
@@ -78,7 +78,7 @@ pub record Facts : Type 0 where
 -- of a row of which nothing more can be asked
 abbrev pub plainly : Condition → Bool
 plainly anyRow = true
-plainly raw = false
+plainly locatable = false
 plainly whole = false
 plainly numeric = false
 plainly points = false
@@ -99,26 +99,27 @@ pidFacts r = record { keys = pidKeys (r .valid) r; names = []; counts = []; grou
 unfoldable pub picFacts : PicRow → Facts
 picFacts r = record { keys = identification (r .ptype) (r .stype) (r .apid) ∷ []; names = []; counts = []; groups = []; meets = plainly }
 
--- 01: "NAME names a pcf row with NATUR R, SPID a VALID Y pid row"
+-- 02, P5: "plf NAME may name a pcf row of NATUR R or C"; 01: "SPID a VALID Y pid row"
 unfoldable pub plfFacts : PlfRow → Facts
 plfFacts r =
     record {
       keys = location (r .name) (r .spid .0) ∷ [];
       names =
-          record { column = 1; key = parameter (r .name); kind = itself raw; chained = false }
+          record { column = 1; key = parameter (r .name); kind = itself locatable; chained = false }
           ∷ record { column = 2; key = structure (r .spid .0); kind = itself anyRow; chained = false } ∷ [];
       counts = [];
       groups = [];
       meets = plainly;
     }
 
-abbrev isRaw : Nature → Bool
-isRaw Raw = true
-isRaw Dynamic = false
-isRaw Expression = false
-isRaw HardCoded = false
-isRaw Saved = false
-isRaw Constant = false
+-- what plf may locate in packets: parameters that are read, and constants that are set from outside
+abbrev isLocatable : Nature → Bool
+isLocatable Raw = true
+isLocatable Dynamic = false
+isLocatable Expression = false
+isLocatable HardCoded = false
+isLocatable Saved = false
+isLocatable Constant = true
 
 abbrev isNumeric : Category → Bool
 isNumeric Numeric = true
@@ -127,7 +128,7 @@ isNumeric Text = false
 
 abbrev pcfMeets : PcfRow → Condition → Bool
 pcfMeets r anyRow = true
-pcfMeets r raw = isRaw (r .natur)
+pcfMeets r locatable = isLocatable (r .natur)
 pcfMeets r whole = isWhole (r .ptc)
 pcfMeets r numeric = isWhole (r .ptc) && isNumeric (r .categ)
 pcfMeets r points = false
@@ -155,7 +156,7 @@ pcfFacts r =
 -- of a curve through points
 abbrev pub cafMeets : Condition → Bool
 cafMeets anyRow = true
-cafMeets raw = false
+cafMeets locatable = false
 cafMeets whole = false
 cafMeets numeric = false
 cafMeets points = true

@@ -17,16 +17,19 @@ use Rattle.notation.specs.Positions as coefficient
 use Rattle.notation.specs.Stages.{onDigit, inDigits, stageAfter, stageFrom, isCoefficient}
 use Rattle.notation.specs.Scientific.{withDigit, withCharacter, scientificFrom, parsed, parsedOf}
 use Rattle.coefficients.specs.Coefficient.{scaled, doubleOf, valued, coefficientOf, coefficientReason}
-use Rattle.schemas.specs.Tables.{caf, cap, mcf, schema}
+use Rattle.schemas.specs.Tables.{pid, plf, pcf, caf, cap, mcf, schema}
 use Rattle.schemas.specs.Reasons.{isIn, listed, numberReason, kindReason, columnReason, firstReason, shape}
 use Rattle.schemas.specs.Positions.{positionIn}
 use Rattle.rows.specs.Values.{naturalFrom, naturalOr, integerFrom, integerOr, letterOf, formatOf, offEndsOf}
-use Rattle.rows.specs.Records.{column, cafRow, capRow, mcfRow}
+use Rattle.rows.specs.Values.{isGiven, optionalName, optionalCurve, validOf, categoryOf, natureOf}
+use Rattle.rows.specs.Records.{column, pidRow, plfRow, pcfRow, cafRow, capRow, mcfRow}
+use Rattle.fields.specs.Width.{bitsWithin, integerWidth, widthOf}
 use Rattle.formed.specs.Contradictions.{isReal, cafContradiction, contradiction}
+use Rattle.formed.specs.Contradictions.{isRefused, categoryClash, curveClash, plfContradiction, pcfContradiction}
 use Rattle.formed.specs.Formed.{orContradiction, formed}
 use Rattle.verdicts.specs.Key.{curve, parameter, limits, keyWords, sameKey}
 use Rattle.verdicts.specs.Facts.{Condition, anyRow, whole, points, Kind, itself, through, Naming, plainly, cafMeets}
-use Rattle.verdicts.specs.Facts.{factsOf, cafFacts, capFacts, mcfFacts}
+use Rattle.verdicts.specs.Facts.{factsOf, pidKeys, pidFacts, plfFacts, pcfFacts, cafFacts, capFacts, mcfFacts}
 use Rattle.verdicts.specs.Entries.{Entry, bad, fine, readingOf, entriesOf, entriesFrom, allRows}
 use Rattle.verdicts.specs.Steps.{twin, holds, belongs, rivals, namesAt}
 use Rattle.verdicts.specs.Verdicts.{shared, sound, tally, countCell, follows, next, leads, circle}
@@ -98,6 +101,38 @@ fromBytes =
       wrongAtSecond = refl;
       noRoom = refl;
     }
+
+-- tables of which only pid, plf and pcf have rows
+abbrev parameters : List ℕ → List ℕ → List ℕ → List (List ℕ)
+parameters pids plfs pcfs = pids ∷ [] ∷ plfs ∷ pcfs ∷ [] ∷ [] ∷ [] ∷ [] ∷ [] ∷ [] ∷ [] ∷ []
+
+abbrev onePid : List ℕ
+onePid = rowOf ("3" ∷ "25" ∷ "10" ∷ "" ∷ "" ∷ "1" ∷ "" ∷ "" ∷ "" ∷ "" ∷ "" ∷ "" ∷ "" ∷ "" ∷ "" ∷ "" ∷ [])
+
+abbrev onePlf : String → List ℕ
+onePlf name = rowOf (name ∷ "1" ∷ "12" ∷ "0" ∷ "" ∷ "" ∷ "" ∷ "" ∷ [])
+
+-- an unsigned parameter of 8 bits
+abbrev onePcf : String → String → List ℕ
+onePcf name natur =
+    rowOf (name ∷ "" ∷ "" ∷ "" ∷ "3" ∷ "4" ∷ "" ∷ "" ∷ "" ∷ "N" ∷ natur ∷ "" ∷ "" ∷ "" ∷ "" ∷ "" ∷ "" ∷ "" ∷ "" ∷ "" ∷ "" ∷ "" ∷ "" ∷ [])
+
+pub record Located : Type 0 where
+  -- 02, P5: "plf NAME may name a pcf row of NATUR R or C", and no other: 11 at column 1
+  pub constant : verdicts (parameters onePid (onePlf "A" ++ onePlf "B") (onePcf "A" "R" ++ onePcf "B" "C")) ≡ 0 ∷ 0 ∷ 0 ∷ 0 ∷ 0 ∷ []
+  pub synthetic : verdicts (parameters onePid (onePlf "A" ++ onePlf "B") (onePcf "A" "D" ++ onePcf "B" "S")) ≡ 0 ∷ 2817 ∷ 2817 ∷ 0 ∷ 0 ∷ []
+  -- "C rows without a plf row are static constants and stay good"
+  pub static : verdicts (parameters [] [] (onePcf "A" "C")) ≡ 0 ∷ []
+
+pub located : Located
+unfolding
+    digitOf digitOn after spelt meaning numberOf columnsFrom columnsOf onFirst lead linesOf nameOf curveNameOf sameBytes
+    pid plf pcf schema printable allowed foreignIn isIn listed numberReason noDigits kindReason columnReason firstReason shape
+    naturalFrom naturalOr integerFrom integerOr letterOf isGiven optionalName optionalCurve validOf categoryOf natureOf column pidRow plfRow pcfRow
+    bitsWithin integerWidth widthOf isRefused categoryClash curveClash plfContradiction pcfContradiction contradiction orContradiction formed
+    keyWords sameKey factsOf pidKeys pidFacts plfFacts pcfFacts readingOf entriesOf entriesFrom allRows
+    twin holds belongs rivals shared sound tally countCell follows next leads circle namesAt ofKind asked nameCell judge within verdict verdicts
+located = record { constant = refl; synthetic = refl; static = refl }
 
 -- Rows by their facts, of parameters with one letter for a name
 

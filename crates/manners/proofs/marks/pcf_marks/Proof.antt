@@ -11,13 +11,13 @@ use Rattle.manners.proofs.marks.pcf_marks.Tie as tie
 small : (c : tie.After-mark3)
     → (c .before .before .before .before .mark .result ≤ 2) × (c .before .before .mark2 .result ≤ 4) × (c .mark3 .result ≤ 8)
 small c = (
-  mark-most (c .before .before .before .before .before .is-raw .result) 2 (c .before .before .before .before .mark .ensures),
+  mark-most (c .before .before .before .before .before .is-locatable .result) 2 (c .before .before .before .before .mark .ensures),
   mark-most (c .before .before .before .is-whole .result) 4 (c .before .before .mark2 .ensures),
   mark-most (c .before .is-numeric .result) 8 (c .mark3 .ensures),
 )
 
-is-raw-requires : tie.Need-is-raw-requires
-is-raw-requires c κs = tt
+is-locatable-requires : tie.Need-is-locatable-requires
+is-locatable-requires c κs = tt
 
 mark-requires : tie.Need-mark-requires
 mark-requires c κs = tt
@@ -50,7 +50,7 @@ returns c =
       c .before .before .before .before .mark .ensures,
       c .before .before .mark2 .ensures,
       c .mark3 .ensures,
-      c .before .before .before .before .before .is-raw .ensures,
+      c .before .before .before .before .before .is-locatable .ensures,
       c .before .before .before .is-whole .ensures,
       c .before .is-numeric .ensures,
     )
@@ -60,7 +60,7 @@ pub pcf-marks-spec : {M : Type 1} → statement M
 pcf-marks-spec =
     tie.close
     (tie.spec
-    is-raw-requires
+    is-locatable-requires
     mark-requires
     is-whole-requires
     mark-requires-2

@@ -1,8 +1,8 @@
 -- Each nature's arm is the definition's case for it.
 use borrow.Author.Needs.{needs}
 use Rattle.verdicts.specs.Facts.{pcfFacts}
-use Rattle.manners.proofs.marks.is_raw.Statement.{statement}
-use Rattle.manners.proofs.marks.is_raw.Tie as tie
+use Rattle.manners.proofs.marks.is_locatable.Statement.{statement}
+use Rattle.manners.proofs.marks.is_locatable.Tie as tie
 
 enum-told : tie.Need-enum-told
 enum-told c = search needs
@@ -46,8 +46,8 @@ returns-6 : tie.Need-returns-6
 unfolding pcfFacts
 returns-6 c = rw (c .enum-told6 .given .1)
 
-pub is-raw-spec : {M : Type 1} → statement M
-is-raw-spec =
+pub is-locatable-spec : {M : Type 1} → statement M
+is-locatable-spec =
     tie.close
     (tie.spec
     enum-told
