@@ -192,7 +192,7 @@ fn parameter(
         _ if integer && !curves.is_empty() && random.chance(60) => (b'N', random.pick(curves).clone(), false),
         _ => (b'N', Vec::new(), false),
     };
-    let natur = if random.chance(95) { b'R' } else { *random.pick(b"DPHSC") };
+    let natur = if random.chance(90) { b'R' } else { *random.pick(b"DPHSCCCC") };
     let width = field_width(ptc, pfc).expect("a type of the table has a width");
     Parameter { name: names.fresh(random, 8), ptc, width, natur, categ, curtx, by_polynomial }
 }
@@ -319,8 +319,14 @@ fn pid(random: &mut Random, rows: &mut RowSet, numbers: [i64; 5], spid: i64) -> 
 
 /// Where a parameter lies in the packets, mostly in all of them.
 fn places(random: &mut Random, rows: &mut RowSet, parameter: &Parameter, packets: &[Packet]) {
+    // a synthetic parameter is in no packet, and one constant in three is static
+    let unlocated = match parameter.natur {
+        b'R' => false,
+        b'C' => random.chance(33),
+        _ => true,
+    };
     for packet in packets.iter().filter(|packet| packet.valid) {
-        if parameter.natur != b'R' || random.chance(if packets.len() > 3 { 99 } else { 7 }) {
+        if unlocated || random.chance(if packets.len() > 3 { 99 } else { 7 }) {
             continue;
         }
         let string = parameter.ptc >= 7;

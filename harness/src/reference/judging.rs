@@ -334,7 +334,7 @@ impl<'a> Judged<'a> {
         self.txp.judge(|row| first_unmet(&[(txf.good(&row.numbr).is_some(), 1)]));
         self.plf.judge(|row| {
             let packet = sole_holder(spids, &row.spid).and_then(|at| pid.good_at(at));
-            first_unmet(&[(named(row.name, |pcf| pcf.natur == b'R'), 1), (packet.is_some(), 2)])
+            first_unmet(&[(named(row.name, |pcf| pcf.is_locatable()), 1), (packet.is_some(), 2)])
         });
         self.ocf.judge(|row| {
             let checkable = named(row.name, |pcf| pcf.is_integer() && pcf.categ == b'N');

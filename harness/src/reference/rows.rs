@@ -160,6 +160,11 @@ impl Pcf<'_> {
         (1..=4).contains(&self.ptc)
     }
 
+    /// 02, P5: "plf NAME may name a pcf row of NATUR R or C".
+    pub fn is_locatable(&self) -> bool {
+        matches!(self.natur, b'R' | b'C')
+    }
+
     pub fn is_string(&self) -> bool {
         self.ptc == 7 || self.ptc == 8
     }
