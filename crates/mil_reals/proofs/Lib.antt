@@ -1,0 +1,3 @@
+pub mod Normal
+pub mod Powers
+pub mod Exact
