@@ -1,7 +1,7 @@
 // The width of a field by its type code and format code.
 ghost use mathlib.Core.Path.{_≡_};
 ghost use Prim.Native.Nat.{_*_};
-ghost use Rattle.fields.specs.Width.{bitsOf, widthOf, bitsWithin, integerWidth};
+ghost use Rattle.fields.specs.Width.{bitsOf, widthOf, bitsWithin, integerWidth, realWidth};
 
 // The width in bits, or no such pair of codes.
 pub enum Width {
@@ -35,6 +35,18 @@ fn integer_width(pfc: u32) -> Width
     Width::Refused
 }
 
+fn real_width(pfc: u32) -> Width
+    ensures { λ r. ⌜ bitsOf r ≡ realWidth pfc ⌝ }
+{
+    match pfc {
+        1 => Width::Bits(32),
+        2 => Width::Bits(64),
+        3 => Width::Bits(32),
+        4 => Width::Bits(48),
+        _ => Width::Refused,
+    }
+}
+
 fn string_width(pfc: u32) -> Width
     ensures { λ r. ⌜ bitsOf r ≡ bitsWithin pfc 1 255 (8 * pfc) ⌝ }
 {
@@ -52,6 +64,7 @@ pub fn width_of(ptc: u32, pfc: u32) -> Width
         2 => bits_within(pfc, 1, 32, pfc),
         3 => integer_width(pfc),
         4 => integer_width(pfc),
+        5 => real_width(pfc),
         6 => bits_within(pfc, 1, 32, pfc),
         7 => string_width(pfc),
         8 => string_width(pfc),

@@ -19,6 +19,9 @@ integer-width-requires c κs = search needs
 integer-width-requires-2 : tie.Need-integer-width-requires-2
 integer-width-requires-2 c κs = search needs
 
+real-width-requires : tie.Need-real-width-requires
+real-width-requires c κs = search needs
+
 bits-within-requires-3 : tie.Need-bits-within-requires-3
 bits-within-requires-3 c κs = search needs
 
@@ -46,24 +49,29 @@ returns-4 c = let e : c .before .before .args .ptc ≡ 4 = omega arith in rw e (
 
 returns-5 : tie.Need-returns-5
 unfolding widthOf
-returns-5 c = let e : c .before .before .args .ptc ≡ 6 = omega arith in rw e (c .bits-within3 .ensures)
+returns-5 c = let e : c .before .before .args .ptc ≡ 5 = omega arith in rw e (c .real-width .ensures)
 
 returns-6 : tie.Need-returns-6
 unfolding widthOf
-returns-6 c = let e : c .before .before .args .ptc ≡ 7 = omega arith in rw e (c .string-width .ensures)
+returns-6 c = let e : c .before .before .args .ptc ≡ 6 = omega arith in rw e (c .bits-within3 .ensures)
 
 returns-7 : tie.Need-returns-7
 unfolding widthOf
-returns-7 c = let e : c .before .before .args .ptc ≡ 8 = omega arith in rw e (c .string-width2 .ensures)
+returns-7 c = let e : c .before .before .args .ptc ≡ 7 = omega arith in rw e (c .string-width .ensures)
 
 returns-8 : tie.Need-returns-8
+unfolding widthOf
+returns-8 c = let e : c .before .before .args .ptc ≡ 8 = omega arith in rw e (c .string-width2 .ensures)
+
+returns-9 : tie.Need-returns-9
 unfolding bitsOf widthOf
-returns-8 c = rw (
-  ne-eqb _ 1 (c .match .rest .0 .0 .0 .0 .0 .0 .1),
-  ne-eqb _ 2 (c .match .rest .0 .0 .0 .0 .0 .1),
+returns-9 c = rw (
+  ne-eqb _ 1 (c .match .rest .0 .0 .0 .0 .0 .0 .0 .1),
+  ne-eqb _ 2 (c .match .rest .0 .0 .0 .0 .0 .0 .1),
   ne-eqb _ 3
-      (c .match .rest .0 .0 .0 .0 .1),
-  ne-eqb _ 4 (c .match .rest .0 .0 .0 .1),
+      (c .match .rest .0 .0 .0 .0 .0 .1),
+  ne-eqb _ 4 (c .match .rest .0 .0 .0 .0 .1),
+  ne-eqb _ 5 (c .match .rest .0 .0 .0 .1),
   ne-eqb _ 6 (c .match .rest .0 .0 .1),
   ne-eqb _ 7
       (c .match .rest .0 .1),
@@ -78,6 +86,7 @@ width-of-spec =
     bits-within-requires-2
     integer-width-requires
     integer-width-requires-2
+    real-width-requires
     bits-within-requires-3
     string-width-requires
     string-width-requires-2
@@ -88,4 +97,5 @@ width-of-spec =
     returns-5
     returns-6
     returns-7
-    returns-8)
+    returns-8
+    returns-9)
