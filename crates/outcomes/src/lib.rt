@@ -4,10 +4,12 @@ use units::TableNumber;
 ghost use mathlib.Core.Path.{_≡_};
 ghost use Rattle.outcomes.specs.Refusals.{refusalNumber, refusalPlace};
 
-// A number, or the part of the packet that a string is: where it starts, and how many bytes it has.
+// A number; the part of the packet that a string is: where it starts, and how many bytes it has; or the bits of a real
+// number, and how many they are.
 pub enum Value {
     Number(i64),
     Part(ByteOffset, usize),
+    Bits(u64, u32),
 }
 
 // Every refusal of a call, in the order of 01's numbers.

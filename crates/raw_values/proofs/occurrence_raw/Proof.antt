@@ -12,7 +12,7 @@ cast-if1 c = search needs
 
 returns : tie.Need-returns
 unfolding saidRaw refusedBy refusalNumber refusalPlace
-returns c plf d = no-occurrence _ _ plf _ _ _ d (c .if1 .taken)
+returns c plf d = no-occurrence _ _ plf _ _ _ _ d (c .if1 .taken)
 
 start-of-requires : tie.Need-start-of-requires
 start-of-requires c κs = search needs
@@ -21,7 +21,7 @@ field-raw-requires : tie.Need-field-raw-requires
 field-raw-requires c κs = search needs
 
 returns-2 : tie.Need-returns-2
-returns-2 c plf d = c .field-raw .ensures ∙ occurrence-is _ _ plf _ _ _ d _ (c .before .before .if1 .left) (c .before .start-of .ensures .0)
+returns-2 c plf d = c .field-raw .ensures ∙ occurrence-is _ _ plf _ _ _ _ d _ (c .before .before .if1 .left) (c .before .start-of .ensures .0)
 
 pub occurrence-raw-spec : {M : Type 1} → statement M
 occurrence-raw-spec =
