@@ -15,7 +15,7 @@ use Rattle.units.specs.declared.ByteOffset.{ByteOffset}
 use Rattle.units.specs.declared.RowNumber.{RowNumber}
 use Rattle.units.specs.declared.Spid.{Spid}
 use Rattle.outcomes.specs.Outcome.{Outcome, refused, answer, andThen}
-use Rattle.outcomes.specs.Values.{Value, number, part, valueOf}
+use Rattle.outcomes.specs.Values.{Value, number, part, bits, valueOf}
 use Rattle.outcomes.specs.Refusals.{refusedBy}
 use Rattle.outcomes.specs.declared.Refusal.{Refusal}
 use Rattle.outcomes.specs.declared.Value as code
@@ -51,6 +51,11 @@ module _ (rows : Rows) (pcf : PcfRow) {v : code.Value} where
   unfolding valueOf engineeredBy saidEngineered
   value-part from bytes e = rw e
 
+  pub value-bits : (pattern width : ℕ) → v ≡ value.Bits pattern width
+      → saidEngineered (is.Is (value.Bits pattern width)) ≡ engineeredBy rows pcf (valueOf v)
+  unfolding valueOf engineeredBy saidEngineered
+  value-bits pattern width e = rw e
+
 -- by whether there is one
 module _ (rows : Rows) (pcf : PcfRow) {raw : RawValue} where
   pub raw-is : (v : code.Value) → raw ≡ raws.Is v → {o : Outcome Engineered} → o ≡ engineeredBy rows pcf (valueOf v)
@@ -83,6 +88,7 @@ module _ (rows : Rows) (name : Name) (valid : Bool) {pcf : Row} (e : rows .holde
   from-row (refused n place) = refl
   from-row (answer (number z)) = rw e
   from-row (answer (part start bytes)) = refl
+  from-row (answer (bits pattern width)) = refl
 
 module _ (rows : Rows) (p : List ℕ) (spid : ℕ) (name : Name) (k : ℕ) where
   read-located : andThen (reading rows p spid name k) (λ r. engineeredFrom rows name (r .value)) ≡ engineeredIn rows p spid name k

@@ -40,6 +40,7 @@ fn engineer_read(
     match value {
         Value::Number(z) => engineer_value(tables, words, links, columns, pcf, z),
         Value::Part(from, bytes) => Engineered::Is(Value::Part(from, bytes)),
+        Value::Bits(pattern, width) => Engineered::Is(Value::Bits(pattern, width)),
     }
 }
 

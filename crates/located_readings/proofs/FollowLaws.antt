@@ -12,7 +12,7 @@ use mir.Syntax.{w64}
 use mir.Val.{SFits}
 use Rattle.laws.proofs.Cases.{and-false, false≢true}
 use Rattle.rows.specs.declared.records.PcfRow.{PcfRow}
-use Rattle.outcomes.specs.Values.{part}
+use Rattle.outcomes.specs.Values.{part, bits}
 use Rattle.database.specs.Rows.{Rows}
 use Rattle.readings.specs.Readings.{sameInteger, equals, agrees, withValidity, readingWith, validWithin}
 use Rattle.readings.specs.Chain.{blockRows, validAlong}
@@ -28,10 +28,14 @@ pub never-agrees : (valid : PcfRow → Bool) (a : Asked) (valpar : ℤ) → a .r
 unfolding askedAgrees
 never-agrees valid a valpar e = rw e
 
--- a string never agrees
+-- a string never agrees, nor does a real
 pub string-disagrees : (valid : Bool) (start bytes : ℕ) (valpar : ℤ) → false ≡ agrees (withValidity valid (part start bytes)) valpar
 unfolding agrees equals withValidity
 string-disagrees valid start bytes valpar = sym (and-false valid)
+
+pub real-disagrees : (valid : Bool) (pattern width : ℕ) (valpar : ℤ) → false ≡ agrees (withValidity valid (bits pattern width)) valpar
+unfolding agrees equals withValidity
+real-disagrees valid pattern width valpar = sym (and-false valid)
 
 -- after a row that disagrees nothing is valid
 along-false : (values valpars : List ℤ) (at n : ℕ) → validAlong values valpars false at n ≡ false

@@ -62,6 +62,7 @@ fn value_asked(value: Value, row: PcfRow) -> Asked
             row,
         },
         Value::Part(from, bytes) => unreadable(row),
+        Value::Bits(pattern, width) => unreadable(row),
     }
 }
 

@@ -22,6 +22,7 @@ use Rattle.rows.specs.declared.records.PlfRow.{PlfRow}
 use Rattle.rows.specs.declared.records.PcfRow.{PcfRow}
 use Rattle.outcomes.specs.Outcome.{Outcome, answer, refused}
 use Rattle.outcomes.specs.Values.{Value, number}
+use Rattle.raw_values.specs.Reals.{isRealType}
 use Rattle.raw_values.specs.RawValues.{isString, startOf, valueAt, fieldRaw, rawIn, rawOf}
 use Rattle.raw_values.proofs.RawLaws.{width-wide}
 
@@ -35,10 +36,10 @@ module _ (p : List ℕ) (at n : ℕ) (low : 1 ≤ n) (high : n ≤ 64) where
   unfolding valueAt fieldAt
   said-whole meant = rw (width-yes n low high) (cond-cases (λ (x : Said). Whole (at / 8) (valueAt at number x)) (inside p at n) (λ e. read _) (λ e. leaves))
 
-  field-whole : (ptc : ℕ) → isString ptc ≡ false → Whole (at / 8) (fieldRaw p ptc n at)
+  field-whole : (ptc pfc : ℕ) → isString ptc ≡ false → isRealType ptc ≡ false → Whole (at / 8) (fieldRaw p ptc pfc n at)
   unfolding fieldRaw signedAt unsignedAt
-  field-whole ptc s =
-      rw s
+  field-whole ptc pfc s r =
+      rw (s, r)
       (cond-cases (λ (x : Said). Whole (at / 8) (valueAt at number x)) (eqb ptc 4) (λ e. said-whole (complementOf n)) (λ e. said-whole pos))
 
 pub no-string : (ptc : ℕ) → isWhole ptc ≡ true → isString ptc ≡ false
@@ -47,6 +48,12 @@ no-string ptc w =
     let high : ptc ≤ 4 = leb-true ptc 4 (and-right (leb 1 ptc) (leb ptc 4) w) in
     or-none (ne-eqb ptc 7 (λ e. omega arith)) (ne-eqb ptc 8 (λ e. omega arith))
 
+pub no-real : (ptc : ℕ) → isWhole ptc ≡ true → isRealType ptc ≡ false
+unfolding isRealType
+no-real ptc w =
+    let high : ptc ≤ 4 = leb-true ptc 4 (and-right (leb 1 ptc) (leb ptc 4) w) in
+    ne-eqb ptc 5 (λ e. omega arith)
+
 -- 01: "28 … a bit of the field lies outside", at "the byte in which the first such field starts"
 pub whole-raw : (p : List ℕ) (plf : PlfRow) (pcf : PcfRow) (k n : ℕ) → length p ≤ 8192 → k < plf .nbocc
     → isWhole (pcf .ptc) ≡ true → widthOf (pcf .ptc) (pcf .pfc) ≡ some n → Whole (startOf plf k / 8) (rawOf p plf pcf k)
@@ -54,6 +61,5 @@ unfolding rawOf rawIn
 whole-raw p plf pcf k n short below whole width =
     let s = no-string (pcf .ptc) whole in
     let w = width-wide (pcf .ptc) (pcf .pfc) n width in
-    let h : n ≤ 64 = omega (arith, w .other s) in
     rw (le-ltb 8192 (length p) short, width, lt-ltb k (plf .nbocc) below)
-    (field-whole p (startOf plf k) n (w .some) h (pcf .ptc) s)
+    (field-whole p (startOf plf k) n (w .some) (w .other s) (pcf .ptc) (pcf .pfc) s (no-real (pcf .ptc) whole))

@@ -11,7 +11,7 @@ use Rattle.rows.specs.declared.letters.LimitValue.the-variants.{Raw, Engineerin
 use Rattle.rows.specs.declared.records.OptionalCurve.{OptionalCurve}
 use Rattle.rows.specs.declared.records.OcfRow.{OcfRow}
 use Rattle.outcomes.specs.Outcome.{Outcome, refused, answer, andThen}
-use Rattle.outcomes.specs.Values.{Value, number, part}
+use Rattle.outcomes.specs.Values.{Value, number, part, bits}
 use Rattle.database.specs.Rows.{Rows}
 use Rattle.raw_values.specs.RawValues.{rawOf}
 use Rattle.parameters.specs.Located.{Located}
@@ -23,11 +23,12 @@ unfoldable pub occurrencesFrom : (k n : ℕ) → List ℕ
 occurrencesFrom k zero = []
 occurrencesFrom k (suc n) = k ∷ occurrencesFrom (suc k) n
 
--- a parameter that has limits is of PTC 1-4, and no string: see `whole-raw`. A string is answered by 26,
+-- a parameter that has limits is of PTC 1-4, no string and no real: see `whole-raw`. These are answered by 26,
 -- as what has no field
 unfoldable pub integerIn : Value → Outcome ℤ
 integerIn (number z) = answer z
 integerIn (part start bytes) = refused 26 0
+integerIn (bits pattern width) = refused 26 0
 
 -- 01: "In a limit step 28 is sought over all occurrences first": the raw values of all,
 -- or the refusal of the first that has one

@@ -55,6 +55,7 @@ fn integer_in(value: Value) -> RawNumber
     match value {
         Value::Number(v) => RawNumber::Is(v),
         Value::Part(from, bytes) => RawNumber::Refused(Refusal::NoPlfRow),
+        Value::Bits(pattern, width) => RawNumber::Refused(Refusal::NoPlfRow),
     }
 }
 

@@ -21,13 +21,14 @@ use Rattle.fields.specs.Field.{isWidth, fieldAt, unsignedAt}
 use Rattle.fields.specs.Sign.{complementOf, signedAt}
 use Rattle.fields.specs.Figures.{packet}
 use Rattle.outcomes.specs.Outcome.{Outcome, refused, answer, andThen}
-use Rattle.outcomes.specs.Values.{Value, number, part, valueOf}
+use Rattle.outcomes.specs.Values.{Value, number, part, bits, valueOf}
 use Rattle.outcomes.specs.Refusals.{refusedBy}
 use Rattle.verdicts.specs.Key.{keyWords, sameKey}
 use Rattle.verdicts.specs.Facts.{factsOf, plfFacts, pcfFacts}
 use Rattle.verdicts.specs.Answer.{mostRows}
 use Rattle.database.specs.Rows.{Row, Rows}
 use Rattle.database.specs.GoodRows.{holdsKey, find, among}
+use Rattle.raw_values.specs.Reals.{isRealType}
 use Rattle.raw_values.specs.RawValues.{isString, startOf, valueAt, fieldRaw, rawIn, rawOf}
 use Rattle.parameters.specs.Located.{byLines, needed, located}
 use Rattle.readings.specs.declared.Reading as code
@@ -44,10 +45,11 @@ sameInteger (pos m) (negsuc n) = false
 sameInteger (negsuc m) (pos n) = false
 sameInteger (negsuc m) (negsuc n) = eqb m n
 
--- 01: "Validity compares raw values". A string equals no number
+-- 01: "Validity compares raw values". A string and a real equal no number
 unfoldable pub equals : Value → ℤ → Bool
 equals (number z) valpar = sameInteger z valpar
 equals (part start bytes) valpar = false
+equals (bits pattern width) valpar = false
 
 -- 01: "is valid and equals the VALPAR"; "A validity parameter that can't be read makes it invalid"
 unfoldable pub agrees : Outcome Reading → ℤ → Bool
@@ -116,6 +118,6 @@ unfolding
     among find holdsKey factsOf plfFacts pcfFacts sameKey keyWords sameBytes
     plfRow pcfRow column columnsOf columnsFrom nameOf naturalOr naturalFrom integerOr integerFrom numberOf meaning spelt after digitOn digitOf
     optionalName isGiven optionalCurve curveNameOf letterOf categoryOf natureOf
-    rawOf rawIn startOf fieldRaw isString valueAt widthOf integerWidth bitsWithin
+    rawOf rawIn startOf fieldRaw isString isRealType valueAt widthOf integerWidth bitsWithin
     unsignedAt signedAt complementOf fieldAt isWidth inside bitInside numberAt bitAt packet
 examples = record { valid = refl; other-value = refl; circle = refl }

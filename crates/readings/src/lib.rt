@@ -19,13 +19,14 @@ pub enum Reading {
     Refused(Refusal),
 }
 
-// A string equals no number.
+// A string and a real equal no number.
 pub fn equals(value: Value, valpar: i64) -> bool
     ensures { λ r. ⌜ r ≡ spec.equals (valueOf value) valpar ⌝ }
 {
     match value {
         Value::Number(v) => v == valpar,
         Value::Part(from, bytes) => false,
+        Value::Bits(pattern, width) => false,
     }
 }
 

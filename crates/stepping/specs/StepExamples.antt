@@ -45,6 +45,7 @@ use Rattle.verdicts.specs.Facts.{factsOf, pidKeys, pidFacts, plfFacts, pcfFacts
 use Rattle.database.specs.Rows.{Row, Rows}
 use Rattle.database.specs.GoodRows.{holdsKey, inGroup, find, among}
 use Rattle.database.specs.Kinds.{isPolynomial}
+use Rattle.raw_values.specs.Reals.{isRealType}
 use Rattle.raw_values.specs.RawValues.{isString, startOf, valueAt, fieldRaw, rawIn, rawOf}
 use Rattle.parameters.specs.Located.{byLines, needed, located}
 use Rattle.readings.specs.Readings.{sameInteger, equals, agrees, withValidity, readingWith, validWithin, validity}
@@ -136,7 +137,7 @@ unfolding
     pidRow plfRow pcfRow cafRow capRow ocfRow ocpRow column columnsOf columnsFrom nameOf curveNameOf
     naturalOr naturalFrom integerOr integerFrom numberOf meaning spelt after digitOn digitOf
     optionalName isGiven optionalCurve letterOf validOf categoryOf natureOf formatOf offEndsOf limitValueOf limitCodingOf checkTypeOf
-    rawOf rawIn startOf fieldRaw isString valueAt widthOf integerWidth bitsWithin
+    rawOf rawIn startOf fieldRaw isString isRealType valueAt widthOf integerWidth bitsWithin
     unsignedAt signedAt complementOf fieldAt isWidth inside bitInside numberAt bitAt packet
     curveAt placed fromLast beforeFirst offEnd through pointAt notAbove below above nearestOf better closer nearer passes
     lineAt isSegment isPoint isCoordinate isRaw lies resultOf heightAt floorDiv

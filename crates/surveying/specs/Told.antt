@@ -6,7 +6,7 @@ use mathlib.Core.List.{List}
 use lib.IntN.{negsuc, natAbs}
 use lib.Ieee.{binary64, toBits}
 use Rattle.outcomes.specs.Outcome.{Outcome, refused, answer}
-use Rattle.outcomes.specs.Values.{Value, number, part}
+use Rattle.outcomes.specs.Values.{Value, number, part, bits}
 use Rattle.database.specs.Rows.{Rows}
 use Rattle.identification.specs.Identification.{Identity, identifyBy}
 use Rattle.readings.specs.Readings.{Reading}
@@ -18,10 +18,11 @@ use Rattle.surveying.specs.declared.asking.Question.the-variants.{Identi
 use Rattle.surveying.specs.declared.asking.Told.{Told}
 use Rattle.surveying.specs.declared.asking.Told.the-variants.{Weighs, Refused}
 
--- a number weighs what it is without its sign, a string where it starts
+-- a number weighs what it is without its sign, a string where it starts, a real its bits
 unfoldable pub weightOf : Value → ℕ
 weightOf (number z) = natAbs z
 weightOf (part start bytes) = start
+weightOf (bits pattern width) = pattern
 
 -- a packet's weight is its SPID
 unfoldable pub tellIdentity : Outcome Identity → Told

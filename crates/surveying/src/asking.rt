@@ -36,6 +36,7 @@ fn weigh(value: Value) -> u64
     match value {
         Value::Number(v) => size(v),
         Value::Part(from, _) => from.0 as u64,
+        Value::Bits(pattern, _) => pattern,
     }
 }
 

@@ -1,4 +1,4 @@
--- An integer by its word; a string is none.
+-- An integer by its word; a string and a real are none.
 use mathlib.Core.Path.{ap, _∙_}
 use mir.Facts.{toZ-ofZ}
 use mir.Val.{SFits}
@@ -18,6 +18,9 @@ enum-known-value c = search needs
 enum-known-value-2 : tie.Need-enum-known-value-2
 enum-known-value-2 c = search needs
 
+enum-known-value-3 : tie.Need-enum-known-value-3
+enum-known-value-3 c = search needs
+
 returns : tie.Need-returns
 unfolding saidNumber integerIn valueOf
 returns c =
@@ -28,5 +31,9 @@ returns-2 : tie.Need-returns-2
 unfolding saidNumber integerIn valueOf refusedBy refusalNumber refusalPlace
 returns-2 c = rw (c .before .value2 .given .1)
 
+returns-3 : tie.Need-returns-3
+unfolding saidNumber integerIn valueOf refusedBy refusalNumber refusalPlace
+returns-3 c = rw (c .before .value3 .given .1)
+
 pub integer-in-spec : {M : Type 1} → statement M
-integer-in-spec = tie.close (tie.spec enum-known-value enum-known-value-2 returns returns-2)
+integer-in-spec = tie.close (tie.spec enum-known-value enum-known-value-2 enum-known-value-3 returns returns-2 returns-3)

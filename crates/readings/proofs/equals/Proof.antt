@@ -1,4 +1,4 @@
--- An integer by its word; a string never.
+-- An integer by its word; a string and a real never.
 use mathlib.Core.Path.{_∙_}
 use mir.Val.{SFits}
 use mir.Syntax.{w64}
@@ -15,6 +15,9 @@ enum-known-value c = search needs
 enum-known-value-2 : tie.Need-enum-known-value-2
 enum-known-value-2 c = search needs
 
+enum-known-value-3 : tie.Need-enum-known-value-3
+enum-known-value-3 c = search needs
+
 returns : tie.Need-returns
 unfolding equals valueOf
 returns c =
@@ -27,5 +30,9 @@ returns-2 : tie.Need-returns-2
 unfolding equals valueOf
 returns-2 c = rw (c .before .value2 .given .1)
 
+returns-3 : tie.Need-returns-3
+unfolding equals valueOf
+returns-3 c = rw (c .before .value3 .given .1)
+
 pub equals-spec : {M : Type 1} → statement M
-equals-spec = tie.close (tie.spec enum-known-value enum-known-value-2 returns returns-2)
+equals-spec = tie.close (tie.spec enum-known-value enum-known-value-2 enum-known-value-3 returns returns-2 returns-3)

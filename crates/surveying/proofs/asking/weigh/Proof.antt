@@ -19,6 +19,9 @@ size-requires c κs = search needs
 enum-known-value-2 : tie.Need-enum-known-value-2
 enum-known-value-2 c = search needs
 
+enum-known-value-3 : tie.Need-enum-known-value-3
+enum-known-value-3 c = search needs
+
 returns : tie.Need-returns
 unfolding weightOf valueOf
 returns c =
@@ -30,6 +33,10 @@ returns-2 : tie.Need-returns-2
 unfolding weightOf valueOf
 returns-2 c = rw (c .before .value2 .given .1)
 
+returns-3 : tie.Need-returns-3
+unfolding weightOf valueOf
+returns-3 c = rw (c .before .value3 .given .1)
+
 pub weigh-spec : {M : Type 1} → statement M
 weigh-spec =
-    tie.close (tie.spec enum-known-value size-requires enum-known-value-2 returns returns-2)
+    tie.close (tie.spec enum-known-value size-requires enum-known-value-2 enum-known-value-3 returns returns-2 returns-3)
