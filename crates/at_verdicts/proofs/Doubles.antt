@@ -21,7 +21,7 @@ use Rattle.rows.specs.declared.records.PcfRow.{PcfRow}
 use Rattle.curves.specs.Line.{isBetween, isRaw}
 use Rattle.verdicts.specs.Key.{parameter}
 use Rattle.outcomes.specs.Outcome.{Outcome, answer, andThen}
-use Rattle.outcomes.specs.Values.{Value, number, part}
+use Rattle.outcomes.specs.Values.{Value, number, part, bits}
 use Rattle.database.specs.Rows.{Row, Rows}
 use Rattle.database.specs.GoodRows.{ofTables}
 use Rattle.polynomial_curves.specs.Polynomials.{polynomialFor}
@@ -79,6 +79,7 @@ module _ (texts : List (List ℕ)) (p name : List ℕ) (k : ℕ) (x : Float) whe
       go : (v : Value) (o : Option Row) → ((z : ℤ) → v ≡ number z → isRaw z ≡ true) → ofTables texts .holder (parameter (nameOf name)) ≡ o
           → engineeredFrom (ofTables texts) (nameOf name) v ≡ answer (double x) → Under 252 x
       go (part start bytes) o is f e = absurd (let w : _≡_ {A = ℕ} 0 1 = cc in omega arith)
+      go (bits pattern width) o is f e = absurd (let w : _≡_ {A = ℕ} 0 1 = cc in omega arith)
       go (number z) none is f e = absurd (let w : _≡_ {A = ℕ} 0 1 = cc in omega arith)
       go (number z) (some row) is f e = engineered-finite (ofTables texts) (pcfRow (row .bytes)) z (is z refl) x (rw f at e)
 

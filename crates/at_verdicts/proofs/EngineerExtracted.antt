@@ -17,7 +17,7 @@ use Rattle.rows.specs.declared.records.PcfRow.{PcfRow}
 use Rattle.tables.specs.Sizes.{Sized, fit, refusedBy, sizesOf}
 use Rattle.verdicts.specs.Key.{parameter}
 use Rattle.outcomes.specs.Outcome.{Outcome, answer, refused, andThen}
-use Rattle.outcomes.specs.Values.{Value, number, part}
+use Rattle.outcomes.specs.Values.{Value, number, part, bits}
 use Rattle.database.specs.Rows.{Row, Rows}
 use Rattle.database.specs.GoodRows.{ofTables}
 use Rattle.identification.specs.Identification.{identifyBy}
@@ -62,6 +62,7 @@ module _ (rows : Rows) (p name : List ℕ) (k n place : ℕ) (other : any (eqb n
   value-numbers : (v : Value) (pcf : Row) → rows .holder (parameter (nameOf name)) ≡ some pcf → Numbered engineering (engineeredFrom rows (nameOf name) v)
   unfolding engineeredFrom needed andThen
   value-numbers (part start bytes) pcf e = refl
+  value-numbers (bits pattern width) pcf e = refl
   value-numbers (number z) pcf e = rw e (engineered-numbers rows (pcfRow (pcf .bytes)) z)
 
   as-extracted : engineerBy rows p name k ≡ refused n place → extractBy rows p name k ≡ refused n place

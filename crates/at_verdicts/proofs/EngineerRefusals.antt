@@ -19,7 +19,7 @@ use Rattle.curves.specs.Line.{isRaw}
 use Rattle.tables.specs.Sizes.{fit, sizesOf}
 use Rattle.verdicts.specs.Key.{location, parameter}
 use Rattle.outcomes.specs.Outcome.{Outcome, answer, refused, andThen}
-use Rattle.outcomes.specs.Values.{Value, number, part}
+use Rattle.outcomes.specs.Values.{Value, number, part, bits}
 use Rattle.database.specs.Rows.{Row}
 use Rattle.database.specs.GoodRows.{ofTables}
 use Rattle.identification.specs.Identification.{identifyBy}
@@ -127,6 +127,7 @@ module _ (texts : List (List ℕ)) (p name : List ℕ) (k : ℕ) where
 
         go : (v : Value) (o : Option Row) → w .0 .value ≡ v → ofTables texts .holder (parameter (nameOf name)) ≡ o → ReadSo (ofTables texts) p name k so
         go (part start bytes) o q f = absurd (never (answer (value (part start bytes))) refl (told q))
+        go (bits pattern width) o q f = absurd (never (answer (value (bits pattern width))) refl (told q))
         go (number raw) none q f = absurd (never (refused 26 0) refl (sym (value-none raw f) ∙ told q))
         go (number raw) (some row) q f =
             record {

@@ -45,7 +45,7 @@ module _ (texts : List (List ℕ)) (p : List ℕ) (spid : ℕ) (name : Name) (k 
       (λ at. andThen (rawOf p (at .plf) (at .pcf) k) (withValidity (validity (ofTables texts) p spid (at .pcf)))) at
       (located-is (ofTables texts) spid name l (d .row) e (d .found)) in
       subst (λ (o : Outcome Reading). Numbered readingNumbers o) (sym same)
-      (raw-made make (λ z. refl) p (at .plf) (at .pcf) k (d .width) (d .wide) (λ _ start bytes. refl))
+      (raw-made make (λ z. refl) p (at .plf) (at .pcf) k (d .width) (d .wide) (λ _ start bytes. refl) (λ _ z. refl))
 
   reading-located : numberIn (reading (ofTables texts) p spid name k) ≡ 26 → ofTables texts .holder (location name spid) ≡ none
   reading-located q = go (ofTables texts .holder (location name spid)) refl

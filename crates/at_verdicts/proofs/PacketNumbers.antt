@@ -32,6 +32,7 @@ use Rattle.identifiers.specs.Identifiers.{readIdentifier, identifierAt, identif
 use Rattle.five_numbers.specs.Numbers.{picRowOf, identifiersFrom, fiveNumbers}
 use Rattle.identification.specs.Identification.{chosen, chooseBy, identifyHeaded, identifyBy}
 use Rattle.headers.specs.declared.Head.{Head}
+use Rattle.raw_values.specs.Reals.{isRealType, realValue}
 use Rattle.raw_values.specs.RawValues.{isString, TypeWidth, startOf, valueAt, packetPart, fieldRaw, rawIn, rawOf}
 use Rattle.raw_values.proofs.RawLaws.{width-wide}
 use Rattle.at_verdicts.proofs.NumberLaws.{Numbered, one-then}
@@ -95,11 +96,11 @@ abbrev pub reading : List ℕ
 reading = 20 ∷ 27 ∷ 28 ∷ 29 ∷ []
 
 module _ {B : Type 0} (make : Value → Outcome B) (ofNumber : (z : ℤ) → Numbered reading (make (number z))) where
-  integer-made : (meant : ℕ → ℤ) (p : List ℕ) (at n : ℕ) → isWidth n ≡ true → Numbered reading (andThen (valueAt at number (fieldAt meant p at n)) make)
+  bits-made : (of : ℤ → Value) → ((z : ℤ) → Numbered reading (make (of z))) → (meant : ℕ → ℤ) (p : List ℕ) (at n : ℕ) → isWidth n ≡ true
+      → Numbered reading (andThen (valueAt at of (fieldAt meant p at n)) make)
   unfolding fieldAt valueAt andThen
-  integer-made meant p at n w =
-      rw w
-      (cond-cases (λ (s : Said). Numbered reading (andThen (valueAt at number s) make)) (inside p at n) (λ _. ofNumber (meant _)) (λ _. refl))
+  bits-made of h meant p at n w =
+      rw w (cond-cases (λ (s : Said). Numbered reading (andThen (valueAt at of s) make)) (inside p at n) (λ _. h (meant _)) (λ _. refl))
 
   string-made : (p : List ℕ) (at n : ℕ) → (n ≡ 0 → ⊥) → ((start bytes : ℕ) → Numbered reading (make (part start bytes)))
       → Numbered reading (andThen (valueAt at (packetPart at n) (stringAt p at n)) make)
@@ -111,25 +112,29 @@ module _ {B : Type 0} (make : Value → Outcome B) (ofNumber : (z : ℤ) → Num
       (λ _. cond-cases (λ (s : Said). Numbered reading (andThen (valueAt at (packetPart at n) s) make)) (eqb (at % 8) 0) (λ _. ofPart (at / 8) n) (λ _. refl))
       (λ _. refl))
 
-  module _ (ptc : ℕ) (ofPart : isString ptc ≡ true → (start bytes : ℕ) → Numbered reading (make (part start bytes))) where
-    field-made : (p : List ℕ) (n at : ℕ) → TypeWidth ptc n → Numbered reading (andThen (fieldRaw p ptc n at) make)
+  module _ (ptc pfc : ℕ) (ofPart : isString ptc ≡ true → (start bytes : ℕ) → Numbered reading (make (part start bytes)))
+      (ofReal : isRealType ptc ≡ true → (z : ℤ) → Numbered reading (make (realValue pfc z))) where
+    field-made : (p : List ℕ) (n at : ℕ) → TypeWidth ptc n → Numbered reading (andThen (fieldRaw p ptc pfc n at) make)
     unfolding fieldRaw signedAt unsignedAt
     field-made p n at w =
         cond-cases (λ (o : Outcome Value). Numbered reading (andThen o make)) (isString ptc)
         (λ t. string-made p at (n / 8) (λ z. omega (arith, w .string t)) (ofPart t))
-        (λ f. let y : isWidth n ≡ true = width-yes n (w .some) (omega (arith, w .other f)) in
-        cond-cases (λ (s : Said). Numbered reading (andThen (valueAt at number s) make)) (eqb ptc 4)
-        (λ _. integer-made (complementOf n) p at n y)
-        (λ _. integer-made pos p at n y))
+        (λ f. let y : isWidth n ≡ true = width-yes n (w .some) (w .other f) in
+        cond-cases (λ (o : Outcome Value). Numbered reading (andThen o make)) (isRealType ptc)
+        (λ r. bits-made (realValue pfc) (ofReal r) pos p at n y)
+        (λ _. cond-cases (λ (s : Said). Numbered reading (andThen (valueAt at number s) make)) (eqb ptc 4)
+        (λ _. bits-made number ofNumber (complementOf n) p at n y)
+        (λ _. bits-made number ofNumber pos p at n y)))
 
-    in-made : (p : List ℕ) (plf : PlfRow) (k n : ℕ) → TypeWidth ptc n → Numbered reading (andThen (rawIn p plf ptc k (some n)) make)
+    in-made : (p : List ℕ) (plf : PlfRow) (k n : ℕ) → TypeWidth ptc n → Numbered reading (andThen (rawIn p plf ptc pfc k (some n)) make)
     unfolding rawIn andThen
     in-made p plf k n w =
         cond-cases (λ (o : Outcome Value). Numbered reading (andThen o make)) (ltb k (plf .nbocc)) (λ _. field-made p n (startOf plf k) w) (λ _. refl)
 
   pub raw-made : (p : List ℕ) (plf : PlfRow) (pcf : PcfRow) (k n : ℕ) → widthOf (pcf .ptc) (pcf .pfc) ≡ some n
-      → (isString (pcf .ptc) ≡ true → (start bytes : ℕ) → Numbered reading (make (part start bytes))) → Numbered reading (andThen (rawOf p plf pcf k) make)
+      → (isString (pcf .ptc) ≡ true → (start bytes : ℕ) → Numbered reading (make (part start bytes)))
+      → (isRealType (pcf .ptc) ≡ true → (z : ℤ) → Numbered reading (make (realValue (pcf .pfc) z))) → Numbered reading (andThen (rawOf p plf pcf k) make)
   unfolding rawOf andThen
-  raw-made p plf pcf k n e ofPart =
+  raw-made p plf pcf k n e ofPart ofReal =
       cond-cases (λ (o : Outcome Value). Numbered reading (andThen o make)) (ltb 8192 (length p)) (λ _. refl)
-      (λ _. rw e (in-made (pcf .ptc) ofPart p plf k n (width-wide (pcf .ptc) (pcf .pfc) n e)))
+      (λ _. rw e (in-made (pcf .ptc) (pcf .pfc) ofPart ofReal p plf k n (width-wide (pcf .ptc) (pcf .pfc) n e)))

@@ -26,6 +26,7 @@ use Rattle.rows.specs.declared.records.PcfRow.{PcfRow}
 use Rattle.curves.specs.Line.{isBetween, isRaw}
 use Rattle.outcomes.specs.Outcome.{Outcome, answer, refused}
 use Rattle.outcomes.specs.Values.{Value, number}
+use Rattle.raw_values.specs.Reals.{isRealType, realValue}
 use Rattle.raw_values.specs.RawValues.{isString, TypeWidth, startOf, valueAt, packetPart, fieldRaw, rawIn, rawOf}
 use Rattle.raw_values.proofs.RawLaws.{width-wide}
 
@@ -41,11 +42,19 @@ number-ranged at (value x) h z e = h z (let q : x ≡ z = cc in ap value (sym q)
 number-ranged at (refusedWith n) h z e = absurd (let w : _≡_ {A = ℕ} 0 1 = cc in omega arith)
 number-ranged at free h z e = absurd (let w : _≡_ {A = ℕ} 0 1 = cc in omega arith)
 
-part-ranged : (at bytes : ℕ) (s : Said) → Ranged (valueAt at (packetPart at bytes) s)
+-- what is made no number has none
+other-ranged : (at : ℕ) (make : ℤ → Value) → ((x z : ℤ) → make x ≡ number z → ⊥) → (s : Said) → Ranged (valueAt at make s)
 unfolding valueAt
-part-ranged at bytes (value x) z e = absurd (let w : _≡_ {A = ℕ} 0 1 = cc in omega arith)
-part-ranged at bytes (refusedWith n) z e = absurd (let w : _≡_ {A = ℕ} 0 1 = cc in omega arith)
-part-ranged at bytes free z e = absurd (let w : _≡_ {A = ℕ} 0 1 = cc in omega arith)
+other-ranged at make h (value x) z e = absurd (h x z (let q : make x ≡ number z = cc in q))
+other-ranged at make h (refusedWith n) z e = absurd (let w : _≡_ {A = ℕ} 0 1 = cc in omega arith)
+other-ranged at make h free z e = absurd (let w : _≡_ {A = ℕ} 0 1 = cc in omega arith)
+
+part-number : (at bytes : ℕ) (x z : ℤ) → packetPart at bytes x ≡ number z → ⊥
+part-number at bytes x z e = let w : _≡_ {A = ℕ} 0 1 = cc in omega arith
+
+real-number : (pfc : ℕ) (x z : ℤ) → realValue pfc x ≡ number z → ⊥
+unfolding realValue
+real-number pfc x z e = let w : _≡_ {A = ℕ} 0 1 = cc in omega arith
 
 small-raw : (z : ℤ) → mag z < 2 ^ 31 → isRaw z ≡ true
 unfolding isRaw isBetween
@@ -65,14 +74,15 @@ module _ (p : List ℕ) (at n : ℕ) (narrow : n ≤ 32) where
   unsigned-raw z e =
       ap isRaw (field-read pos p at n z e .is) ∙ natural-raw (numberAt p at n) (lt-of-lt-of-le (number-lt p at n) (pow-mono {j = 32} narrow))
 
-field-ranged : (p : List ℕ) (ptc n at : ℕ) → TypeWidth ptc n → Ranged (fieldRaw p ptc n at)
+field-ranged : (p : List ℕ) (ptc pfc n at : ℕ) → TypeWidth ptc n → Ranged (fieldRaw p ptc pfc n at)
 unfolding fieldRaw
-field-ranged p ptc n at w =
-    cond-cases Ranged (isString ptc) (λ _. part-ranged at (n / 8) _)
-    (λ f. number-ranged at _
+field-ranged p ptc pfc n at w =
+    cond-cases Ranged (isString ptc) (λ _. other-ranged at (packetPart at (n / 8)) (part-number at (n / 8)) _)
+    (λ f. cond-cases Ranged (isRealType ptc) (λ _. other-ranged at (realValue pfc) (real-number pfc) _)
+    (λ g. number-ranged at _
     (cond-cases (λ (s : Said). (z : ℤ) → value z ≡ s → isRaw z ≡ true) (eqb ptc 4)
-    (λ _. signed-raw p at n (w .other f))
-    (λ _. unsigned-raw p at n (w .other f))))
+    (λ _. signed-raw p at n (w .integer f g))
+    (λ _. unsigned-raw p at n (w .integer f g)))))
 
 pub raw-range : (p : List ℕ) (plf : PlfRow) (pcf : PcfRow) (k n : ℕ) → widthOf (pcf .ptc) (pcf .pfc) ≡ some n
     → (z : ℤ) → rawOf p plf pcf k ≡ answer (number z) → isRaw z ≡ true
@@ -81,5 +91,5 @@ raw-range p plf pcf k n e =
     cond-cases Ranged (ltb 8192 (length p)) (λ _. refused-ranged 20 0)
     (λ _. rw e
     (cond-cases Ranged (ltb k (plf .nbocc))
-    (λ _. field-ranged p (pcf .ptc) n (startOf plf k) (width-wide (pcf .ptc) (pcf .pfc) n e))
+    (λ _. field-ranged p (pcf .ptc) (pcf .pfc) n (startOf plf k) (width-wide (pcf .ptc) (pcf .pfc) n e))
     (λ _. refused-ranged 27 0)))

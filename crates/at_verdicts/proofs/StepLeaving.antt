@@ -15,13 +15,14 @@ use Rattle.rows.specs.declared.records.PlfRow.{PlfRow}
 use Rattle.rows.specs.declared.records.PcfRow.{PcfRow}
 use Rattle.outcomes.specs.Outcome.{Outcome, answer, refused, andThen}
 use Rattle.database.specs.GoodRows.{ofTables}
+use Rattle.raw_values.specs.Reals.{isRealType}
 use Rattle.raw_values.specs.RawValues.{isString, startOf, rawOf}
 use Rattle.parameters.specs.Located.{byLines}
 use Rattle.readings.specs.Readings.{validity}
 use Rattle.curve_values.specs.Scale.{Scale}
 use Rattle.limit_state.specs.declared.state.LimitState.{LimitState}
 use Rattle.occurrences.specs.Values.{occurrencesFrom, rawsOf, valuesOn, scaleUnder, valuesOf}
-use Rattle.occurrences.proofs.WholeLaws.{no-string}
+use Rattle.occurrences.proofs.WholeLaws.{no-string, no-real}
 use Rattle.at_verdicts.specs.Fields.{isThere}
 use Rattle.at_verdicts.specs.Placed.{plfOf, pcfOf}
 use Rattle.at_verdicts.specs.Taken.{Taken}
@@ -31,7 +32,7 @@ use Rattle.at_verdicts.proofs.ParameterRows.{parameter-width, ocf-param
 use Rattle.at_verdicts.proofs.StepNumbers.{on-numbers}
 use Rattle.at_verdicts.proofs.StepTaken.{valuesIn}
 use Rattle.at_verdicts.proofs.ValueLaws.{integer-is, integer-refused}
-use Rattle.at_verdicts.proofs.FieldCases.{headed-short, raw-out, raw-here}
+use Rattle.at_verdicts.proofs.FieldCases.{headed-short, raw-out, raw-number}
 use Rattle.at_verdicts.proofs.Occurrences.{integerAt, Stopped, Raws, raws-are}
 
 pub refused≢answer : {A : Type 0} (o : Outcome A) (n place : ℕ) (a : A) → o ≡ refused n place → o ≡ answer a → ⊥
@@ -55,6 +56,9 @@ module _ (texts : List (List ℕ)) (p name : List ℕ) (s : LimitState) (t : Tak
   other : isString (pcf .ptc) ≡ false
   other = no-string (pcf .ptc) (ocf-parameter texts (nameOf name) (t .ocf) (t .at .pcf) (t .hasLimits) (t .at .described))
 
+  plain : isRealType (pcf .ptc) ≡ false
+  plain = no-real (pcf .ptc) (ocf-parameter texts (nameOf name) (t .ocf) (t .at .pcf) (t .hasLimits) (t .at .described))
+
   pub taken-short : ltb 8192 (length p) ≡ false
   taken-short = headed-short p (t .head) (t .headed)
 
@@ -67,7 +71,7 @@ module _ (texts : List (List ℕ)) (p name : List ℕ) (s : LimitState) (t : Tak
     pub at-here : isThere p plf pcf k ≡ true → (z : ℤ) × (integerAt (rawOf p plf pcf) k ≡ answer z)
     at-here e =
         let w = parameter-width texts (nameOf name) (t .at .pcf) (t .at .described) in
-        let r = raw-here p plf pcf (w .0) (w .1) taken-short k below other e in
+        let r = raw-number p plf pcf (w .0) (w .1) taken-short k below other plain e in
         (r .0, integer-is (rawOf p plf pcf k) (r .0) (r .1))
 
     -- what answers is there, and what is refused isn't

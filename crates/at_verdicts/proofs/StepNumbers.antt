@@ -24,7 +24,7 @@ use Rattle.curve_values.specs.Scale.{Scale, onScale}
 use Rattle.limit_state.specs.State.{isState, isNewer}
 use Rattle.limit_state.specs.declared.state.LimitState.{LimitState}
 use Rattle.occurrences.specs.Values.{occurrencesFrom, integerIn, rawsOf, isRefusal, unlessRefused, valuesOn, valuesOf}
-use Rattle.occurrences.proofs.WholeLaws.{no-string}
+use Rattle.occurrences.proofs.WholeLaws.{no-string, no-real}
 use Rattle.accepting.specs.Time.{stateIn, inTime}
 use Rattle.stepping.specs.Step.{stepAt}
 use Rattle.at_verdicts.proofs.NumberLaws.{Numbered, one-more, one-then}
@@ -56,7 +56,8 @@ integer-numbers : (p : List ℕ) (plf : PlfRow) (pcf : PcfRow) (n : ℕ) → wid
 unfolding integerIn
 integer-numbers p plf pcf n wide whole k =
     one-more reading (30 ∷ 31 ∷ 35 ∷ 36 ∷ []) (andThen (rawOf p plf pcf k) integerIn)
-    (raw-made integerIn (λ z. refl) p plf pcf k n wide (λ t start bytes. absurd (false≢true (sym (no-string (pcf .ptc) whole) ∙ t))))
+    (raw-made integerIn (λ z. refl) p plf pcf k n wide (λ t start bytes. absurd (false≢true (sym (no-string (pcf .ptc) whole) ∙ t)))
+    (λ t z. absurd (false≢true (sym (no-real (pcf .ptc) whole) ∙ t))))
 
 raws-numbers : (raw : ℕ → Outcome Value) → ((k : ℕ) → Numbered checking (andThen (raw k) integerIn)) → (ks : List ℕ) → Numbered checking (rawsOf raw ks)
 unfolding rawsOf

@@ -15,7 +15,7 @@ use Rattle.fields.specs.Width.{widthOf, bitsWithin}
 use Rattle.rows.specs.declared.records.PlfRow.{PlfRow}
 use Rattle.rows.specs.declared.records.PcfRow.{PcfRow}
 use Rattle.outcomes.specs.Outcome.{answer, refused}
-use Rattle.outcomes.specs.Values.{Value, number, part}
+use Rattle.outcomes.specs.Values.{Value, part}
 use Rattle.raw_values.specs.RawValues.{isString, startOf, valueAt, fieldRaw, rawIn, rawOf}
 use Rattle.at_verdicts.specs.Fields.{isThere}
 use Rattle.at_verdicts.proofs.FieldCases.{there-is, raw-is, raw-out, raw-here}
@@ -42,16 +42,16 @@ string-bytes ptc pfc n t e = go (eqb ptc 7) (eqb ptc 8) refl refl t
     go false true f g t = let q = eqb-true ptc 8 g in bytes-within pfc n (rw q at e)
     go false false f g t = absurd (false≢true t)
 
-module _ (p : List ℕ) (ptc n at : ℕ) (string : isString ptc ≡ true) (bytes : n / 8 * 8 ≡ n) (any : n / 8 ≡ 0 → ⊥) where
-  string-out : inside p at n ≡ false → fieldRaw p ptc n at ≡ refused 28 (at / 8)
+module _ (p : List ℕ) (ptc pfc n at : ℕ) (string : isString ptc ≡ true) (bytes : n / 8 * 8 ≡ n) (any : n / 8 ≡ 0 → ⊥) where
+  string-out : inside p at n ≡ false → fieldRaw p ptc pfc n at ≡ refused 28 (at / 8)
   unfolding fieldRaw stringAt valueAt
   string-out f = rw (string, ne-eqb (n / 8) 0 any, bytes, f)
 
-  string-off : inside p at n ≡ true → eqb (at % 8) 0 ≡ false → fieldRaw p ptc n at ≡ refused 29 (at / 8)
+  string-off : inside p at n ≡ true → eqb (at % 8) 0 ≡ false → fieldRaw p ptc pfc n at ≡ refused 29 (at / 8)
   unfolding fieldRaw stringAt valueAt
   string-off h f = rw (string, ne-eqb (n / 8) 0 any, bytes, h, f)
 
-  string-here : inside p at n ≡ true → eqb (at % 8) 0 ≡ true → fieldRaw p ptc n at ≡ answer (part (at / 8) (n / 8))
+  string-here : inside p at n ≡ true → eqb (at % 8) 0 ≡ true → fieldRaw p ptc pfc n at ≡ answer (part (at / 8) (n / 8))
   unfolding fieldRaw stringAt valueAt
   string-here h t = rw (string, ne-eqb (n / 8) 0 any, bytes, h, t)
 
@@ -70,10 +70,10 @@ module _ (p : List ℕ) (plf : PlfRow) (pcf : PcfRow) (n : ℕ) (wide : widthOf 
   unfolding rawOf rawIn
   raw-over h = rw (short, wide, le-ltb k (plf .nbocc) h)
 
-  number-case : k < plf .nbocc → isString (pcf .ptc) ≡ false → Case p plf pcf k
-  number-case b o =
+  other-case : k < plf .nbocc → isString (pcf .ptc) ≡ false → Case p plf pcf k
+  other-case b o =
       bool-cases (isThere p plf pcf k)
-      (λ t. let w = raw-here p plf pcf n wide short k b o t in read b t (λ s. absurd (false≢true (sym o ∙ s))) (number (w .0)) (w .1))
+      (λ t. let w = raw-here p plf pcf n wide short k b o t in read b t (λ s. absurd (false≢true (sym o ∙ s))) (w .0) (w .1))
       (λ f. out b f (raw-out p plf pcf n wide short k b o f))
 
   string-case : k < plf .nbocc → isString (pcf .ptc) ≡ true → Case p plf pcf k
@@ -84,13 +84,13 @@ module _ (p : List ℕ) (plf : PlfRow) (pcf : PcfRow) (n : ℕ) (wide : widthOf 
       let i = there-is p plf pcf n wide short k in
       bool-cases (isThere p plf pcf k)
       (λ t. bool-cases (eqb (at % 8) 0)
-      (λ e. read b t (λ _. eqb-true (at % 8) 0 e) (part (at / 8) (n / 8)) (is ∙ string-here p (pcf .ptc) n at s (w .0) (w .1) (sym i ∙ t) e))
-      (λ f. offByte b t s (λ z. false≢true (sym f ∙ eq-eqb (at % 8) 0 z)) (is ∙ string-off p (pcf .ptc) n at s (w .0) (w .1) (sym i ∙ t) f)))
-      (λ f. out b f (is ∙ string-out p (pcf .ptc) n at s (w .0) (w .1) (sym i ∙ f)))
+      (λ e. read b t (λ _. eqb-true (at % 8) 0 e) (part (at / 8) (n / 8)) (is ∙ string-here p (pcf .ptc) (pcf .pfc) n at s (w .0) (w .1) (sym i ∙ t) e))
+      (λ f. offByte b t s (λ z. false≢true (sym f ∙ eq-eqb (at % 8) 0 z)) (is ∙ string-off p (pcf .ptc) (pcf .pfc) n at s (w .0) (w .1) (sym i ∙ t) f)))
+      (λ f. out b f (is ∙ string-out p (pcf .ptc) (pcf .pfc) n at s (w .0) (w .1) (sym i ∙ f)))
 
   pub raw-case : Case p plf pcf k
   raw-case =
       bool-cases (ltb k (plf .nbocc))
       (λ t. let b : k < plf .nbocc = ltb-true k (plf .nbocc) t in
-      bool-cases (isString (pcf .ptc)) (string-case b) (number-case b))
+      bool-cases (isString (pcf .ptc)) (string-case b) (other-case b))
       (λ f. let h : plf .nbocc ≤ k = ltb-false k (plf .nbocc) f in over h (raw-over h))

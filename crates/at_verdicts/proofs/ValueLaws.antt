@@ -19,7 +19,7 @@ use Rattle.rows.specs.declared.records.OptionalCurve.{OptionalCurve}
 use Rattle.rows.specs.declared.records.PcfRow.{PcfRow}
 use Rattle.calibration.specs.Curve.{curveAt}
 use Rattle.outcomes.specs.Outcome.{Outcome, answer, refused, andThen}
-use Rattle.outcomes.specs.Values.{Value, number, part}
+use Rattle.outcomes.specs.Values.{Value, number, part, bits}
 use Rattle.database.specs.Rows.{Rows}
 use Rattle.curve_values.specs.Along.{outcomeOf, along}
 use Rattle.curve_values.specs.Scale.{Scale, asRead, onCurve, scaleOf, onScale}
@@ -119,3 +119,4 @@ unfolding andThen integerIn
 integer-of (refused n place) z e = absurd (let w : _≡_ {A = ℕ} 0 1 = cc in omega arith)
 integer-of (answer (number x)) z e = let q : x ≡ z = cc in ap (λ (y : ℤ). answer (number y)) q
 integer-of (answer (part start bytes)) z e = absurd (let w : _≡_ {A = ℕ} 0 1 = cc in omega arith)
+integer-of (answer (bits pattern width)) z e = absurd (let w : _≡_ {A = ℕ} 0 1 = cc in omega arith)

@@ -33,6 +33,7 @@ use Rattle.database.specs.GoodRows.{holdsKey, inGroup, find, among}
 use Rattle.database.specs.Kinds.{isPolynomial}
 use Rattle.five_numbers.specs.Numbers.{orOther, picRowOf, identifiersFrom, numbersOf, fiveNumbers}
 use Rattle.identification.specs.Identification.{chosen, chooseBy, identifyHeaded, identifyBy}
+use Rattle.raw_values.specs.Reals.{isRealType}
 use Rattle.raw_values.specs.RawValues.{isString, startOf, valueAt, fieldRaw, rawIn, rawOf}
 use Rattle.parameters.specs.Located.{byLines, needed, located}
 use Rattle.readings.specs.Readings.{withValidity, readingWith, validWithin, validity, reading}
@@ -77,7 +78,7 @@ unfolding
     pidRow plfRow pcfRow cafRow capRow txpRow column columnsOf columnsFrom placesOf placesFrom nameOf curveNameOf
     naturalOr naturalFrom integerOr integerFrom numberOf meaning spelt after digitOn digitOf
     optionalName isGiven optionalCurve letterOf validOf categoryOf natureOf formatOf offEndsOf
-    rawOf rawIn startOf fieldRaw isString valueAt widthOf integerWidth bitsWithin
+    rawOf rawIn startOf fieldRaw isString isRealType valueAt widthOf integerWidth bitsWithin
     unsignedAt signedAt complementOf fieldAt isWidth inside bitInside numberAt bitAt packet
 examples =
     let placedLeaves : Placed leaves packet (ascii "T1") = placedBy leaves (line 2 "T1;7;12;0;2;16") (line 3 "T1;;;;3;12;;;;N;R") refl refl refl in

@@ -33,6 +33,7 @@ use Rattle.database.specs.GoodRows.{holdsKey, inGroup, find, among}
 use Rattle.database.specs.Kinds.{isPolynomial}
 use Rattle.five_numbers.specs.Numbers.{orOther, picRowOf, identifiersFrom, numbersOf, fiveNumbers}
 use Rattle.identification.specs.Identification.{chosen, chooseBy, identifyHeaded, identifyBy}
+use Rattle.raw_values.specs.Reals.{isRealType}
 use Rattle.raw_values.specs.RawValues.{isString, startOf, valueAt, fieldRaw, rawIn, rawOf}
 use Rattle.readings.specs.Readings.{validWithin, validity}
 use Rattle.curve_points.specs.Curves.{Curve, curveEnds, xvalsOf, yvalsOf, curveBy, curveOf}
@@ -86,7 +87,7 @@ unfolding
     pidRow plfRow pcfRow cafRow capRow ocfRow column columnsOf columnsFrom nameOf curveNameOf
     naturalOr naturalFrom integerOr integerFrom numberOf meaning spelt after digitOn digitOf
     optionalName isGiven optionalCurve letterOf validOf categoryOf natureOf formatOf offEndsOf limitValueOf limitCodingOf
-    rawOf rawIn startOf fieldRaw isString valueAt widthOf integerWidth bitsWithin
+    rawOf rawIn startOf fieldRaw isString isRealType valueAt widthOf integerWidth bitsWithin
     unsignedAt signedAt complementOf fieldAt isWidth inside bitInside numberAt bitAt packet
 examples =
     let placedLeaves : Placed leaves packet (ascii "T1") = placedBy leaves (line 2 "T1;7;12;0;2;16") (line 3 "T1;;;;3;12;;;;N;R") refl refl refl in

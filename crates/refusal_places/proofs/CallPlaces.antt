@@ -13,7 +13,7 @@ use Rattle.verdicts.specs.Key.{parameter}
 use Rattle.verdicts.specs.Entries.{tableCount}
 use Rattle.tables.specs.Sizes.{Sized, sizesOf}
 use Rattle.outcomes.specs.Outcome.{Outcome}
-use Rattle.outcomes.specs.Values.{Value, number, part}
+use Rattle.outcomes.specs.Values.{Value, number, part, bits}
 use Rattle.database.specs.Rows.{Rows}
 use Rattle.database.specs.GoodRows.{ofTables}
 use Rattle.identification.specs.Identification.{identifyBy}
@@ -37,6 +37,7 @@ value-small rows name (number z) =
     small-then (needed (rows .holder (parameter name))) _ (needed-small (rows .holder (parameter name)))
     (λ row _. engineered-small rows (pcfRow (row .bytes)) z)
 value-small rows name (part start bytes) = small-answer _
+value-small rows name (bits pattern width) = small-answer _
 
 module _ (rows : Rows) (ranges : InRanges rows) (p name : List ℕ) (k : ℕ) where
   extract-small : Small (extractBy rows p name k)

@@ -37,6 +37,7 @@ use Rattle.identifiers.specs.Identifiers.{readIdentifier, identifierAt, identif
 use Rattle.five_numbers.specs.Numbers.{typeOf, subtypeOf, orOther, picRowOf, identifiersFrom, fiveNumbers}
 use Rattle.identification.specs.Identification.{chosen, chooseBy, identifyHeaded, identifyBy}
 use Rattle.headers.specs.declared.Head.{Head}
+use Rattle.raw_values.specs.Reals.{isRealType}
 use Rattle.raw_values.specs.RawValues.{startOf, isString, valueAt, fieldRaw, rawIn, rawOf}
 use Rattle.parameters.specs.Located.{Located, byLines, needed, located}
 use Rattle.readings.specs.Readings.{withValidity, readingWith, reading}
@@ -105,10 +106,11 @@ value-small at make (value z) h = small-answer _
 value-small at make (refusedWith n) h = small-place n (omega (arith, div-le-self at 8))
 value-small at make free h = no-place 26
 
-raw-field-small : (p : List ℕ) (ptc n at : ℕ) → at < 2 ^ 32 → Small (fieldRaw p ptc n at)
+raw-field-small : (p : List ℕ) (ptc pfc n at : ℕ) → at < 2 ^ 32 → Small (fieldRaw p ptc pfc n at)
 unfolding fieldRaw
-raw-field-small p ptc n at h =
-    cond-cases (λ (o : Outcome Value). Small o) (isString ptc) (λ _. value-small at _ _ h) (λ _. value-small at _ _ h)
+raw-field-small p ptc pfc n at h =
+    cond-cases (λ (o : Outcome Value). Small o) (isString ptc) (λ _. value-small at _ _ h)
+    (λ _. cond-cases (λ (o : Outcome Value). Small o) (isRealType ptc) (λ _. value-small at _ _ h) (λ _. value-small at _ _ h))
 
 start-small : (row : PlfRow) (k : ℕ) → PlfRanges row → k < row .nbocc → startOf row k < 2 ^ 32
 unfolding startOf
@@ -116,19 +118,19 @@ start-small row k r h =
     let b : k ≤ 9998 = omega (arith, r .nbocc) in
     omega (arith, r .offby, r .offbi, mul-le-mul {n₁ = k} {m₁ = row .lgocc .0} {n₂ = 9998} {m₂ = 32767} b (r .lgocc))
 
-raw-in-small : (p : List ℕ) (plf : PlfRow) (ptc k : ℕ) (width : Option ℕ) → PlfRanges plf → Small (rawIn p plf ptc k width)
+raw-in-small : (p : List ℕ) (plf : PlfRow) (ptc pfc k : ℕ) (width : Option ℕ) → PlfRanges plf → Small (rawIn p plf ptc pfc k width)
 unfolding rawIn
-raw-in-small p plf ptc k none r = no-place 26
-raw-in-small p plf ptc k (some n) r =
+raw-in-small p plf ptc pfc k none r = no-place 26
+raw-in-small p plf ptc pfc k (some n) r =
     cond-cases (λ (o : Outcome Value). Small o) (ltb k (plf .nbocc))
-    (λ t. raw-field-small p ptc n (startOf plf k) (start-small plf k r (ltb-true _ _ t)))
+    (λ t. raw-field-small p ptc pfc n (startOf plf k) (start-small plf k r (ltb-true _ _ t)))
     (λ _. no-place 27)
 
 pub raw-small : (p : List ℕ) (plf : PlfRow) (pcf : PcfRow) (k : ℕ) → PlfRanges plf → Small (rawOf p plf pcf k)
 unfolding rawOf
 raw-small p plf pcf k r =
     cond-cases (λ (o : Outcome Value). Small o) (ltb 8192 (length p)) (λ _. no-place 20)
-    (λ _. raw-in-small p plf (pcf .ptc) k (widthOf (pcf .ptc) (pcf .pfc)) r)
+    (λ _. raw-in-small p plf (pcf .ptc) (pcf .pfc) k (widthOf (pcf .ptc) (pcf .pfc)) r)
 
 pub needed-small : (o : Option Row) → Small (needed o)
 unfolding needed

@@ -13,7 +13,7 @@ use Rattle.lines.specs.declared.names.Name.{Name}
 use Rattle.rows.specs.declared.records.OcfRow.{OcfRow}
 use Rattle.verdicts.specs.Key.{limits}
 use Rattle.outcomes.specs.Outcome.{Outcome}
-use Rattle.outcomes.specs.Values.{Value, number, part}
+use Rattle.outcomes.specs.Values.{Value, number, part, bits}
 use Rattle.database.specs.Rows.{Row, Rows}
 use Rattle.headers.specs.Header.{headOf}
 use Rattle.identification.specs.Identification.{identifyHeaded}
@@ -37,6 +37,7 @@ integer-small : (v : Value) → Small (integerIn v)
 unfolding integerIn
 integer-small (number z) = small-answer z
 integer-small (part start bytes) = no-place 26
+integer-small (bits pattern width) = no-place 26
 
 raws-small : (raw : ℕ → Outcome Value) → ((k : ℕ) → Small (raw k)) → (ks : List ℕ) → Small (rawsOf raw ks)
 unfolding rawsOf
