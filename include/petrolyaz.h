@@ -31,7 +31,7 @@ extern "C" {
 
 /* Raised with each change of a signature or an answer: a library whose petrolyaz_version() is PETROLYAZ_VERSION is
  * what this header declares. */
-#define PETROLYAZ_VERSION 4
+#define PETROLYAZ_VERSION 5
 
 uint32_t petrolyaz_version(void);
 
@@ -105,9 +105,11 @@ enum petrolyaz_refusal {
 /* What an answer of petrolyaz_extract and petrolyaz_engineer is; its first place says it. */
 enum petrolyaz_kind {
     PETROLYAZ_INTEGER = 0,
-    PETROLYAZ_STRING = 1, /* a part of the packet */
-    PETROLYAZ_TEXT = 2,   /* a part of the table txp; of petrolyaz_engineer alone */
-    PETROLYAZ_DOUBLE = 3  /* the value of a polynomial; of petrolyaz_engineer alone */
+    PETROLYAZ_STRING = 1,   /* a part of the packet */
+    PETROLYAZ_RAW_REAL = 2, /* the bits of a real number; of petrolyaz_extract alone */
+    PETROLYAZ_TEXT = 2,     /* a part of the table txp; of petrolyaz_engineer alone */
+    PETROLYAZ_DOUBLE = 3,   /* the value of a polynomial; of petrolyaz_engineer alone */
+    PETROLYAZ_REAL = 4      /* the bits of a real number; of petrolyaz_engineer alone */
 };
 
 /* What is announced of a parameter. */
@@ -167,7 +169,10 @@ uint64_t petrolyaz_search(PETROLYAZ_TABLES, PETROLYAZ_PACKET, const uint16_t *in
 
 /* The raw value of a parameter in a packet, occurrences from 0.
  * answer: 0, the value, valid (1) or not (0);
- *      or 1, the first byte of the string in the packet, from 0, its length in bytes, valid (1) or not (0). */
+ *      or 1, the first byte of the string in the packet, from 0, its length in bytes, valid (1) or not (0);
+ *      or 2, the bits of a real number (PTC 5), how many they are, 32 or 64, valid (1) or not (0). Fields of PFC 1 and 2
+ *         are answered bit for bit, 32 and 64, a NaN too; those of PFC 3 and 4 as the 64 bits of the double that the
+ *         MIL-STD-1750A number is exactly. petrolyaz_single and petrolyaz_real hand back the number. */
 uint64_t petrolyaz_extract(PETROLYAZ_TABLES, PETROLYAZ_PACKET, PETROLYAZ_NAME, size_t occurrence, PETROLYAZ_ANSWER);
 
 /* Its engineering value, valid or not.
@@ -176,7 +181,8 @@ uint64_t petrolyaz_extract(PETROLYAZ_TABLES, PETROLYAZ_PACKET, PETROLYAZ_NAME, s
  *      or 2, the number of the txp row, from 1, the first byte of its text in txp, from 0, its length in bytes;
  *      or 3, the 64 bits of a double (IEEE 754 binary64), which petrolyaz_double hands back: the value of a polynomial,
  *         worked out from POL5 down, multiply then add, each rounded once to nearest even. The processor's rounding is
- *         as a program starts with it, to nearest: one that changes it (fesetround) sets it back before it asks. */
+ *         as a program starts with it, to nearest: one that changes it (fesetround) sets it back before it asks;
+ *      or 4, the bits of a real number and how many they are, as petrolyaz_extract answers them. */
 uint64_t petrolyaz_engineer(PETROLYAZ_TABLES, PETROLYAZ_PACKET, PETROLYAZ_NAME, size_t occurrence, PETROLYAZ_ANSWER);
 
 /* The limit state of a parameter after a packet, by its state before. A state is five numbers: fresh (1) or not (0),
@@ -197,6 +203,21 @@ static inline double petrolyaz_double(int64_t bits)
     double value;
     memcpy(&value, &bits, sizeof value);
     return value;
+}
+
+/* The float of a real of 32 bits, which stand in answer[1] where answer[0] is PETROLYAZ_RAW_REAL or PETROLYAZ_REAL. */
+static inline float petrolyaz_single(int64_t bits)
+{
+    uint32_t low = (uint32_t)bits;
+    float value;
+    memcpy(&value, &low, sizeof value);
+    return value;
+}
+
+/* The double of a real of either width, its bits and width being answer[1] and answer[2]; 32 bits are widened. */
+static inline double petrolyaz_real(int64_t bits, int64_t width)
+{
+    return width == 32 ? (double)petrolyaz_single(bits) : petrolyaz_double(bits);
 }
 
 /* The reason and the column of a cell; both are 0 for a good row. */

@@ -38,14 +38,16 @@ static const struct table asked[11] = {
     TEXT("3\t25\t10\t\t\t7\t\t\t\t\t\t\t\t\t\t\n"),
     TEXT(""),
     TEXT("WORD\t7\t12\t0\t\t\t\t\nBYTE\t7\t10\t0\t\t\t\t\nPAST\t7\t13\t0\t\t\t\t\nPART\t7\t12\t0\t\t\t\t\nCURVE\t7\t7\t4\t\t\t\t\nMODE\t7\t9\t0\t\t\t\t\n"
-         "POLY\t7\t10\t0\t\t\t\t\n"),
+         "POLY\t7\t10\t0\t\t\t\t\nSINGLE\t7\t9\t1\t\t\t\t\nMIL\t7\t10\t0\t\t\t\t\n"),
     TEXT("WORD\t\t\t\t3\t12\t\t\t\tN\tR\t\t\t\t\t\t\t\t\t\t\t\t\n"
          "BYTE\t\t\t\t4\t4\t\t\t\tN\tR\t\t\t\t\t\t\t\t\t\t\t\t\n"
          "PAST\t\t\t\t3\t12\t\t\t\tN\tR\t\t\t\t\t\t\t\t\t\t\t\t\n"
          "PART\t\t\t\t8\t2\t\t\t\tT\tR\t\t\t\t\t\t\t\t\t\t\t\t\n"
          "CURVE\t\t\t\t3\t0\t\t\t\tN\tR\tC\t\t\t\t\t\t\t\t\t\t\t\n"
          "MODE\t\t\t\t3\t4\t\t\t\tS\tR\tM\t\t\t\t\t\t\t\t\t\t\t\n"
-         "POLY\t\t\t\t4\t4\t\t\t\tN\tR\tQ\t\t\t\t\t\t\t\t\t\t\t\n"),
+         "POLY\t\t\t\t4\t4\t\t\t\tN\tR\tQ\t\t\t\t\t\t\t\t\t\t\t\n"
+         "SINGLE\t\t\t\t5\t1\t\t\t\tN\tR\t\t\t\t\t\t\t\t\t\t\t\t\n"
+         "MIL\t\t\t\t5\t3\t\t\t\tN\tR\t\t\t\t\t\t\t\t\t\t\t\t\n"),
     TEXT("C\t\tI\tI\t\t\t3\tP\n"),
     TEXT("C\t0\t0\nC\t10\t-5\nC\t20\t100\n"),
     TEXT("M\t\tU\t1\n"),
@@ -133,6 +135,10 @@ int main(void)
     result = ENGINEER("POLY");
     expect_double("0.25 - 1.5 x + 0.1 x x at -1", petrolyaz_double(answer[1]), 1.85);
     expect("its bits", result, 0, 0, VALUES(PETROLYAZ_DOUBLE, 0x3FFD99999999999A));
+    expect("a single at byte 9, bit 1", EXTRACT("SINGLE"), 0, 0, VALUES(PETROLYAZ_RAW_REAL, 0x01FF0A24, 32, 1));
+    result = ENGINEER("MIL");
+    expect_double("-31,470 * 2 ^ (52 - 23)", petrolyaz_real(answer[1], answer[2]), -31470.0 * 536870912.0);
+    expect("its bits", result, 0, 0, VALUES(PETROLYAZ_REAL, -0x3D51448000000000, 64));
     expect("no such name", ENGINEER("NONE"), 26, 0, NOTHING);
     expect("count 16,383, a first value above 4,000", STEP(last, "WORD", 1, 0, 0, 0, 0), 0, 0, VALUES(0, 10, 16383, 1, 0));
     expect("next count 0: newer, and soft", STEP(packet, "WORD", 0, 10, 16383, 1, 0), 0, 0, VALUES(0, 10, 0, 2, 1));

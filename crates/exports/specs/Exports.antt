@@ -12,7 +12,7 @@ use Rattle.index_telling.specs.Values.{ofEntries}
 
 -- raised with each change of a signature or of an answer
 abbrev pub interfaceVersion : ℕ
-interfaceVersion = 4
+interfaceVersion = 5
 
 -- the tables in 01's order; 02, P1: "eleven tables, mcf last"
 abbrev pub inOrder : (pid pic plf pcf caf cap txf txp ocf ocp mcf : List ℕ) → List (List ℕ)

@@ -25,7 +25,7 @@ ghost use Rattle.telling.specs.Answers.{plainOf, Told};
 ghost use Rattle.exports.specs.Exports.{ImportTold, IndexTold, inOrder, interfaceVersion};
 
 // The version of these functions, which PETROLYAZ_VERSION of the header is too.
-const VERSION: u32 = 4;
+const VERSION: u32 = 5;
 
 #[no_mangle]
 pub extern "C" fn petrolyaz_version() -> u32

@@ -93,6 +93,11 @@ fn tell_read(value: Value, valid: bool) -> Telling
             let length = as_word(bytes as u64);
             tell([1, start, length, as_flag(valid), 0, 0, 0, 0], 4)
         }
+        Value::Bits(pattern, width) => {
+            let bits = as_word(pattern);
+            let count = as_word(width as u64);
+            tell([2, bits, count, as_flag(valid), 0, 0, 0, 0], 4)
+        }
     }
 }
 
@@ -106,7 +111,7 @@ pub fn tell_extracted(reading: Reading) -> Telling
 }
 
 fn tell_value(value: Value) -> Telling
-    ensures { λ r. ⌜ toldPlainly r ≡ withValues (ofValue (valueOf value)) ⌝ }
+    ensures { λ r. ⌜ toldPlainly r ≡ withValues (ofValue 4 (valueOf value)) ⌝ }
 {
     match value {
         Value::Number(v) => tell([0, v, 0, 0, 0, 0, 0, 0], 2),
@@ -114,6 +119,11 @@ fn tell_value(value: Value) -> Telling
             let start = as_word(from.0 as u64);
             let length = as_word(bytes as u64);
             tell([1, start, length, 0, 0, 0, 0, 0], 3)
+        }
+        Value::Bits(pattern, width) => {
+            let bits = as_word(pattern);
+            let count = as_word(width as u64);
+            tell([4, bits, count, 0, 0, 0, 0, 0], 3)
         }
     }
 }
