@@ -6,7 +6,10 @@ use native.Mathlib.Omega.{arith}
 use lib.ListN.{length, take, drop, set}
 use lib.Seq.{drop-length, drop-at, set-split, length-take-le}
 use borrow.Author.Tests.{lt-ltb, le-ltb}
-use Rattle.answers.specs.Hexadecimal.{hexDigit, hexadecimal}
+use mathlib.Core.Bool.{false}
+use Rattle.laws.specs.Text.{ascii}
+use Rattle.answers.specs.Answers.{saying, one}
+use Rattle.answers.specs.Hexadecimal.{hexDigit, hexadecimal, bitsAnswer}
 
 -- before the first of them
 pub hex-start : (n : ℕ) (out : List ℕ) → hexadecimal (length out) n ++ drop (length out) out ≡ hexadecimal (length out) n
@@ -39,3 +42,13 @@ digit-low d h = rw (lt-ltb d 10 h)
 pub digit-high : (d : ℕ) → 10 ≤ d → 55 + d ≡ hexDigit d
 unfolding hexDigit
 digit-high d h = rw (le-ltb d 10 h)
+
+-- sixteen of them, before other words
+pub digits-long : (xs words : List ℕ) (n : ℕ) → xs ≡ hexadecimal 16 n → length (xs ++ words) ≡ 16 + length words
+unfolding hexadecimal
+digits-long xs words n e = rw e (omega arith)
+
+pub bits-said : (words xs values : List ℕ) (pattern width : ℕ) → xs ≡ hexadecimal 16 pattern → values ≡ one width
+    → saying (ascii "# bits " ++ (xs ++ words)) false values ≡ bitsAnswer words pattern width
+unfolding bitsAnswer
+bits-said words xs values pattern width e v = rw (e, v)

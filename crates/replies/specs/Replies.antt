@@ -9,14 +9,14 @@ use lib.Signed.{ltZ}
 use lib.Ieee.{binary64, toBits, ofBits}
 use Rattle.laws.specs.Text.{ascii}
 use Rattle.outcomes.specs.Outcome.{Outcome, refused, answer}
-use Rattle.outcomes.specs.Values.{Value, number, part}
+use Rattle.outcomes.specs.Values.{Value, number, part, bits}
 use Rattle.verdicts.specs.Answer as import
 use Rattle.identification.specs.Identification.{Identity}
 use Rattle.readings.specs.Readings.{Reading}
 use Rattle.engineering.specs.Engineering.{Engineered, value, double, text}
 use Rattle.limit_state.specs.declared.state.LimitState.{LimitState}
 use Rattle.answers.specs.declared.answer.Answer.{Answer}
-use Rattle.answers.specs.Hexadecimal.{hexDigit, hexadecimal, doubleAnswer}
+use Rattle.answers.specs.Hexadecimal.{hexDigit, hexadecimal, doubleAnswer, bitsAnswer, validityWords}
 use Rattle.answers.specs.Answers.{composed, saying, refusing, wordsAnswer, integerAnswer, one, two}
 
 -- the counts of rows and of good rows, and each row's cell with its position
@@ -50,6 +50,7 @@ unfoldable pub rawAnswer : Value → (valid : Bool) → Answer
 rawAnswer (number z) valid = saying (cond valid (ascii "#, valid") (ascii "#, invalid")) (ltZ z (pos 0)) (one (natAbs z))
 rawAnswer (part start bytes) valid =
     saying (cond valid (ascii "string from #, # bytes, valid") (ascii "string from #, # bytes, invalid")) false (two start bytes)
+rawAnswer (bits pattern width) valid = bitsAnswer (validityWords valid) pattern width
 
 unfoldable pub readingAnswer : Reading → Answer
 readingAnswer r = rawAnswer (r .value) (r .valid)
@@ -57,6 +58,7 @@ readingAnswer r = rawAnswer (r .value) (r .valid)
 unfoldable pub valueAnswer : Value → Answer
 valueAnswer (number z) = integerAnswer z
 valueAnswer (part start bytes) = saying (ascii "string from #, # bytes") false (two start bytes)
+valueAnswer (bits pattern width) = bitsAnswer [] pattern width
 
 -- a double is told by its bits; a text is followed by its bytes in txp
 unfoldable pub engineeredAnswer : Engineered → Answer
@@ -74,8 +76,9 @@ pub record Examples : Type 0 where
   pub position : cellAnswer 3330 2 ≡ saying (ascii "#:#@#") false (13 ∷ 2 ∷ 2 ∷ 0 ∷ 0 ∷ 0 ∷ 0 ∷ [])
   pub reading : replyOf readingAnswer (answer (record { value = number (negsuc 7); valid = true })) ≡ saying (ascii "#, valid") true (one 8)
   pub half : replyOf engineeredAnswer (answer (double (ofBits binary64 0x3FE0000000000000))) ≡ wordsAnswer (ascii "double 3FE0000000000000")
+  pub single : replyOf engineeredAnswer (answer (value (bits 0x7FC00000 32))) ≡ saying (ascii "# bits 000000007FC00000") false (one 32)
   pub refusal : replyOf engineeredAnswer (refused 30 0) ≡ refusing 30 0
 
 pub examples : Examples
-unfolding cellAnswer replyOf readingAnswer rawAnswer engineeredAnswer doubleAnswer hexadecimal hexDigit toBits ofBits
-examples = record { cell = refl; position = refl; reading = refl; half = refl; refusal = refl }
+unfolding cellAnswer replyOf readingAnswer rawAnswer engineeredAnswer valueAnswer doubleAnswer bitsAnswer hexadecimal hexDigit toBits ofBits
+examples = record { cell = refl; position = refl; reading = refl; half = refl; single = refl; refusal = refl }

@@ -8,6 +8,8 @@ use answers::answer::refused;
 use answers::answer::say_integer;
 use answers::answer::says;
 use answers::answer::two;
+use answers::hexadecimal::say_bits;
+use answers::hexadecimal::say_bits_read;
 use answers::hexadecimal::say_double;
 use curves::ints::less;
 use curves::ints::size;
@@ -83,6 +85,7 @@ fn say_raw(value: Value, valid: bool) -> Answer
     match value {
         Value::Number(v) => say_raw_number(v, valid),
         Value::Part(from, bytes) => say_raw_part(from.0 as u64, bytes as u64, valid),
+        Value::Bits(pattern, width) => say_bits_read(pattern, width, valid),
     }
 }
 
@@ -105,6 +108,7 @@ fn say_value(value: Value) -> Answer
             false,
             two(from.0 as u64, bytes as u64),
         ),
+        Value::Bits(pattern, width) => say_bits(pattern, width),
     }
 }
 

@@ -28,6 +28,12 @@ two-requires c κs = search needs
 says-requires : tie.Need-says-requires
 says-requires c κs = search needs
 
+enum-known-value-3 : tie.Need-enum-known-value-3
+enum-known-value-3 c = search needs
+
+say-bits-requires : tie.Need-say-bits-requires
+say-bits-requires c κs = search needs
+
 returns : tie.Need-returns
 unfolding valueAnswer valueOf
 returns c = let v = c .before .before .value .given .0 .0 in
@@ -37,6 +43,10 @@ returns c = let v = c .before .before .value .given .0 .0 in
 returns-2 : tie.Need-returns-2
 unfolding valueAnswer valueOf
 returns-2 c = simp (c .before .before .before .before .value2 .given .1, c .says .ensures, c .before .two .ensures)
+
+returns-3 : tie.Need-returns-3
+unfolding valueAnswer valueOf
+returns-3 c = rw (c .before .before .value3 .given .1) (c .say-bits .ensures)
 
 pub say-value-spec : {M : Type 1} → statement M
 say-value-spec =
@@ -48,5 +58,8 @@ say-value-spec =
     slice-aggregate-says
     two-requires
     says-requires
+    enum-known-value-3
+    say-bits-requires
     returns
-    returns-2)
+    returns-2
+    returns-3)
