@@ -70,6 +70,7 @@ impl Values for Reading {
         match self.raw {
             Raw::Integer(value) => vec![0, value, i64::from(self.valid)],
             Raw::Text { start, length } => vec![1, start, length, i64::from(self.valid)],
+            Raw::Real { bits, width } => vec![2, bits as i64, width, i64::from(self.valid)],
         }
     }
 }
@@ -80,6 +81,7 @@ impl Values for Value {
             Value::Integer(value) => vec![0, value],
             Value::Double(value) => vec![3, value.to_bits() as i64],
             Value::String { start, length } => vec![1, start, length],
+            Value::Real { bits, width } => vec![4, bits as i64, width],
             Value::Text { row, start, length } => vec![2, row as i64, start as i64, length as i64],
         }
     }

@@ -11,6 +11,7 @@ pub mod numbers;
 pub mod packets;
 pub mod polynomials;
 pub mod reach;
+pub mod reals;
 pub mod refusals;
 pub mod rows;
 pub mod schemas;

@@ -34,7 +34,7 @@ const PACKETS: u64 = 3;
 const STACK: usize = 4 << 20;
 
 /// The kinds of answers that must occur.
-const ANSWERS: [(Question, &str); 20] = [
+const ANSWERS: [(Question, &str); 24] = [
     (Question::Import, FEW_CELLS),
     (Question::Import, FEW_POSITIONS),
     (Question::Import, FEW_OF_BOTH),
@@ -46,10 +46,14 @@ const ANSWERS: [(Question, &str); 20] = [
     (Question::Extract, "integer, invalid"),
     (Question::Extract, "string, valid"),
     (Question::Extract, "string, invalid"),
+    (Question::Extract, "real, valid"),
+    (Question::Extract, "real, invalid"),
     (Question::Engineer, "integer"),
     (Question::Engineer, "double"),
     (Question::Engineer, "string"),
     (Question::Engineer, "text"),
+    (Question::Engineer, "real of 32 bits"),
+    (Question::Engineer, "real of 64 bits"),
     (Question::LimitStep, "within"),
     (Question::LimitStep, "soft"),
     (Question::LimitStep, "hard"),
@@ -490,6 +494,8 @@ fn kind_of_reading(reading: &Reading) -> &'static str {
         (Raw::Integer(_), false) => "integer, invalid",
         (Raw::Text { .. }, true) => "string, valid",
         (Raw::Text { .. }, false) => "string, invalid",
+        (Raw::Real { .. }, true) => "real, valid",
+        (Raw::Real { .. }, false) => "real, invalid",
     }
 }
 
@@ -499,6 +505,8 @@ fn kind_of_value(value: &Value) -> &'static str {
         Value::Double(_) => "double",
         Value::String { .. } => "string",
         Value::Text { .. } => "text",
+        Value::Real { width: 32, .. } => "real of 32 bits",
+        Value::Real { .. } => "real of 64 bits",
     }
 }
 

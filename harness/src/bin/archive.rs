@@ -162,15 +162,17 @@ fn weight_of_reading(reading: &Reading) -> u64 {
         (false, _) => 0,
         (true, Raw::Integer(value)) => value.unsigned_abs(),
         (true, Raw::Text { start, .. }) => start as u64,
+        (true, Raw::Real { bits, .. }) => bits,
     }
 }
 
-/// A double weighs its bits.
+/// A double weighs its bits, and so does a real.
 fn weight_of_value(value: &Value) -> u64 {
     match *value {
         Value::Integer(value) => value.unsigned_abs(),
         Value::Double(value) => value.to_bits(),
         Value::String { start, .. } => start as u64,
+        Value::Real { bits, .. } => bits,
         Value::Text { start, .. } => start as u64,
     }
 }

@@ -47,6 +47,7 @@ struct Packet {
 struct Parameter {
     name: Vec<u8>,
     ptc: i64,
+    pfc: i64,
     width: i64,
     natur: u8,
     categ: u8,
@@ -162,7 +163,7 @@ fn optional(random: &mut Random, letters: &[u8]) -> Vec<u8> {
 
 /// A type and its PFC.
 fn field_type(random: &mut Random) -> (i64, i64) {
-    match random.below(20) {
+    match random.below(22) {
         0..=1 => (1, 0),
         2..=4 => (2, random.between(1, 32)),
         5..=10 => (3, random.between(0, 14)),
@@ -170,6 +171,7 @@ fn field_type(random: &mut Random) -> (i64, i64) {
         16 => (6, random.between(1, 32)),
         17 => (7, random.between(1, 4)),
         18 => (7, random.between(1, 255)),
+        19..=20 => (5, random.between(1, 4)),
         _ => (8, random.between(1, 6)),
     }
 }
@@ -194,13 +196,7 @@ fn parameter(
     };
     let natur = if random.chance(90) { b'R' } else { *random.pick(b"DPHSCCCC") };
     let width = field_width(ptc, pfc).expect("a type of the table has a width");
-    Parameter { name: names.fresh(random, 8), ptc, width, natur, categ, curtx, by_polynomial }
-}
-
-/// The PFC of a field of this width.
-fn pfc_of(parameter: &Parameter) -> i64 {
-    let of_width = |pfc: &i64| field_width(parameter.ptc, *pfc) == Some(parameter.width);
-    (0..=255).find(of_width).expect("the width came from a PFC")
+    Parameter { name: names.fresh(random, 8), ptc, pfc, width, natur, categ, curtx, by_polynomial }
 }
 
 /// VALPAR is mostly a value that a narrow field can have.
@@ -225,7 +221,7 @@ fn pcf(random: &mut Random, rows: &mut RowSet, parameter: &Parameter, earlier: &
     let columns = [
         (1, parameter.name.clone()),
         (5, number(random, parameter.ptc, 2)),
-        (6, number(random, pfc_of(parameter), 5)),
+        (6, number(random, parameter.pfc, 5)),
         (8, valid),
         (10, vec![parameter.categ]),
         (11, vec![parameter.natur]),

@@ -101,9 +101,33 @@ fn put_interesting(random: &mut Random, judged: &Judged, packet: &mut [u8], plac
     let polynomials = judged.mcf.well_formed().filter(|row| row.ident == curve).flat_map(|_| ends);
     let values: Vec<i64> = xs.chain(texts).chain(limits).chain(polynomials).chain([0]).collect();
     for occurrence in 0..place.nbocc.min(8) {
-        let value = random.pick(&values) + random.between(-3, 3);
+        let value = match kind.is_real() {
+            true => real_field(random, kind.pfc),
+            false => random.pick(&values) + random.between(-3, 3),
+        };
         let start = 8 * place.offby + place.offbi + occurrence * place.lgocc;
         put(packet, start, kind.width, value);
+    }
+}
+
+/// The bits of a real: NaNs and infinities of IEEE 754; mantissas of one bit, of all bits and 0 of MIL-STD-1750A.
+fn real_field(random: &mut Random, pfc: i64) -> i64 {
+    let byte = i64::from(random.byte());
+    let exponent = *random.pick(&[0, 0x7F, 0x80, 0xFF, byte]);
+    let mantissa = |random: &mut Random, width: i64| match random.below(4) {
+        0 => 1 << random.between(0, width - 1),
+        1 => -(1 << random.between(0, width - 1)),
+        2 => 0,
+        _ => random.between(-(1 << (width - 1)), (1 << (width - 1)) - 1),
+    };
+    match pfc {
+        1 => *random.pick(&[0x7F80_0000, 0x7F80_0001, 0xFFC0_0000, 0x8000_0000, 0x3F00_0000]),
+        2 => (*random.pick(&[0x7FF, 0xFFF, 0x800, 0x3FE]) << 52) + random.between(0, 1),
+        3 => mantissa(random, 24) << 8 | exponent,
+        _ => {
+            let mantissa = mantissa(random, 40);
+            (mantissa >> 16) << 24 | exponent << 16 | mantissa & 0xFFFF
+        }
     }
 }
 

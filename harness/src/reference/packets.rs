@@ -1,6 +1,7 @@
 //! Headers, identification, extraction and validity.
 
 use super::judging::Judged;
+use super::reals::real;
 use super::refusals::{refuse, refuse_at, Refusal};
 use super::rows::{Identification, Pcf, Plf};
 
@@ -104,11 +105,12 @@ pub fn string(packet: &[u8], start: usize, length: usize) -> Result<Raw, Refusal
     Ok(Raw::Text { start: byte as i64, length: length as i64 })
 }
 
-/// A raw value: a number, or the part of the packet that a string is, in bytes.
+/// A raw value: a number, the part of the packet that a string is, in bytes, or the bits of a real and how many.
 #[derive(Clone, Copy, Debug, PartialEq)]
 pub enum Raw {
     Integer(i64),
     Text { start: i64, length: i64 },
+    Real { bits: u64, width: i64 },
 }
 
 #[derive(Debug, PartialEq)]
@@ -142,10 +144,24 @@ impl Parameter<'_> {
         if self.kind.is_string() {
             return string(packet, self.start(occurrence), self.kind.width as usize / 8);
         }
+        if self.kind.is_real() {
+            return self.real(packet, occurrence);
+        }
         self.integer(packet, occurrence).map(Raw::Integer)
     }
 
-    /// The raw number of a parameter that isn't a string.
+    fn real(&self, packet: &[u8], occurrence: i64) -> Result<Raw, Refusal> {
+        let start = self.start(occurrence);
+        match unsigned(packet, start, self.kind.width as usize) {
+            Some(field) => {
+                let (bits, width) = real(self.kind.pfc, field);
+                Ok(Raw::Real { bits, width })
+            }
+            None => refuse_at(28, (start / 8) as u64),
+        }
+    }
+
+    /// The raw number of a parameter that is neither a string nor a real.
     pub fn integer(&self, packet: &[u8], occurrence: i64) -> Result<i64, Refusal> {
         let (start, width) = (self.start(occurrence), self.kind.width as usize);
         let value = match self.kind.ptc {

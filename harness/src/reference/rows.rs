@@ -146,6 +146,7 @@ impl<'a> Record<'a> for Plf<'a> {
 pub struct Pcf<'a> {
     pub name: &'a [u8],
     pub ptc: i64,
+    pub pfc: i64,
     /// The field's width in bits.
     pub width: i64,
     pub valid: Option<&'a [u8]>,
@@ -165,6 +166,10 @@ impl Pcf<'_> {
         matches!(self.natur, b'R' | b'C')
     }
 
+    pub fn is_real(&self) -> bool {
+        self.ptc == 5
+    }
+
     pub fn is_string(&self) -> bool {
         self.ptc == 7 || self.ptc == 8
     }
@@ -178,6 +183,7 @@ impl<'a> Record<'a> for Pcf<'a> {
         let row = Pcf {
             name: columns.text(1),
             ptc: columns.number(5),
+            pfc: columns.number(6),
             width: field_width(columns.number(5), columns.number(6)).ok_or(6u16)?,
             valid: columns.given(8),
             categ: columns.letter(10),
@@ -202,6 +208,10 @@ pub fn field_width(ptc: i64, pfc: i64) -> Option<i64> {
         (3 | 4, 0..=12) => Some(pfc + 4),
         (3 | 4, 13) => Some(24),
         (3 | 4, 14) => Some(32),
+        // 02, P6: "PFC 1 and 2 are IEEE 754 single and double", "PFC 3 and 4 are MIL-STD-1750A in 32 and 48 bits".
+        (5, 1 | 3) => Some(32),
+        (5, 2) => Some(64),
+        (5, 4) => Some(48),
         (7 | 8, 1..=255) => Some(8 * pfc),
         _ => None,
     }

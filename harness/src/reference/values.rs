@@ -14,6 +14,11 @@ pub enum Value {
         start: i64,
         length: i64,
     },
+    /// The bits of a real, and how many, as they were read.
+    Real {
+        bits: u64,
+        width: i64,
+    },
     /// ALTXT of a txp row, from 1, as its part of the table.
     Text {
         row: usize,
@@ -26,6 +31,7 @@ pub fn engineer(judged: &Judged, packet: &[u8], name: &[u8], occurrence: usize) 
     let (reading, kind) = read(judged, packet, name, occurrence)?;
     match (reading.raw, kind.curtx) {
         (Raw::Text { start, length }, _) => Ok(Value::String { start, length }),
+        (Raw::Real { bits, width }, _) => Ok(Value::Real { bits, width }),
         (Raw::Integer(raw), None) => Ok(Value::Integer(raw)),
         (Raw::Integer(raw), Some(texts)) if kind.categ == b'S' => text_at(judged, texts, raw),
         (Raw::Integer(raw), Some(curve)) => match judged.mcf.good(&curve) {

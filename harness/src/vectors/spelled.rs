@@ -86,6 +86,7 @@ pub fn extract(answer: &Answer) -> String {
     let validity = |valid| if valid == 1 { "valid" } else { "invalid" };
     unless_refused(answer, || match answer.places {
         [0, value, valid, ..] => format!("{value}, {}", validity(valid)),
+        [2, bits, width, valid, ..] => format!("{}, {}", real(bits, width), validity(valid)),
         [_, start, length, valid, ..] => format!("{}, {}", part(start, length), validity(valid)),
     })
 }
@@ -94,12 +95,17 @@ fn part(start: i64, length: i64) -> String {
     format!("string from {start}, {length} bytes")
 }
 
+fn real(bits: i64, width: i64) -> String {
+    format!("{width} bits {bits:016X}")
+}
+
 /// A text is spelled with its bytes, a part of txp, and a double by its bits.
 pub fn engineer(answer: &Answer, txp: &[u8]) -> String {
     unless_refused(answer, || match answer.places {
         [0, value, ..] => value.to_string(),
         [1, start, length, ..] => part(start, length),
         [3, bits, ..] => format!("double {bits:016X}"),
+        [4, bits, width, ..] => real(bits, width),
         [_, row, start, length, ..] => {
             let text = txp.get(start as usize..(start + length) as usize).unwrap_or_default();
             let text = String::from_utf8_lossy(text);
@@ -152,7 +158,7 @@ pub fn string(packet: &[u8], bit: u64, bytes: u64) -> String {
     }
     match packets::string(packet, bit as usize, bytes as usize) {
         Ok(Raw::Text { start, length }) => part(start, length),
-        Ok(Raw::Integer(value)) => value.to_string(),
+        Ok(_) => unreachable!("a string is a part"),
         Err(refusal) if refusal.number == 28 => "outside".to_string(),
         Err(_) => "off a byte".to_string(),
     }
