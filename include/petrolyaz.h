@@ -15,8 +15,8 @@
  * (but for 25 of petrolyaz_search) nor to `cells`, `positions` and `rows`. petrolyaz_number and petrolyaz_place take a
  * result apart. The place is, for 1 and 2, the first such table, 1 to 11; for 24, 28 and 29 the byte of the packet,
  * from 0, in which the first such field starts; else 0.
- * The least number decides, but petrolyaz_search seeks refusals in the order 1, 2, 40, 20 to 25, and a limit step in the
- * order 1, 2, 34, 20 to 25, 33, 26, 36, 35, 28, 30, 31.
+ * The least number decides, but petrolyaz_search seeks refusals in the order 1, 2, 40, 20 to 25, and a limit step in
+ * the order 1, 2, 34, 20 to 25, 33, 26, 36, 35, 28, 30, 31.
  */
 #ifndef PETROLYAZ_H
 #define PETROLYAZ_H
@@ -81,7 +81,7 @@ enum petrolyaz_reason {
 enum petrolyaz_refusal {
     PETROLYAZ_TABLE_TOO_LONG = 1,        /* a table over 65,536 bytes */
     PETROLYAZ_TOO_MANY_ROWS = 2,         /* a table over 1,024 rows */
-    PETROLYAZ_TOO_FEW_CELLS = 3,         /* import: fewer cells than rows, or fewer positions; index: too short a list */
+    PETROLYAZ_TOO_FEW_CELLS = 3,         /* import: fewer cells or positions than rows; index: too short a list */
     PETROLYAZ_PACKET_LENGTH = 20,        /* packet under 7 or over 8,192 bytes */
     PETROLYAZ_PACKET_VERSION = 21,       /* version not 0, or the type bit set */
     PETROLYAZ_LENGTH_FIELD = 22,         /* length field plus 7 isn't the packet's length */
@@ -155,9 +155,9 @@ uint64_t petrolyaz_import(PETROLYAZ_TABLES, uint16_t *cells, size_t cells_count,
  * are. */
 uint64_t petrolyaz_identify(PETROLYAZ_TABLES, PETROLYAZ_PACKET, PETROLYAZ_ANSWER);
 
-/* Makes the index of the tables: the numbers, from 1, of the good VALID Y pid rows, rising by TYPE, STYPE, APID, PI1_VAL
- * and PI2_VAL. It has at most PETROLYAZ_MOST_ENTRIES; `rows_count` counts entries, not bytes. Further entries stay as
- * they were; refused by 3, where the list is too short, all do. answer: the number of entries. */
+/* Makes the index of the tables: the numbers, from 1, of the good VALID Y pid rows, rising by TYPE, STYPE, APID,
+ * PI1_VAL and PI2_VAL. It has at most PETROLYAZ_MOST_ENTRIES; `rows_count` counts entries, not bytes. Further entries
+ * stay as they were; refused by 3, where the list is too short, all do. answer: the number of entries. */
 uint64_t petrolyaz_index(PETROLYAZ_TABLES, uint16_t *rows, size_t rows_count, PETROLYAZ_ANSWER);
 
 /* Which packet it is, as petrolyaz_identify tells, by a search of the index: of n entries the one at n / 2 is compared,
@@ -165,13 +165,14 @@ uint64_t petrolyaz_index(PETROLYAZ_TABLES, uint16_t *rows, size_t rows_count, PE
  * petrolyaz_index makes for these tables. answer: the seven values of petrolyaz_identify, and how many entries were
  * compared, at most 11. Refused by 25, that number is answer[0] and nothing else is written: it is the one refusal that
  * tells more than its number and place. */
-uint64_t petrolyaz_search(PETROLYAZ_TABLES, PETROLYAZ_PACKET, const uint16_t *index, size_t index_count, PETROLYAZ_ANSWER);
+uint64_t petrolyaz_search(PETROLYAZ_TABLES, PETROLYAZ_PACKET, const uint16_t *index, size_t index_count,
+                          PETROLYAZ_ANSWER);
 
 /* The raw value of a parameter in a packet, occurrences from 0.
  * answer: 0, the value, valid (1) or not (0);
  *      or 1, the first byte of the string in the packet, from 0, its length in bytes, valid (1) or not (0);
- *      or 2, the bits of a real number (PTC 5), how many they are, 32 or 64, valid (1) or not (0). Fields of PFC 1 and 2
- *         are answered bit for bit, 32 and 64, a NaN too; those of PFC 3 and 4 as the 64 bits of the double that the
+ *      or 2, the bits of a real number (PTC 5), how many they are, 32 or 64, valid (1) or not (0). Fields of PFC 1 and
+ *         2 are answered bit for bit, 32 and 64, a NaN too; those of PFC 3 and 4 as the 64 bits of the double that the
  *         MIL-STD-1750A number is exactly. petrolyaz_single and petrolyaz_real hand back the number. */
 uint64_t petrolyaz_extract(PETROLYAZ_TABLES, PETROLYAZ_PACKET, PETROLYAZ_NAME, size_t occurrence, PETROLYAZ_ANSWER);
 

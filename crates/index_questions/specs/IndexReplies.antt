@@ -19,7 +19,7 @@ use Rattle.scripts.specs.declared.operands.Natural.{Natural}
 use Rattle.scripts.specs.declared.operands.Natural.the-variants as natural
 use Rattle.scripts.specs.Numerals.{naturalIn, naturalOf, atMost}
 use Rattle.scripts.specs.Escapes.{before}
-use Rattle.scripts.specs.Lists.{listIn, whereEntries, numbersIn, beforeNumber}
+use Rattle.scripts.specs.Lists.{listIn, whereEntries, rowNumbersIn, beforeNumber}
 use Rattle.answers.specs.declared.answer.Answer.{Answer}
 use Rattle.answers.specs.Answers.{saying, unreadable}
 use Rattle.replies.specs.Replies.{replyOf}
@@ -88,7 +88,7 @@ pub record Examples : Type 0 where
 
 pub examples : Examples
 unfolding
-    indexAnswer toldOf foundAnswer entriesLent searchReply searchIn tabulate listIn whereEntries numbersIn beforeNumber before columnsOf columnsFrom
+    indexAnswer toldOf foundAnswer entriesLent searchReply searchIn tabulate listIn whereEntries rowNumbersIn beforeNumber before columnsOf columnsFrom
     atMost naturalIn naturalOf numberOf answerOf meaning spelt after digitOn digitOf
 examples =
     record { three-rows = refl; no-rows = refl; not-found = refl; all = refl; few = refl; too-many = refl; no-list = refl }

@@ -11,7 +11,7 @@ use Rattle.packet_order.specs.declared.Order.{Order}
 use Rattle.packet_order.specs.declared.Order.the-variants.{Before, Same, After}
 use Rattle.packet_order.specs.Order.{firstThen, inOrder, compared}
 use Rattle.packet_index.specs.declared.Searched.{Searched}
-use Rattle.packet_index.specs.Index.{zeros, numbered}
+use Rattle.packet_index.specs.Index.{zeros, ofSubtype}
 
 -- no entry is left, so many come before
 abbrev pub nowhere : ℕ → Searched
@@ -56,15 +56,15 @@ bits n = lastWith (λ k. leb (2 ^ k) n) n
 
 -- of the entries 5, 17 and 25 first 17 is compared
 abbrev entriesOf : List FiveNumbers
-entriesOf = numbered 5 ∷ numbered 17 ∷ numbered 25 ∷ []
+entriesOf = ofSubtype 5 ∷ ofSubtype 17 ∷ ofSubtype 25 ∷ []
 
 pub record Examples : Type 0 where
-  pub in-the-middle : searched (numbered 17) entriesOf ≡ record { found = true; place = 1; compared = 1 }
-  pub after-it : searched (numbered 25) entriesOf ≡ record { found = true; place = 2; compared = 2 }
-  pub no-entry : searched (numbered 6) entriesOf ≡ record { found = false; place = 1; compared = 2 }
+  pub in-the-middle : searched (ofSubtype 17) entriesOf ≡ record { found = true; place = 1; compared = 1 }
+  pub after-it : searched (ofSubtype 25) entriesOf ≡ record { found = true; place = 2; compared = 2 }
+  pub no-entry : searched (ofSubtype 6) entriesOf ≡ record { found = false; place = 1; compared = 2 }
   -- of two entries the second is compared first
-  pub of-two : searched (numbered 17) (numbered 5 ∷ numbered 17 ∷ []) ≡ record { found = true; place = 1; compared = 1 }
-  pub empty : searched (numbered 17) [] ≡ record { found = false; place = 0; compared = 0 }
+  pub of-two : searched (ofSubtype 17) (ofSubtype 5 ∷ ofSubtype 17 ∷ []) ≡ record { found = true; place = 1; compared = 1 }
+  pub empty : searched (ofSubtype 17) [] ≡ record { found = false; place = 0; compared = 0 }
   pub six-bits : bits 63 ≡ 6
   pub seven-bits : bits 64 ≡ 7
 

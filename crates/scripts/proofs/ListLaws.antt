@@ -10,20 +10,20 @@ use Rattle.lines.specs.Columns.{columnsOf}
 use Rattle.scripts.specs.declared.operands.Natural.the-variants as natural
 use Rattle.scripts.specs.Numerals.{naturalIn, atMost}
 use Rattle.scripts.specs.Escapes.{before}
-use Rattle.scripts.specs.Lists.{beforeNumber, numbersIn, whereEntries, listIn}
+use Rattle.scripts.specs.Lists.{beforeNumber, rowNumbersIn, whereEntries, listIn}
 
 module _ (columns : List (List ℕ)) (k : ℕ) where
   pub number-here : (n : ℕ) → k < length columns → atMost 65535 (naturalIn (getD columns k [])) ≡ natural.Is n
-      → numbersIn (drop k columns) ≡ before n (numbersIn (drop (k + 1) columns))
-  unfolding numbersIn beforeNumber
+      → rowNumbersIn (drop k columns) ≡ before n (rowNumbersIn (drop (k + 1) columns))
+  unfolding rowNumbersIn beforeNumber
   number-here n h e = rw (split columns k [] h, e)
 
-  pub number-none : k < length columns → atMost 65535 (naturalIn (getD columns k [])) ≡ natural.Unread → numbersIn (drop k columns) ≡ none
-  unfolding numbersIn beforeNumber
+  pub number-none : k < length columns → atMost 65535 (naturalIn (getD columns k [])) ≡ natural.Unread → rowNumbersIn (drop k columns) ≡ none
+  unfolding rowNumbersIn beforeNumber
   number-none h e = rw (split columns k [] h, e)
 
-  pub numbers-end : length columns ≤ k → numbersIn (drop k columns) ≡ some []
-  unfolding numbersIn
+  pub numbers-end : length columns ≤ k → rowNumbersIn (drop k columns) ≡ some []
+  unfolding rowNumbersIn
   numbers-end h = rw (drop-of-length-le columns h)
 
 module _ (room : ℕ) (columns : List (List ℕ)) (numbers : Option (List ℕ)) where
@@ -40,6 +40,6 @@ module _ (room : ℕ) (text : List ℕ) where
   unfolding listIn
   list-none h = rw (eq-eqb (length text) 0 h)
 
-  pub list-some : (length text ≡ 0 → ⊥) → listIn room text ≡ whereEntries room (columnsOf text) (numbersIn (columnsOf text))
+  pub list-some : (length text ≡ 0 → ⊥) → listIn room text ≡ whereEntries room (columnsOf text) (rowNumbersIn (columnsOf text))
   unfolding listIn
   list-some n = rw (ne-eqb (length text) 0 n)

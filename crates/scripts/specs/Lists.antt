@@ -19,9 +19,9 @@ beforeNumber (natural.Is n) ns = before n ns
 beforeNumber natural.Unread ns = none
 
 -- a number of 16 bits in each column
-unfoldable pub numbersIn : List (List ℕ) → Option (List ℕ)
-numbersIn [] = some []
-numbersIn (column ∷ columns) = beforeNumber (atMost 65535 (naturalIn column)) (numbersIn columns)
+unfoldable pub rowNumbersIn : List (List ℕ) → Option (List ℕ)
+rowNumbersIn [] = some []
+rowNumbersIn (column ∷ columns) = beforeNumber (atMost 65535 (naturalIn column)) (rowNumbersIn columns)
 
 -- more of them than there is room for can't be read
 unfoldable pub whereEntries : (room : ℕ) → List (List ℕ) → Option (List ℕ) → Option (List ℕ)
@@ -29,7 +29,7 @@ whereEntries room columns numbers = cond (ltb room (length columns)) none number
 
 -- ROW|ROW|…; no text is the empty list
 unfoldable pub listIn : (room : ℕ) → (text : List ℕ) → Option (List ℕ)
-listIn room text = cond (eqb (length text) 0) (some []) (whereEntries room (columnsOf text) (numbersIn (columnsOf text)))
+listIn room text = cond (eqb (length text) 0) (some []) (whereEntries room (columnsOf text) (rowNumbersIn (columnsOf text)))
 
 pub record Examples : Type 0 where
   pub three : listIn 5 (ascii "2\t4\t1") ≡ some (2 ∷ 4 ∷ 1 ∷ [])
@@ -40,6 +40,6 @@ pub record Examples : Type 0 where
 
 pub examples : Examples
 unfolding
-    listIn whereEntries numbersIn beforeNumber before columnsOf columnsFrom
+    listIn whereEntries rowNumbersIn beforeNumber before columnsOf columnsFrom
     naturalIn naturalOf atMost numberOf answerOf meaning spelt after digitOn digitOf
 examples = record { three = refl; empty = refl; too-many = refl; too-large = refl; one-left-out = refl }

@@ -7,12 +7,12 @@ ghost use mathlib.Core.Path.{_≡_};
 ghost use lib.ListN.{length};
 ghost use Rattle.lines.specs.Columns.{columnsOf};
 ghost use Rattle.scripts.specs.Escapes.{readIn, NoMoreThan};
-ghost use Rattle.scripts.specs.Lists.{numbersIn, whereEntries, listIn};
+ghost use Rattle.scripts.specs.Lists.{rowNumbersIn, whereEntries, listIn};
 
 // One number for each column, as far as there is room.
 fn read_numbers(text: &[u8], out: &mut [u16]) -> Bytes
     ensures { λ r. ⌜ readIn r (now (out .exit))
-        ≡ whereEntries (length (now (out .entry))) (columnsOf (now (text .entry))) (numbersIn (columnsOf (now (text .entry)))) ⌝ }
+        ≡ whereEntries (length (now (out .entry))) (columnsOf (now (text .entry))) (rowNumbersIn (columnsOf (now (text .entry)))) ⌝ }
     ensures { λ r. ⌜ NoMoreThan r (length (now (out .entry))) ⌝ }
 {
     let count = column_count(text);

@@ -5,7 +5,7 @@ use native.Mathlib.Omega.{arith}
 use lib.ListN.{length, take, drop, length-set}
 use Rattle.lines.specs.Columns.{columnsOf}
 use Rattle.scripts.specs.Escapes.{readIn}
-use Rattle.scripts.specs.Lists.{numbersIn}
+use Rattle.scripts.specs.Lists.{rowNumbersIn}
 use Rattle.scripts.proofs.EscapeLaws.{joined, joined-first, joined-more, joined-end, joined-none}
 use Rattle.scripts.proofs.ListLaws.{number-here, number-none, numbers-end, entries-fit, entries-not}
 use Rattle.scripts.proofs.NumeralLaws.{most-is}
@@ -15,7 +15,7 @@ use Rattle.scripts.proofs.lists.read_numbers.Tie as tie
 
 abbrev Inv-loop : tie.InvT-loop
 Inv-loop text out₀ count k₀ out k = (k ≤ count) × (length out ≡ length out₀) × (count ≡ length (columnsOf text)) × (count ≤ length out₀)
-    × (joined (take k out) (numbersIn (drop k (columnsOf text))) ≡ numbersIn (columnsOf text))
+    × (joined (take k out) (rowNumbersIn (drop k (columnsOf text))) ≡ rowNumbersIn (columnsOf text))
 
 abbrev μ-loop : tie.MeasureT-loop
 μ-loop text out₀ count k₀ out k = count - k
