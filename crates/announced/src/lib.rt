@@ -1,4 +1,6 @@
 // Run and announced after a reading.
+#![tactic(auto)]
+
 ghost use Rattle.std.specs.Prelude.{◌≡◌};
 ghost use Rattle.announced.specs.Announced.{raised, violation, after_reading};
 

@@ -1,4 +1,6 @@
 // Any call with a packet, answered by tables that are loaded.
+#![tactic(auto)]
+
 ghost use Rattle.std.specs.Prelude.{map};
 ghost use Rattle.outcomes.specs.Refusals.{refused_by};
 ghost use Rattle.database.specs.Arrays.{database, answers};

@@ -1,4 +1,6 @@
 // Which checks of a parameter apply in a packet.
+#![tactic(auto)]
+
 ghost use Rattle.std.specs.Prelude.{◌≡◌, map};
 ghost use Rattle.database.specs.Arrays.{database, answers};
 ghost use Rattle.raw_values.specs.RawValues.{said_raw};

@@ -1,4 +1,6 @@
 // An archive of packets end to end: where each ends in bytes, and a file of any length read in blocks.
+#![tactic(auto)]
+
 ghost use Rattle.std.specs.Prelude.{◌≡◌, ◌-◌, min, ◌≤◌};
 ghost use Rattle.archives.specs.Blocks.{Moved, Refilled};
 ghost use Rattle.archives.specs.Framing.{framed_at};

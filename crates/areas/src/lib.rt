@@ -1,4 +1,6 @@
 // The tables and the packet that questions are asked of, each in its own part of one space.
+#![tactic(auto)]
+
 ghost use Rattle.std.specs.Prelude.{◌≡◌, map, ◌+◌, ◌≤◌, length, get_or};
 ghost use Rattle.std.proofs.lemmas.List.Edits.{sets};
 ghost use Rattle.areas.specs.Memory.{memory, kept, area_within, area_tables, cleared, all_cleared, added};

@@ -1,4 +1,6 @@
 // Lent arrays at any place: past the end stands 0, and what is put there is dropped.
+#![tactic(auto)]
+
 ghost use Rattle.std.specs.Prelude.{◌≡◌, length, get_or, set, replicate};
 
 // Arrays by row have a place for each row of fourteen tables of 1,024 rows.

@@ -1,6 +1,6 @@
 -- Causes and steps fit together: every row that a verdict speaks of is one step of demand 3 away.
 use mathlib.Core.Path.{◌≡◌, refl, ap, sym, ◌∙◌}
-use mathlib.Core.Bool.{Bool, true, false, cond, ◌&&◌, ◌||◌, or_false}
+use mathlib.Core.Bool.{Bool, true, false, cond, ◌&&◌, ◌||◌, or-false}
 use mathlib.Core.List.{List, [], ◌∷◌, Memᴰ}
 use Prim.Native.Nat.{ℕ}
 use lib.Dec.{eqb}
@@ -52,7 +52,7 @@ module _ (rows : List Entry) (e : Entry) where
   counted_is c q r =
       ap length
       (keep_same (speaks_of rows (verdict rows e) e) (λ o. belongs o c.group && sound rows o) rows
-      (λ o m. rw (r, q) (ap (λ (t : Bool). t && sound rows o) (or_false (belongs o c.group)))))
+      (λ o m. rw (r, q) (ap (λ (t : Bool). t && sound rows o) (or-false (belongs o c.group)))))
 
   -- reason 12: the causes are the next row of the chain
   pub next_is : reason_of (verdict rows e) ≡ 12 → causes rows e ≡ next rows e

@@ -1,4 +1,6 @@
 // The questions that lend cells and positions: an import, and the cell of a table's only row.
+#![tactic(auto)]
+
 ghost use Rattle.std.specs.Prelude.{◌≡◌, map, ◌≤◌, length, take};
 ghost use Rattle.cell_questions.specs.CellReplies.{import_verdict, cells_lent, positions_lent, import_in, import_reply, row_verdict, row_reply};
 

@@ -1,4 +1,6 @@
 // The cell of a row: where it stands among the cells that an import writes, and what it says.
+#![tactic(auto)]
+
 ghost use Rattle.std.specs.Prelude.{◌≡◌, map, suc, ◌≤◌, ◌<◌};
 ghost use Rattle.verdicts.specs.Entries.{table_count};
 ghost use Rattle.verdicts.specs.Answer.{most_cells};

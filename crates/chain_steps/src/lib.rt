@@ -1,4 +1,6 @@
 // Arrays by row. A read past the end is no row; a write past it does nothing.
+#![tactic(auto)]
+
 ghost use Rattle.std.specs.Prelude.{◌≡◌, eqb, get_or, set};
 ghost use Rattle.std.proofs.lemmas.List.Edits.{sets};
 ghost use Rattle.laws.specs.Prefix.{flag};

@@ -1,4 +1,6 @@
 // Imports the tables of directories, and says of each row that isn't good why, and what it leans on.
+#![tactic(auto)]
+
 mod counts;
 
 use arrays::PLACES;

@@ -1,4 +1,6 @@
 // The double that the text of a coefficient is.
+#![tactic(auto)]
+
 ghost use Rattle.std.specs.Prelude.{◌<◌, ◌≤◌, ◌^◌, ◌≡◌};
 ghost use Rattle.notation.specs.Scientific.{Short};
 ghost use Rattle.coefficients.specs.Coefficient.{double, with_sign, scaled, double_of, coefficient_of};

@@ -1,4 +1,6 @@
 // Reason 8: the lowest column of a row that contradicts another, or 0.
+#![tactic(auto)]
+
 ghost use Rattle.std.specs.Prelude.{◌≡◌};
 ghost use Rattle.contradictions.specs.Contradictions.{is_whole, no_width, pic_contradiction, plf_contradiction, is_refused};
 ghost use Rattle.contradictions.specs.Contradictions.{category_clash, curve_clash, pcf_contradiction, is_real, caf_contradiction};

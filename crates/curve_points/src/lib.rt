@@ -1,4 +1,6 @@
 // The points of a curve, by its rows in caf and cap.
+#![tactic(auto)]
+
 ghost use Rattle.std.specs.Prelude.{◌≡◌, map, ◌≤◌, length};
 ghost use Rattle.std.proofs.lemmas.List.Edits.{sets};
 ghost use Rattle.verdicts.specs.Key as key;

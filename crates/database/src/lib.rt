@@ -1,4 +1,6 @@
 // The database: tables in lent arrays, in which a row is found by its key, and rows are followed by their group.
+#![tactic(auto)]
+
 ghost use Rattle.std.specs.Prelude.{◌≡◌, map, [], ◌+◌, ◌≤◌, ◌<◌, length, get_or, drop};
 ghost use Rattle.std.proofs.lemmas.List.Edits.{sets};
 ghost use Rattle.verdicts.specs.Places.{text_at};

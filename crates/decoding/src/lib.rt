@@ -1,4 +1,6 @@
 // The line of each table decoded, by where its columns end.
+#![tactic(auto)]
+
 ghost use Rattle.std.specs.Prelude.{◌≡◌, ◌-◌, length, get_or};
 ghost use Rattle.lines.specs.Columns.{column_in};
 ghost use Rattle.decoding.specs.Records.{pid_row_by, pic_row_by, plf_row_by, pcf_row_by, caf_row_by, cap_row_by, txf_row_by, txp_row_by, ocf_row_by, ocp_row_by, mcf_row_by};

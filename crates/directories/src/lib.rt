@@ -1,4 +1,6 @@
 // The tables of a directory: pid.dat and so on, each read into its own part of one space.
+#![tactic(auto)]
+
 ghost use Rattle.std.specs.Prelude.{◌≡◌, ◌&&◌, map};
 ghost use Rattle.tables.specs.Parts.{tables_in};
 ghost use Rattle.directories.specs.Space.{end_of};

@@ -1,2 +1,4 @@
 // The engineering value of a raw one.
+#![tactic(auto)]
+
 pub mod engineer;

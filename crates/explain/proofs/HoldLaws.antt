@@ -1,6 +1,6 @@
 -- Of rows that are kept: a row holds a key just where its columns have the key's id.
 use mathlib.Core.Path.{◌≡◌, refl, ap, ap₂, sym, ◌∙◌}
-use mathlib.Core.Bool.{Bool, true, false, not, cond, ◌&&◌, ◌||◌, or_false}
+use mathlib.Core.Bool.{Bool, true, false, not, cond, ◌&&◌, ◌||◌, or-false}
 use mathlib.Core.List.{List, [], ◌∷◌, map}
 use Prim.Native.Nat.{ℕ, ◌+◌, ◌≤◌, ◌<◌}
 use native.Mathlib.Omega.{arith}
@@ -28,7 +28,7 @@ use Rattle.key_rows.specs.KeyRows.{in_column, has_key, shares_by}
 one_of_two : (k : Key) (ks : List Key) → AtMostTwo ks → any (same_key k) ks ≡ (first_is k ks || first_is k (drop 1 ks))
 one_of_two k [] zero_keys = refl
 one_of_two k (l ∷ []) one_key = refl
-one_of_two k (l ∷ m ∷ []) (two_keys z) = ap (λ (t : Bool). same_key k l || t) (or_false (same_key k m))
+one_of_two k (l ∷ m ∷ []) (two_keys z) = ap (λ (t : Bool). same_key k l || t) (or-false (same_key k m))
 
 -- a row holds the first of some keys
 abbrev pub first_held : Entry → List Key → Bool
@@ -38,7 +38,7 @@ first_held o (k ∷ ks) = holds o k
 first_or_second : (o : Entry) (ks : List Key) → AtMostTwo ks → any (holds o) ks ≡ (first_held o ks || first_held o (drop 1 ks))
 first_or_second o [] zero_keys = refl
 first_or_second o (k ∷ []) one_key = refl
-first_or_second o (k ∷ l ∷ []) (two_keys z) = ap (λ (t : Bool). holds o k || t) (or_false (holds o l))
+first_or_second o (k ∷ l ∷ []) (two_keys z) = ap (λ (t : Bool). holds o k || t) (or-false (holds o l))
 
 module _ (rows : List Entry) (words links : List ℕ) (count : ℕ) (halves bytes : List ℕ) (h : Held rows words links count halves bytes) where
   abbrev ls : List Symbol

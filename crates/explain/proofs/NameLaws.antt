@@ -1,6 +1,6 @@
 -- Of rows that are kept: a row names another just where it has the id of a key that the other holds.
 use mathlib.Core.Path.{◌≡◌, refl, ap, ap₂, sym, ◌∙◌}
-use mathlib.Core.Bool.{Bool, true, false, not, cond, ◌&&◌, ◌||◌, and_false, or_false}
+use mathlib.Core.Bool.{Bool, true, false, not, cond, ◌&&◌, ◌||◌, and-false, or-false}
 use mathlib.Core.List.{List, [], ◌∷◌}
 use Prim.Native.Nat.{ℕ, ◌+◌, ◌≤◌, ◌<◌}
 use native.Mathlib.Omega.{arith}
@@ -38,7 +38,7 @@ named_either : (f : Manner → Bool) (o : Entry) (ks : List Key) (ns : List Nami
     → any (λ n. f (manner_of n) && holds o n.key) ns ≡ (first_named f o ns || first_named f o (drop 1 ns))
 named_either f o ks [] l = refl
 named_either f o ks (n ∷ []) l = refl
-named_either f o ks (n ∷ m ∷ []) l = ap (λ (t : Bool). f (manner_of n) && holds o n.key || t) (or_false (f (manner_of m) && holds o m.key))
+named_either f o ks (n ∷ m ∷ []) l = ap (λ (t : Bool). f (manner_of n) && holds o n.key || t) (or-false (f (manner_of m) && holds o m.key))
 named_either f o ks (n ∷ m ∷ q ∷ qs) l = absurd l
 
 -- the first of them is listed
@@ -62,7 +62,7 @@ module _ (rows : List Entry) (words links : List ℕ) (count : ℕ) (halves byte
         → (code name : ℕ) → code ≡ (named_of ns).code → name ≡ named_id ls (named_of ns)
         → (f (manner_at code) && has_key halves name j) ≡ first_named f (kept_entry rows j) ns
     unfolding named_of named_id
-    slot_by ks [] l w code name c e = rw (e, nothing_held rows words links count halves bytes h j q) (and_false (f (manner_at code)))
+    slot_by ks [] l w code name c e = rw (e, nothing_held rows words links count halves bytes h j q) (and-false (f (manner_at code)))
     slot_by ks (n ∷ ns) l w code name c e =
         let d : manner_at code ≡ manner_of n = ap manner_at c ∙ l.decoded in
         let i : name ≡ id_of (symbol_of n.key) ls = e ∙ rw l.coded in

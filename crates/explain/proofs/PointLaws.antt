@@ -1,6 +1,6 @@
 -- Of rows that are kept and judged: the rows that a verdict points to are those that it speaks of.
 use mathlib.Core.Path.{◌≡◌, refl, ap, ap₂, sym, ◌∙◌}
-use mathlib.Core.Bool.{Bool, true, false, not, cond, ◌&&◌, ◌||◌, or_false}
+use mathlib.Core.Bool.{Bool, true, false, not, cond, ◌&&◌, ◌||◌, or-false}
 use mathlib.Core.List.{List, [], ◌∷◌, map}
 use Prim.Native.Nat.{ℕ, ◌+◌, ◌/◌, ◌%◌, ◌≤◌, ◌<◌}
 use native.Mathlib.Omega.{arith}
@@ -77,7 +77,7 @@ module _ (rows : List Entry) (words links : List ℕ) (count : ℕ) (halves byte
           sound_are j q,
           f.0,
         )
-        (ap (λ (t : Bool). t && sound rows o) (sym (or_false (belongs o key))))
+        (ap (λ (t : Bool). t && sound rows o) (sym (or-false (belongs o key))))
     count_by (d ∷ d' ∷ cs) ks c k f = absurd f
 
     counted_are : counted_by halves bytes cells i j ≡ (counts e o && sound rows o)

@@ -1,4 +1,6 @@
 // Why a row isn't good: its verdict, and the rows that it speaks of.
+#![tactic(auto)]
+
 ghost use Rattle.std.specs.Prelude.{◌≡◌, map, ℕ, length};
 ghost use Rattle.std.proofs.lemmas.List.Edits.{sets};
 ghost use Rattle.laws.specs.Prefix.{all_from};

@@ -1,4 +1,6 @@
 // The questions for programs in other languages; include/petrolyaz.h declares these functions for C.
+#![tactic(auto)]
+
 ghost use Rattle.std.specs.Prelude.{◌≡◌};
 ghost use Rattle.offered.specs.Offered.{offered_state};
 ghost use Rattle.calls.specs.Calls.{identify_of, extract_of, engineer_of};

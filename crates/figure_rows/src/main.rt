@@ -1,4 +1,6 @@
 // 01's figure, a caf row that counts three points and two sound points of it, explained row by row.
+#![tactic(auto)]
+
 use explaining::{Explanation, explain};
 use units::{RowNumber, TableNumber};
 use words::say::{number, words};

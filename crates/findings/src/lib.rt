@@ -1,4 +1,6 @@
 // Which rows are well-formed, the rows that namings lead to, and reason 10.
+#![tactic(auto)]
+
 ghost use Rattle.std.specs.Prelude.{◌≡◌, eqb, get_or};
 ghost use Rattle.std.proofs.lemmas.List.Edits.{sets};
 ghost use Rattle.laws.specs.Prefix.{flag};

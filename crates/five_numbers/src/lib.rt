@@ -1,4 +1,6 @@
 // The five numbers of a packet whose header is known.
+#![tactic(auto)]
+
 ghost use Rattle.std.specs.Prelude.{◌≡◌, cond, List, map, ℕ, get_or};
 ghost use Rattle.database.specs.Arrays.{database, row_for, answers};
 ghost use Rattle.identifiers.specs.Identifiers.{said_fields};

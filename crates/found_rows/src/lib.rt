@@ -1,4 +1,6 @@
 // Rows that a question found, decoded: of each the line is walked once, which tells where it and its columns end.
+#![tactic(auto)]
+
 ghost use Rattle.std.specs.Prelude.{◌≡◌, map, ◌<◌, ◌^◌, length, replicate};
 ghost use Rattle.lines.specs.Columns.{column_in};
 ghost use Rattle.rows.specs.Values.{natural_or};

@@ -1,4 +1,6 @@
 // Loading into arrays of the full size, which have room for any tables: done, or refused by 1 or 2.
+#![tactic(auto)]
+
 ghost use Rattle.std.specs.Prelude.{map};
 ghost use Rattle.loading.specs.Loaded.{lent};
 ghost use Rattle.full_loading.specs.FullLoads.{FullLoads};

@@ -1,4 +1,6 @@
 // The header of a packet by CCSDS 133.0, and refusals 20 to 23.
+#![tactic(auto)]
+
 ghost use Rattle.std.specs.Prelude.{◌≡◌, ◌+◌, ◌*◌, ◌^◌, ◌≤◌, ◌<◌, length};
 ghost use Rattle.fields.specs.Bits.{number_at};
 ghost use Rattle.headers.specs.Header.{said_head, head_of};

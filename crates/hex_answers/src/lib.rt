@@ -1,4 +1,6 @@
 // Bits in hexadecimal digits.
+#![tactic(auto)]
+
 ghost use Rattle.std.specs.Prelude.{◌≡◌, ◌<◌, length, []};
 ghost use Rattle.hex_answers.specs.Hexadecimal.{hex_digit, hexadecimal, double_answer, bits_answer, validity_words};
 

@@ -1,4 +1,6 @@
 // Which packet it is.
+#![tactic(auto)]
+
 ghost use Rattle.std.specs.Prelude.{◌≡◌, map};
 ghost use Rattle.database.specs.Arrays.{database, answers};
 ghost use Rattle.identification.specs.Identification.{choose_by, identify_headed, identify_by, said_identified};

@@ -1,4 +1,6 @@
 // PI1 and PI2 of a packet, by a pic row.
+#![tactic(auto)]
+
 ghost use Rattle.std.specs.Prelude.{◌≡◌, ◌*◌, drop};
 ghost use Rattle.fields.specs.Field.{unsigned_at};
 ghost use Rattle.identifiers.specs.Identifiers.{read_identifier, identifier_at, identifiers_by, said_field, said_fields};

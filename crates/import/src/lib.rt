@@ -1,4 +1,6 @@
 // The import: verdicts of all rows of the tables.
+#![tactic(auto)]
+
 ghost use Rattle.std.specs.Prelude.{◌≡◌, map};
 ghost use Rattle.verdicts.specs.Answer.{room_in, import_of, cells_after, positions_after};
 ghost use Rattle.import.specs.Judged.{said_imported, AnswersBy};

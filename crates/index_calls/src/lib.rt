@@ -1,4 +1,6 @@
 // The calls with an index: each loads the tables first, and promises what its definition says of their good rows.
+#![tactic(auto)]
+
 ghost use Rattle.std.specs.Prelude.{◌≡◌, map, length};
 ghost use Rattle.database.specs.Arrays.{database, answers};
 ghost use Rattle.packet_index.specs.Making.{index_of};

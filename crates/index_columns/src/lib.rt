@@ -1,4 +1,6 @@
 // The columns of the database: what is known of keys and rows, put to its places over what was kept.
+#![tactic(auto)]
+
 ghost use Rattle.std.specs.Prelude.{◌≡◌, ◌+◌, ◌≤◌, ◌<◌, min, get_or};
 ghost use Rattle.arrays.specs.Room.{most_places};
 ghost use Rattle.database.specs.Arrays.{number_column, table_column, all_columns};

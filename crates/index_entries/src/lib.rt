@@ -1,4 +1,6 @@
 // The packets of loaded tables: an entry of an index, and how many there are.
+#![tactic(auto)]
+
 ghost use Rattle.std.specs.Prelude.{◌≡◌, ◌&&◌, map, suc, leb, ltb};
 ghost use Rattle.laws.specs.Prefix.{count_with};
 ghost use Rattle.verdicts.specs.Answer.{most_rows};

@@ -1,4 +1,6 @@
 // The questions of an index: a search of a list of pid rows, and the index of the tables.
+#![tactic(auto)]
+
 ghost use Rattle.std.specs.Prelude.{◌≡◌, map, ◌≤◌, length, take};
 ghost use Rattle.searching.specs.Search.{said_search};
 ghost use Rattle.index_calls.specs.IndexCalls.{search_of, said_made};

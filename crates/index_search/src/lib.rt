@@ -1,4 +1,6 @@
 // The search of an index, by loaded tables.
+#![tactic(auto)]
+
 ghost use Rattle.std.specs.Prelude.{◌≡◌, map};
 ghost use Rattle.packet_index.specs.Index.{numbers_at};
 ghost use Rattle.packet_index.specs.Search.{searched};

@@ -1,4 +1,6 @@
 // The answers of the calls with an index, in plain numbers.
+#![tactic(auto)]
+
 ghost use Rattle.std.specs.Prelude.{◌≡◌};
 ghost use Rattle.outcomes.specs.Outcome.{refused, answer};
 ghost use Rattle.searching.specs.Search.{said_search};

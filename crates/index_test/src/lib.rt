@@ -1,4 +1,6 @@
 // Whether a list is the index of loaded tables.
+#![tactic(auto)]
+
 ghost use Rattle.std.specs.Prelude.{◌≡◌, ◌&&◌, ◌||◌, map, eqb};
 ghost use Rattle.packet_order.specs.Order as order;
 ghost use Rattle.packet_index.specs.Index.{is_packet, numbers_at, is_before, rising, every, is_index};

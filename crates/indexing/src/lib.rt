@@ -1,5 +1,7 @@
 // An index over what is kept of the rows: which good row holds a key, and the good rows of a group,
 // one after the other.
+#![tactic(auto)]
+
 ghost use Rattle.std.specs.Prelude.{min};
 ghost use Rattle.arrays.specs.Room.{most_places};
 ghost use Rattle.kept.specs.Stored.{group_column};

@@ -1,5 +1,7 @@
 // The passes over what is kept of the rows, one after the other: the verdict of each row.
 // Arrays by row and by key are lent whole.
+#![tactic(auto)]
+
 ghost use Rattle.std.specs.Prelude.{◌≡◌};
 ghost use Rattle.std.proofs.lemmas.List.Edits.{sets};
 ghost use Rattle.kept.specs.Stored.{name1_column, name2_column};

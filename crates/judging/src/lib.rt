@@ -1,4 +1,6 @@
 // The verdicts of rows from what their keys and namings were found to be, over arrays by row.
+#![tactic(auto)]
+
 ghost use Rattle.std.specs.Prelude.{◌≡◌, get_or};
 ghost use Rattle.std.proofs.lemmas.List.Edits.{sets};
 ghost use Rattle.laws.specs.Values.{tabulate};

@@ -1,4 +1,6 @@
 // What is kept of the rows of the tables: each read once, its keys known by numbers, its columns stored.
+#![tactic(auto)]
+
 ghost use Rattle.std.specs.Prelude.{◌≡◌, map};
 ghost use Rattle.tables.specs.Sizes.{fit, sizes_of};
 ghost use Rattle.kept.specs.FirstPass.{arrays};

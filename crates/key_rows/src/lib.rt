@@ -1,4 +1,6 @@
 // Rows that hold a key, and sound rows of a group.
+#![tactic(auto)]
+
 ghost use Rattle.std.specs.Prelude.{◌≡◌};
 ghost use Rattle.key_rows.specs.KeyRows.{in_column, has_key, shares_by, sound_by, counted_by};
 

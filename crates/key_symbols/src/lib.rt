@@ -1,4 +1,6 @@
 // Keys as symbols: one function for each key that a row can hold or name, and a question can ask for.
+#![tactic(auto)]
+
 mod words;
 
 ghost use Rattle.std.specs.Prelude.{◌≡◌, true, false};

@@ -1,6 +1,6 @@
 -- Holding, belonging, naming and counting, asked of symbols instead of rows.
 use mathlib.Core.Path.{◌≡◌, refl, ap, ap₂, ◌∙◌}
-use mathlib.Core.Bool.{Bool, true, false, not, cond, ◌&&◌, ◌||◌, or_false, and_false, and_comm}
+use mathlib.Core.Bool.{Bool, true, false, not, cond, ◌&&◌, ◌||◌, or-false, and-false, and_comm}
 use mathlib.Core.List.{List, [], ◌∷◌, map, Memᴰ}
 use Prim.Native.Nat.{ℕ, zero, suc}
 use native.Mathlib.Omega.{arith}
@@ -41,7 +41,7 @@ kept_any : {A B : Type 0} (f : B → Bool) (to : A → B) (kept : A → Bool) (a
     → any f (map to (keep kept (a ∷ b ∷ []))) ≡ (kept a && f (to a) || kept b && f (to b))
 kept_any f to kept a b =
     kept_one f to a (keep kept (b ∷ [])) (kept a)
-    ∙ ap (λ (t : Bool). kept a && f (to a) || t) (kept_one f to b [] (kept b) ∙ or_false _)
+    ∙ ap (λ (t : Bool). kept a && f (to a) || t) (kept_one f to b [] (kept b) ∙ or-false _)
 
 -- the first number of those that are kept of two
 or_zero : (n : ℕ) → or_else n 0 ≡ n
@@ -90,7 +90,7 @@ module _ (o : Entry) (r : RowKeys) (h : Says (facts o) r) where
       any_through (same_key k) (same_symbol (symbol_of k)) symbol_of (facts o).groups (λ l m. symbol_exact k l b (h.groups_bounded l m))
       ∙ ap (any (same_symbol (symbol_of k))) h.groups
       ∙ kept_one (same_symbol (symbol_of k)) (λ (s : Slot). s.key) r.group [] r.group.given
-      ∙ or_false _
+      ∙ or-false _
 
   -- one of what the row names
   pub names_any : (f : Naming → Bool) (g : SymbolNaming → Bool) → ((n : Naming) → Bounded n.key → f n ≡ g (of_naming n))
@@ -118,9 +118,9 @@ module _ (o : Entry) (r : RowKeys) (h : Says (facts o) r) where
 chained_only : (code : ℕ) (held : Bool) (named other chained : Bool) → chained ≡ false
     → (not (eqb code 0) && (held && (manner_at code).chained) || named && (other && chained)) ≡ ((manner_at code).chained && held)
 unfolding manners manner_at
-chained_only zero held named other chained e = rw (e, and_false other, and_false named)
+chained_only zero held named other chained e = rw (e, and-false other, and-false named)
 chained_only (suc code) held named other chained e =
-    rw (ne_eqb (suc code) 0 (λ (z : suc code ≡ 0). omega arith), e, and_false other, and_false named, or_false) (and_comm held _)
+    rw (ne_eqb (suc code) 0 (λ (z : suc code ≡ 0). omega arith), e, and-false other, and-false named, or-false) (and_comm held _)
 
 -- two rows hold a key in common
 pub shares_has : (e o : Entry) (d r : RowKeys) → Says (facts e) d → Says (facts o) r

@@ -1,4 +1,6 @@
 // Keys: what a row holds, names and is counted in, as symbols.
+#![tactic(auto)]
+
 mod tables;
 
 ghost use Rattle.std.specs.Prelude.{◌≡◌};

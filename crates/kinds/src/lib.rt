@@ -1,4 +1,6 @@
 // The kinds that rows are of: the conditions that they meet, and whether they lead to a second row that is asked about.
+#![tactic(auto)]
+
 ghost use Rattle.std.specs.Prelude.{◌≡◌};
 ghost use Rattle.std.proofs.lemmas.List.Edits.{sets};
 ghost use Rattle.laws.specs.Values.{tabulate};

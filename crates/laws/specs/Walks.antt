@@ -1,5 +1,5 @@
 -- Languages that are read as a walk over characters, and how far a text is the beginning of a word.
-use Rattle.std.specs.Prelude.{ℕ, suc, ◌<◌, ◌≤◌, ◌≡◌, refl, List, [], ◌∷◌, ◌++◌, Bool, true, false, cond, not, ◌||◌, eqb, length, take}
+use Rattle.std.specs.Prelude.{ℕ, suc, ◌<◌, ◌≤◌, ◌≡◌, refl, List, [], ◌∷◌, ◌++◌, Bool, true, false, cond, ◌||◌, eqb, length, take}
 use Rattle.laws.specs.Text.{ascii, char}
 
 -- ---- of a language alone

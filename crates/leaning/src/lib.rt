@@ -1,4 +1,6 @@
 // A row that isn't good in a line: its verdict in words, and what it leans on.
+#![tactic(auto)]
+
 mod leans;
 mod places;
 mod verdict;

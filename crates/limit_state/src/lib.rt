@@ -1,2 +1,4 @@
 // The limit state of a parameter, and which packets are newer.
+#![tactic(auto)]
+
 pub mod state;

@@ -7,7 +7,7 @@ use native.Mathlib.Omega.{arith}
 use lib.Dec.{eqb, ltb, leb-suc-suc}
 use lib.ListN.{length, get_or, take, drop, drop_of_length-le, length-drop}
 use lib.Seq.{drop-drop}
-use borrow.Author.Tests.{eq-eqb, ne_eqb, lt-ltb, le-ltb, ltb-true, ltb-false, eqb-true, not_true}
+use borrow.Author.Tests.{eq-eqb, ne_eqb, lt-ltb, le-ltb, ltb-true, ltb-false, eqb-true, not-true}
 use Rattle.laws.proofs.Lists.{split}
 use Rattle.laws.proofs.Cases.{cond_cases, cond_cases₂, bool_cases, and_left, and_right}
 use Rattle.lines.specs.declared.walk.NextLine.{NextLine}
@@ -123,7 +123,7 @@ pub lines_first : (line after : List ℕ) → free line ≡ true → lines_of (l
 unfolding lines_of lead on_first free
 lines_first [] after h = refl
 lines_first (b ∷ bs) after h =
-    rw (not_true (eqb b 10) (and_left (not (eqb b 10)) (free bs) h), lines_first bs after (and_right (not (eqb b 10)) (free bs) h))
+    rw (not-true (eqb b 10) (and_left (not (eqb b 10)) (free bs) h), lines_first bs after (and_right (not (eqb b 10)) (free bs) h))
 
 lead_some : (b : ℕ) (ls : List Line) → 0 < length (lead b ls)
 unfolding lead on_first

@@ -6,7 +6,7 @@ use Prim.Native.Nat.{ℕ, suc, ◌+◌, ◌-◌, ◌<◌}
 use native.Mathlib.Omega.{arith}
 use lib.Dec.{eqb}
 use lib.ListN.{length, get_or}
-use borrow.Author.Tests.{eqb-true, eq-eqb, not_true}
+use borrow.Author.Tests.{eqb-true, eq-eqb, not-true}
 use Rattle.laws.specs.Lists.{any}
 use Rattle.laws.proofs.Cases.{bool_cases, and_left, and_right}
 use Rattle.laws.proofs.Lists.{map_at}
@@ -52,7 +52,7 @@ module _ (texts : List (List ℕ)) (i : ℕ) (below : i < length (all_rows texts
 
   pub good_alone : shared (all_rows texts) e ≡ false
   unfolding sound
-  good_alone = not_true (shared (all_rows texts) e) (and_right (eqb (own e.reading) 0) _ ((good_law (all_rows texts) e).0 good_verdict).is_sound)
+  good_alone = not-true (shared (all_rows texts) e) (and_right (eqb (own e.reading) 0) _ ((good_law (all_rows texts) e).0 good_verdict).is_sound)
 
 module _ {texts : List (List ℕ)} {t start i : ℕ} (w : Situated texts t start i) (below : i < length (all_rows texts)) where
   abbrev j : ℕ

@@ -1,6 +1,6 @@
 -- The good rows that hold a key, or are counted in a group, are the marked ones that have its id.
 use mathlib.Core.Path.{◌≡◌, ap, sym, subst, ◌∙◌}
-use mathlib.Core.Bool.{true, false, ◌&&◌, ◌||◌, and_false, and_comm}
+use mathlib.Core.Bool.{true, false, ◌&&◌, ◌||◌, and-false, and_comm}
 use mathlib.Core.List.{List, map, Memᴰ}
 use Prim.Native.Nat.{ℕ, ◌<◌}
 use lib.Dec.{eqb}
@@ -92,7 +92,7 @@ module _ (texts : List (List ℕ)) {words links : List ℕ} {count : ℕ} {halve
     good_holds =
         bool_cases (good_at texts i)
         (λ g. rw (mark_is, g) (rw (formed_good g) at (share.held coding ls all formed key1 key2 group rows_kept k q i p)))
-        (λ g. rw (mark_is, g, and_false (eqb (get_or key1 i 0) id), and_false (eqb (get_or key2 i 0) id)))
+        (λ g. rw (mark_is, g, and-false (eqb (get_or key1 i 0) id), and-false (eqb (get_or key2 i 0) id)))
 
     pub good_belongs : (good_at texts i && belongs (kept_entry (all_rows texts) i) k) ≡ has_id marks group id i
     unfolding has_id

@@ -1,4 +1,6 @@
 // Loading: tables read and judged into the arrays of the database.
+#![tactic(auto)]
+
 ghost use Rattle.std.specs.Prelude.{map};
 ghost use Rattle.loading.specs.Loaded.{lent, IndexMade, Loads};
 

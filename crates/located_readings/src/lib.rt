@@ -1,4 +1,6 @@
 // Readings by the rows of loaded tables: the rows of a parameter, and its VALID chain.
+#![tactic(auto)]
+
 mod follow;
 
 ghost use Rattle.std.specs.Prelude.{◌≡◌, map};

@@ -1,4 +1,6 @@
 // The manners of naming by their code, the kinds of rows that they ask for, and the marks that tell of them.
+#![tactic(auto)]
+
 pub mod marks;
 
 ghost use Rattle.std.specs.Prelude.{◌≡◌, get_or};

@@ -1,6 +1,6 @@
 -- Rows hold a key, and belong to a group, just where they have its id.
 use mathlib.Core.Path.{◌≡◌, refl, ap, ap₂, sym, ◌∙◌}
-use mathlib.Core.Bool.{Bool, true, false, ◌&&◌, ◌||◌, and_false, or_false}
+use mathlib.Core.Bool.{Bool, true, false, ◌&&◌, ◌||◌, and-false, or-false}
 use mathlib.Core.List.{List, [], ◌∷◌}
 use Prim.Native.Nat.{ℕ}
 use native.Mathlib.Omega.{arith}
@@ -32,11 +32,11 @@ module _ (k : Key) where
   one_of_two : (ks : List Key) → AtMostTwo ks → any (same_key k) ks ≡ (first_is k ks || first_is k (drop 1 ks))
   one_of_two [] zero_keys = refl
   one_of_two (l ∷ []) one_key = refl
-  one_of_two (l ∷ m ∷ []) (two_keys z) = ap (λ (t : Bool). same_key k l || t) (or_false (same_key k m))
+  one_of_two (l ∷ m ∷ []) (two_keys z) = ap (λ (t : Bool). same_key k l || t) (or-false (same_key k m))
 
   not_both : (ks : List Key) → AtMostTwo ks → (first_is k ks && first_is k (drop 1 ks)) ≡ false
   not_both [] zero_keys = refl
-  not_both (l ∷ []) one_key = and_false (same_key k l)
+  not_both (l ∷ []) one_key = and-false (same_key k l)
   not_both (l ∷ m ∷ []) (two_keys z) =
       false_of (same_key k l && same_key k m)
       (λ e. let p = same_key_is k l (and_left (same_key k l) _ e) in
@@ -45,7 +45,7 @@ module _ (k : Key) where
 
   the_one : (ks : List Key) → AtMostOne ks → any (same_key k) ks ≡ first_is k ks
   the_one [] no_group = refl
-  the_one (l ∷ []) one_group = or_false (same_key k l)
+  the_one (l ∷ []) one_group = or-false (same_key k l)
 
 -- a row that isn't well-formed says nothing
 keyed : (k : Key) (r : RowReading) → first_is k (facts_in r).keys ≡ true → own r ≡ 0

@@ -6,7 +6,7 @@ use Prim.Native.Nat.{ℕ, zero, suc, ◌-◌, ◌<◌}
 use native.Mathlib.Omega.{arith}
 use lib.Dec.{eqb, ltb}
 use lib.ListN.{length}
-use borrow.Author.Tests.{lt-ltb, not_true}
+use borrow.Author.Tests.{lt-ltb, not-true}
 use Rattle.laws.specs.Lists.{any, keep}
 use Rattle.laws.specs.Prefix.{any_with, all_from}
 use Rattle.laws.proofs.Cases.{and_left, and_right, and_both, false≢true, false_of}
@@ -24,7 +24,7 @@ use Rattle.meaning.proofs.TestLaws.{same_test}
 
 unshared : (rows : List Entry) (o : Entry) → sound rows o ≡ true → shared rows o ≡ false
 unfolding sound
-unshared rows o e = not_true (shared rows o) (and_right (eqb (own o.reading) 0) (not (shared rows o)) e)
+unshared rows o e = not-true (shared rows o) (and_right (eqb (own o.reading) 0) (not (shared rows o)) e)
 
 module _ (rows : List Entry) (k : Key) where
   abbrev n : ℕ

@@ -1,6 +1,6 @@
 -- Reason 9 by ids: a row shares a key just where more than one row holds one of its ids.
 use mathlib.Core.Path.{◌≡◌, refl, ap, ap₂, sym, ◌∙◌}
-use mathlib.Core.Bool.{Bool, true, false, not, ◌&&◌, ◌||◌, and_false, or_false}
+use mathlib.Core.Bool.{Bool, true, false, not, ◌&&◌, ◌||◌, and-false, or-false}
 use mathlib.Core.List.{List, [], ◌∷◌}
 use Prim.Native.Nat.{ℕ, ◌<◌}
 use native.Mathlib.Omega.{arith}
@@ -74,12 +74,12 @@ module _ (c : Coding) (symbols : List Symbol) (rows : List Entry) (formed key1 k
           → get_or key2 i 0 ≡ first_id c symbols (drop 1 ks)
           → any_with (λ j. not (eqb i j) && any (holds (kept_entry rows j)) ks) n ≡ (ltb 1 (under holders key1 i) || ltb 1 (under holders key2 i))
       by-keys [] q zero_keys none a b =
-          any_none n (λ j. not (eqb i j) && false) (λ j r. and_false (not (eqb i j))) ∙ sym (rw (under_none key1 i a, under_none key2 i b))
+          any_none n (λ j. not (eqb i j) && false) (λ j r. and-false (not (eqb i j))) ∙ sym (rw (under_none key1 i a, under_none key2 i b))
       by-keys (k ∷ []) q one_key (more h none) a b =
           any_with_same (λ j. not (eqb i j) && (holds (kept_entry rows j) k || false)) (λ j. not (eqb i j) && holds (kept_entry rows j) k) n
-          (λ j r. ap (λ (t : Bool). not (eqb i j) && t) (or_false (holds (kept_entry rows j) k)))
+          (λ j r. ap (λ (t : Bool). not (eqb i j) && t) (or-false (holds (kept_entry rows j) k)))
           ∙ others_hold k h i p (own_key k (rw (q, same_key_self k)))
-          ∙ sym (rw (under_none key2 i b, under_key key1 i k h a) (or_false (ltb 1 (holders_of formed key1 key2 n (key_id c symbols k)))))
+          ∙ sym (rw (under_none key2 i b, under_key key1 i k h a) (or-false (ltb 1 (holders_of formed key1 key2 n (key_id c symbols k)))))
       by-keys (k ∷ l ∷ []) q (two_keys z) (more h (more g none)) a b =
           any_with_same (λ j. not (eqb i j) && (holds (kept_entry rows j) k || (holds (kept_entry rows j) l || false)))
           (λ j. (not (eqb i j) && holds (kept_entry rows j) k) || (not (eqb i j) && holds (kept_entry rows j) l)) n

@@ -1,6 +1,6 @@
 -- Tests joined.
 use mathlib.Core.Path.{◌≡◌, refl, ap, sym}
-use mathlib.Core.Bool.{Bool, true, false, not, ◌&&◌, ◌||◌, or_false}
+use mathlib.Core.Bool.{Bool, true, false, not, ◌&&◌, ◌||◌, or-false}
 use Prim.Native.Nat.{ℕ}
 use lib.Dec.{eqb, ltb, leb}
 use borrow.Author.Tests.{ltb-true, ltb-false, le-leb, lt-leb}
@@ -22,7 +22,7 @@ not_or true b = refl
 not_or false b = refl
 
 pub spread : (t a b : Bool) → (t && (a || (b || false))) ≡ ((t && a) || (t && b))
-spread true a b = ap (λ (z : Bool). a || z) (or_false b)
+spread true a b = ap (λ (z : Bool). a || z) (or-false b)
 spread false a b = refl
 
 pub flag_is : (t : Bool) → eqb (flag t) 1 ≡ t

@@ -1,4 +1,6 @@
 // Whether what a row names is there, good and of the kind asked.
+#![tactic(auto)]
+
 ghost use Rattle.std.specs.Prelude.{◌≡◌};
 ghost use Rattle.met_names.specs.Names.{asked_at, met_at};
 

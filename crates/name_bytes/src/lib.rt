@@ -1,4 +1,6 @@
 // Names: a byte array and a length. Bytes past the length are 0.
+#![tactic(auto)]
+
 ghost use Rattle.std.specs.Prelude.{◌≡◌, ◌&&◌, ◌++◌, ◌≤◌, eqb, length, drop};
 ghost use Rattle.name_bytes.specs.Names.{name_of, curve_name_of, same_bytes, same_name, same_curve_name};
 

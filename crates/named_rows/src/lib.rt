@@ -1,4 +1,6 @@
 // Rows that hold a key which a row names.
+#![tactic(auto)]
+
 ghost use Rattle.std.specs.Prelude.{◌≡◌, ◌&&◌};
 ghost use Rattle.key_rows.specs.KeyRows.{has_key};
 ghost use Rattle.named_rows.specs.NamedRows.{stands_at, named_by, named_at_by, follower_by};

@@ -1,4 +1,6 @@
 // The text of a coefficient: how far its characters are one, and the numbers that they write.
+#![tactic(auto)]
+
 pub mod wrong;
 
 ghost use Rattle.std.specs.Prelude.{◌<◌, ◌^◌, ◌≡◌};

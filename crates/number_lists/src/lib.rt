@@ -1,4 +1,6 @@
 // The list of row numbers that a question names.
+#![tactic(auto)]
+
 ghost use Rattle.std.specs.Prelude.{◌≡◌, length};
 ghost use Rattle.lines.specs.Columns.{columns_of};
 ghost use Rattle.escapes.specs.Escapes.{read_in, NoMoreThan};

@@ -1,4 +1,6 @@
 // Where a text goes wrong as a number.
+#![tactic(auto)]
+
 ghost use Rattle.std.specs.Prelude.{◌≤◌, ◌≡◌, false, length};
 ghost use Rattle.laws.specs.Walks.{lead_on};
 ghost use Rattle.numbers.specs.Number.{minus, leading_zero, digits};

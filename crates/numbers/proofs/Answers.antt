@@ -1,7 +1,7 @@
 -- What each answer says of the number that a text is.
 use mathlib.Core.Path.{◌≡◌, refl, subst}
 use mathlib.Core.List.{List}
-use mathlib.Core.Bool.{false, ◌&&◌, and_false}
+use mathlib.Core.Bool.{false, ◌&&◌, and-false}
 use mathlib.Core.Option.{Option, some, none}
 use Prim.Native.Nat.{ℕ, suc, ◌^◌, ◌≤◌, ◌<◌}
 use native.Mathlib.Omega.{arith}
@@ -77,5 +77,5 @@ below n (negsuc a) h = lt-leb n a (omega arith)
 
 -- a large number is in no range whose ends are small
 pub large_outside : (lo v hi : ℤ) → nat_abs lo < 2 ^ 60 → nat_abs hi < 2 ^ 60 → 2 ^ 60 ≤ nat_abs v → (le_z lo v && le_z v hi) ≡ false
-large_outside lo (pos n) hi p q h = rw (above n hi (omega arith)) (and_false (le_z lo (pos n)))
+large_outside lo (pos n) hi p q h = rw (above n hi (omega arith)) (and-false (le_z lo (pos n)))
 large_outside lo (negsuc n) hi p q h = rw (below n lo (omega arith))

@@ -1,6 +1,6 @@
 -- Laws of a character that is tested against a range of characters.
 use mathlib.Core.Path.{◌≡◌}
-use mathlib.Core.Bool.{true, false, and_false}
+use mathlib.Core.Bool.{true, false, and-false}
 use Prim.Native.Nat.{ℕ, ◌≤◌, ◌<◌}
 use lib.Dec.{leb}
 use borrow.Author.Tests.{le-leb, lt-leb}
@@ -18,4 +18,4 @@ module _ (a z c : ℕ) where
 
   -- one behind it
   pub over : z < c → between a z c ≡ false
-  over h = rw (lt-leb c z h) (and_false (leb a c))
+  over h = rw (lt-leb c z h) (and-false (leb a c))

@@ -1,4 +1,5 @@
 // The text of a number and its value.
+#![tactic(auto)]
 
 ghost use Rattle.std.specs.Prelude.{◌≤◌, ◌≡◌};
 ghost use Rattle.numbers.specs.Number.{minus, leading_zero, hex_mark, digits, digit_of, spelt, meaning, number_of, answer_of};

@@ -1,6 +1,6 @@
 -- The occurrences left, checked from what the earlier ones made, answer what all of them answer from the start.
 use mathlib.Core.Path.{◌≡◌, refl, ap, sym, ◌∙◌}
-use mathlib.Core.Bool.{Bool, true, false, cond, ◌||◌, or_true, or_false, or_assoc}
+use mathlib.Core.Bool.{Bool, true, false, cond, ◌||◌, or-true, or-false, or_assoc}
 use mathlib.Core.List.{List, [], ◌∷◌, map}
 use Prim.Native.Nat.{ℕ, suc, ◌+◌, ◌-◌, ◌≤◌, ◌<◌}
 use native.Mathlib.Omega.{arith}
@@ -24,15 +24,15 @@ use Rattle.occurrences.specs.declared.Pass.{Pass}
 module _ (n : ℕ) (pass : Pass) where
   pub after_off : n ≡ 30 → record { progress = pass.progress; off = true; beyond = pass.beyond } ≡ after_refusal n pass
   unfolding after_refusal
-  after_off e = rw (e, or_true pass.off, or_false pass.beyond)
+  after_off e = rw (e, or-true pass.off, or-false pass.beyond)
 
   pub after_beyond : n ≡ 31 → record { progress = pass.progress; off = pass.off; beyond = true } ≡ after_refusal n pass
   unfolding after_refusal
-  after_beyond e = rw (e, or_true pass.beyond, or_false pass.off)
+  after_beyond e = rw (e, or-true pass.beyond, or-false pass.off)
 
   pub after_other : (n ≡ 30 → ⊥) → (n ≡ 31 → ⊥) → pass ≡ after_refusal n pass
   unfolding after_refusal
-  after_other h k = rw (ne_eqb n 30 h, ne_eqb n 31 k, or_false pass.off, or_false pass.beyond)
+  after_other h k = rw (ne_eqb n 30 h, ne_eqb n 31 k, or-false pass.off, or-false pass.beyond)
 
 -- what a value makes of it
 module _ (nbchck : ℕ) (severity : ℤ → Severity) (pass : Pass) {value : Outcome ℤ} where
@@ -59,7 +59,7 @@ module _ (nbchck : ℕ) (severity : ℤ → Severity) where
       (answer (after_readings nbchck (map severity (answered values)) pass.progress)))
       )
   unfolding ended after_values after_value after_refusal is_refusal answered after_readings
-  ended_is [] pass = rw (or_false pass.off, or_false pass.beyond)
+  ended_is [] pass = rw (or-false pass.off, or-false pass.beyond)
   ended_is (answer z ∷ later) pass = ended_is later (after_value nbchck severity (answer z) pass)
   ended_is (refused n place ∷ later) pass =
       ended_is later (after_value nbchck severity (refused n place) pass)

@@ -1,4 +1,6 @@
 // The occurrences of a parameter in a packet, checked in order.
+#![tactic(auto)]
+
 ghost use Rattle.std.specs.Prelude.{◌≡◌};
 ghost use Rattle.rows.specs.declared.records.PlfRow as declared;
 ghost use Rattle.outcomes.specs.Outcome.{and_then};

@@ -1,4 +1,6 @@
 // A limit state as five numbers, which is how a program in another language keeps it.
+#![tactic(auto)]
+
 ghost use Rattle.std.specs.Prelude.{◌≡◌, ◌<◌, pos, nat_abs, get_or};
 ghost use Rattle.offered.specs.Offered.{is_within, are_fields, said_offered, offered_state};
 

@@ -1,4 +1,6 @@
 // A limit step of a state that comes as five numbers.
+#![tactic(auto)]
+
 ghost use Rattle.std.specs.Prelude.{◌≡◌, map};
 ghost use Rattle.outcomes.specs.Refusals.{refused_by};
 ghost use Rattle.offered.specs.Offered.{offered_state};

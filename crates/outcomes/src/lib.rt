@@ -1,4 +1,6 @@
 // What questions answer: a value, or why there is none, with 01's number and place.
+#![tactic(auto)]
+
 ghost use Rattle.std.specs.Prelude.{◌≡◌};
 ghost use Rattle.outcomes.specs.Refusals.{refusal_number, refusal_place};
 

@@ -1,4 +1,6 @@
 // The questions that lend no cells, asked of the tables and the packet.
+#![tactic(auto)]
+
 ghost use Rattle.std.specs.Prelude.{◌≡◌, map};
 ghost use Rattle.packet_questions.specs.PacketReplies.{identify_reply, occurrence_in, extract_reply, engineer_reply, reply_to};
 

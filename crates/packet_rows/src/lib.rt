@@ -1,4 +1,6 @@
 // The rows that packets are identified by, by their numbers.
+#![tactic(auto)]
+
 ghost use Rattle.std.specs.Prelude.{◌≡◌, map};
 ghost use Rattle.database.specs.Arrays.{database, answers};
 ghost use Rattle.packet_rows.specs.Packets.{packets_by, said_packet};

@@ -1,4 +1,6 @@
 // The rows of a parameter in a packet.
+#![tactic(auto)]
+
 ghost use Rattle.std.specs.Prelude.{ℕ, ◌≡◌, List, false};
 ghost use Rattle.database.specs.Arrays.{database, answers};
 ghost use Rattle.parameters.specs.Located.{located, at_places};

@@ -1,4 +1,6 @@
 // Each kind of answer as a refusal or as values.
+#![tactic(auto)]
+
 ghost use Rattle.std.specs.Prelude.{◌≡◌};
 ghost use Rattle.import.specs.Judged as import;
 ghost use Rattle.outcomes.specs.Values.{value_of};

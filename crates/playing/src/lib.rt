@@ -1,4 +1,6 @@
 // The packets that stand end to end in bytes, each offered to the limit step of a parameter over loaded tables.
+#![tactic(auto)]
+
 ghost use Rattle.std.specs.Prelude.{◌≡◌, map};
 ghost use Rattle.database.specs.Arrays.{database, answers};
 ghost use Rattle.accepting.specs.Accepted.{state_after};

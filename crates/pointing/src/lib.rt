@@ -1,4 +1,6 @@
 // Which rows a row's verdict points to, by what is kept of the rows and the cells of their verdicts.
+#![tactic(auto)]
+
 ghost use Rattle.std.specs.Prelude.{◌≡◌, ◌-◌, length};
 ghost use Rattle.laws.specs.Prefix.{all_from};
 ghost use Rattle.pointing.specs.Pointing.{points_to, first_of};

@@ -1,4 +1,6 @@
 // The polynomial that a parameter's CURTX names.
+#![tactic(auto)]
+
 ghost use Rattle.std.specs.Prelude.{◌≡◌, map};
 ghost use Rattle.verdicts.specs.Key as key;
 ghost use Rattle.database.specs.Arrays.{database, answers};

@@ -1,4 +1,6 @@
 // Polynomial curves.
+#![tactic(auto)]
+
 ghost use Rattle.std.specs.Prelude.{◌≡◌, to_bits};
 ghost use Rattle.std.specs.Float.{binary64};
 ghost use Rattle.polynomials.specs.Polynomial.{polynomial_at};

@@ -1,4 +1,6 @@
 // Where the number of a row went wrong: the positions beside the cells.
+#![tactic(auto)]
+
 ghost use Rattle.std.specs.Prelude.{◌≡◌, map, ◌-◌, ◌%◌, min};
 ghost use Rattle.lines.specs.Lines.{line_from};
 ghost use Rattle.schemas.specs.Positions.{position_in, kind_of};

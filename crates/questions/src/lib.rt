@@ -1,4 +1,6 @@
 // A question asked of the tables and the packet, and whether the line under it is the answer.
+#![tactic(auto)]
+
 ghost use Rattle.std.specs.Prelude.{◌≡◌, map};
 ghost use Rattle.escapes.specs.Escapes.{read_in};
 ghost use Rattle.questions.specs.Questions.{step_judged, answer_to, question_verdict, judged_text, question_bytes, judged};

@@ -1,4 +1,6 @@
 // Raw values: occurrence k of a parameter in a packet, by where its plf row locates it, and its pcf row.
+#![tactic(auto)]
+
 pub mod place;
 
 ghost use Rattle.std.specs.Prelude.{◌≡◌, ◌+◌, ◌*◌, ◌<◌, ◌≤◌, length};

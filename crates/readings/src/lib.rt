@@ -1,4 +1,6 @@
 // Readings: a raw value in a packet, and whether it is valid; validity along rows of a VALID chain that have been read.
+#![tactic(auto)]
+
 mod along;
 
 ghost use Rattle.std.specs.Prelude.{◌≡◌, min};

@@ -1,4 +1,6 @@
 // Offers the packets of an archive, one after the other, to the limit step of a parameter.
+#![tactic(auto)]
+
 mod options;
 
 ghost use Rattle.directories.specs.Space.{DirectoryInto};

@@ -1,4 +1,6 @@
 // An archive of any length, read in blocks, its packets offered to the limit step of a parameter over loaded tables.
+#![tactic(auto)]
+
 ghost use Rattle.std.specs.Prelude.{map};
 ghost use Rattle.database.specs.Arrays.{database, answers};
 ghost use Rattle.replaying.specs.Replayed.{AtStart, BlockReplayed, Replayed};

@@ -1,4 +1,6 @@
 // The order in which rows that aren't good are told: a cause before what leans on it.
+#![tactic(auto)]
+
 ghost use Rattle.std.specs.Prelude.{◌≡◌, min, ◌+◌, ◌*◌, ◌≤◌, ◌<◌, ◌&&◌, eqb, length, get_or, set, replicate};
 ghost use Rattle.std.proofs.lemmas.List.Edits.{sets};
 ghost use Rattle.laws.specs.Prefix.{all_from};

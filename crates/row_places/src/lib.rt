@@ -1,4 +1,6 @@
 // Where a row stands that goes by its place among all rows, from 0: its table, and its number there.
+#![tactic(auto)]
+
 ghost use Rattle.std.specs.Prelude.{◌≡◌};
 ghost use Rattle.row_places.specs.Places.{table_number, row_number};
 

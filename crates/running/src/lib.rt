@@ -1,4 +1,6 @@
 // A vector file line by line.
+#![tactic(auto)]
+
 ghost use Rattle.std.specs.Prelude.{◌≡◌, ℕ, true, List, if◌then◌else◌};
 ghost use Rattle.std.proofs.Math.Option.{some, none};
 ghost use Rattle.lines.specs.Columns.{part_of};

@@ -10,7 +10,7 @@ use lib.Dec.{eqb, ltb}
 use lib.IntN.{ℤ}
 use lib.ListN.{length, get_or}
 use lib.Signed.{le_z}
-use borrow.Author.Tests.{eq-eqb, eqb-true, eqb-false, le-ltb, ltb-false, not_false}
+use borrow.Author.Tests.{eq-eqb, eqb-true, eqb-false, le-ltb, ltb-false, not-false}
 use Rattle.laws.proofs.Cases.{bool_cases, false≢true, and_left, and_right}
 use Rattle.numbers.specs.Number.{number_of}
 use Rattle.number_positions.specs.Positions.{no_digits}
@@ -74,9 +74,9 @@ shaped columns line e =
     let next = second (foreign_in line.bytes) (λ z. omega arith) first.1 in
     let last = second (not (eqb (length (columns_of line.bytes)) (length columns))) (λ z. omega arith) next.1 in
     let line-ends = neither (not line.ended) (ltb 512 (length line.bytes)) first.0 in
-    let n = eqb-true (length (columns_of line.bytes)) (length columns) (not_false _ last.0) in
+    let n = eqb-true (length (columns_of line.bytes)) (length columns) (not-false _ last.0) in
     record {
-      ended = not_false line.ended line-ends.0;
+      ended = not-false line.ended line-ends.0;
       short = ltb-false 512 (length line.bytes) line-ends.1;
       clean = next.0;
       counted = n;

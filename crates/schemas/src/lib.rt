@@ -1,4 +1,6 @@
 // The columns of the tables, and reasons 1 to 7 of a row's verdict.
+#![tactic(auto)]
+
 pub mod by_table;
 pub mod coded;
 pub mod positions;

@@ -1,4 +1,6 @@
 // Which packet it is, by a search of an index of the pid rows.
+#![tactic(auto)]
+
 ghost use Rattle.std.specs.Prelude.{◌≡◌, true, map};
 ghost use Rattle.database.specs.Arrays.{database, answers};
 ghost use Rattle.outcomes.specs.Outcome.{answer, and_then};

@@ -1,4 +1,6 @@
 // The lines that set tables, the packet and the limit state.
+#![tactic(auto)]
+
 ghost use Rattle.std.specs.Prelude.{◌≡◌, [], ◌≤◌};
 ghost use Rattle.lines.specs.Columns.{part_of};
 ghost use Rattle.escapes.specs.Escapes.{read_in};

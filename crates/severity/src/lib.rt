@@ -1,4 +1,6 @@
 // The severity of a value by the checks that apply.
+#![tactic(auto)]
+
 ghost use Rattle.std.specs.Prelude.{◌≡◌, pos, get_or};
 ghost use Rattle.std.specs.Int.Signed.{lt_z};
 ghost use Rattle.severity.specs.Violations.{is_violated};

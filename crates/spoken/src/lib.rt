@@ -1,4 +1,6 @@
 // What a line says of an answer: its words, numbers and cells, letter by letter.
+#![tactic(auto)]
+
 pub mod cells;
 pub mod decimal;
 pub mod fit;

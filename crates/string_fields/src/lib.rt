@@ -1,4 +1,6 @@
 // Strings: whole bytes of a packet.
+#![tactic(auto)]
+
 ghost use Rattle.std.specs.Prelude.{◌≡◌};
 ghost use Rattle.string_fields.specs.Text.{said_string, string_at, part_at};
 

@@ -1,4 +1,6 @@
 // Asks a question of every packet of an archive, on tables that are loaded once.
+#![tactic(auto)]
+
 mod archive;
 mod directory;
 mod loaded;

@@ -1,4 +1,6 @@
 // The symbol table: keys in lent arrays, each once, so that a key goes by a small number, its id.
+#![tactic(auto)]
+
 mod paths;
 mod places;
 

@@ -1,4 +1,6 @@
 // The names of the tables and of their columns.
+#![tactic(auto)]
+
 ghost use Rattle.std.specs.Prelude.{◌≡◌, ◌≤◌, length};
 ghost use Rattle.lines.specs.Columns.{columns_of};
 ghost use Rattle.table_names.specs.Headings.{column_name, table_name};

@@ -1,4 +1,6 @@
 // The tables as one array of slices: a table by its number, its rows counted, and refusals 1 and 2.
+#![tactic(auto)]
+
 ghost use Rattle.std.specs.Prelude.{◌≡◌, cond, map, [], eqb, ◌≤◌, ◌<◌, length, get_or, take};
 ghost use Rattle.lines.specs.Lines.{line_feed, lines_of, whole};
 ghost use Rattle.verdicts.specs.Entries.{table_count, carried_at};

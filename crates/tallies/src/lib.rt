@@ -1,4 +1,6 @@
 // How many questions were asked, how many answers differ, and how many lines can't be read: of one file and of several.
+#![tactic(auto)]
+
 ghost use Rattle.std.specs.Prelude.{◌≡◌, get_or};
 ghost use Rattle.laws.specs.Values.{tabulate};
 ghost use Rattle.scripts.specs.Words.{question_count};

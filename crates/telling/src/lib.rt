@@ -1,4 +1,6 @@
 // An answer in plain numbers, as a caller in another language takes it.
+#![tactic(auto)]
+
 pub mod deliver;
 pub mod tell;
 pub mod words;

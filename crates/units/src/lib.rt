@@ -1,4 +1,5 @@
 // One tuple struct for each kind of number (01: "Row numbers, SPIDs, byte offsets and bit offsets are never mixed").
+#![tactic(auto)]
 
 // The number by which people know a table, counted from 1: pid is 1 and ocp 10. Its place in an array is one less.
 #[derive(Drop)]

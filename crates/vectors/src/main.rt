@@ -1,5 +1,7 @@
 // Asks the questions of vector files, and says which answers differ from those that stand under them.
 // docs/VECTORS.md has the format.
+#![tactic(auto)]
+
 mod totals;
 
 ghost use Rattle.std.specs.Prelude.{◌≡◌, replicate};

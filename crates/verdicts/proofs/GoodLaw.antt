@@ -6,7 +6,7 @@ use mathlib.Core.List.{List, map}
 use Prim.Native.Nat.{◌+◌}
 use native.Mathlib.Omega.{arith}
 use lib.Dec.{eqb}
-use borrow.Author.Tests.{eqb-true, eq-eqb, not_true}
+use borrow.Author.Tests.{eqb-true, eq-eqb, not-true}
 use Rattle.laws.specs.Lists.{first}
 use Rattle.laws.proofs.Cases.{and_left, and_right}
 use Rattle.laws.proofs.First.{or_else_zero, first_zero, zero_first, unless_zero, when_zero}
@@ -59,7 +59,7 @@ module _ (rows : List Entry) where
         verdict_law rows e
         ∙ rw (
           eqb-true (own e.reading) 0 (and_left _ _ g.is_sound),
-          not_true (shared rows e) (and_right (eqb (own e.reading) 0) _ g.is_sound),
+          not-true (shared rows e) (and_right (eqb (own e.reading) 0) _ g.is_sound),
           g.on_no_circle,
           zero_first (count_cell rows) (facts e).counts (λ c m. rw (eq-eqb _ _ (g.counted c m))),
         )

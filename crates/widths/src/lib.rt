@@ -1,4 +1,6 @@
 // The width of a field by its type code and format code.
+#![tactic(auto)]
+
 ghost use Rattle.std.specs.Prelude.{◌≡◌, ◌*◌};
 ghost use Rattle.widths.specs.Width.{bits_of, width_of, bits_within, integer_width, real_width};
 

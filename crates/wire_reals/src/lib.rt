@@ -1,4 +1,6 @@
 // What a field of PTC 5 says.
+#![tactic(auto)]
+
 ghost use Rattle.std.specs.Prelude.{◌≡◌};
 ghost use Rattle.wire_reals.specs.Reals.{real_bits, bits_told};
 

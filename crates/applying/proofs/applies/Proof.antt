@@ -4,7 +4,7 @@ use mir.Facts.{to_z-of_z}
 use mir.Syntax.{w64}
 use mir.Val.{SFits, to_z, of_z}
 use borrow.Author.Rules.{rules}
-use borrow.Author.Tests.{not_true, not_false}
+use borrow.Author.Tests.{not-true, not-false}
 use Rattle.applying.specs.Checks.{has_value}
 use Rattle.applying.proofs.ApplyLaws.{applies_free, applies_nowhere, applies_located}
 use Rattle.applying.proofs.applies.Statement.{statement}
@@ -17,7 +17,7 @@ valpar-word s =
     to_z-of_z f
 
 returns : tie.Need-returns
-returns c = applies_free _ _ _ _ (not_true _ c.if1.true)
+returns c = applies_free _ _ _ _ (not-true _ c.if1.true)
 
 locate-requires : tie.Need-locate-requires
 locate-requires c κs = search rules
@@ -25,7 +25,7 @@ locate-requires c κs = search rules
 returns-2 : tie.Need-returns-2
 returns-2 c =
     let a = c.before.before in
-    applies_nowhere _ _ _ _ _ _ _ (not_false _ a.before.before.if1.false) (a.locate.ensures _) (not_true _ c.if2.true)
+    applies_nowhere _ _ _ _ _ _ _ (not-false _ a.before.before.if1.false) (a.locate.ensures _) (not-true _ c.if2.true)
 
 location-at-requires : tie.Need-location-at-requires
 location-at-requires c κs = search rules
@@ -46,7 +46,7 @@ returns-3 c =
     let a = e.before.before in
     let g = a.before.before in
     let s = g.before.before.before.before.before.before in
-    applies_located _ _ _ s.args.row _ _ _ (not_false _ g.if1.false) (a.locate.ensures _) (not_false _ e.if2.false)
+    applies_located _ _ _ s.args.row _ _ _ (not-false _ g.if1.false) (a.locate.ensures _) (not-false _ e.if2.false)
     _ _ r.before.pcf-at.ensures (r.raw_of.ensures _ r.before.before.location-at.ensures) (c.has_value.ensures ∙ ap (has_value _) (valpar-word s))
 
 pub applies-spec : {M : Type 1} → statement M

@@ -1,6 +1,6 @@
 -- Without the flag none; with it the row of this APID, else the one of none.
 use borrow.Author.Rules.{rules}
-use borrow.Author.Tests.{not_true, not_false}
+use borrow.Author.Tests.{not-true, not-false}
 use mathlib.Core.Path.{◌≡◌, ◌∙◌}
 use mathlib.Core.List.{List}
 use Prim.Native.Nat.{ℕ}
@@ -28,7 +28,7 @@ with-flag : (c : tie.After-struct-known2) (texts : List (List ℕ))
     ≡ pic_row_of (rows c texts) (start c).args.head (start c).args.p.now
 with-flag c texts =
     let b = c.before.before in
-    pic_flagged _ _ _ (not_false _ b.before.if1.false) b.header-byte.ensures c.before.header-byte2.ensures
+    pic_flagged _ _ _ (not-false _ b.before.if1.false) b.header-byte.ensures c.before.header-byte2.ensures
 
 -- the row of this APID
 own : (c : tie.After-holder-of) (texts : List (List ℕ)) → (let k = c.before.before in
@@ -38,7 +38,7 @@ own c texts = let e = c.before.identification-key.ensures in holder_is texts _ _
 
 returns : tie.Need-returns
 unfolding row_for
-returns c texts = pic_plain _ _ _ (not_true _ c.if1.true)
+returns c texts = pic_plain _ _ _ (not-true _ c.if1.true)
 
 header-byte-requires : tie.Need-header-byte-requires
 header-byte-requires c κs = search rules

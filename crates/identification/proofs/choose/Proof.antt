@@ -1,6 +1,6 @@
 -- A key that fits is sought, and the row found is read.
 use borrow.Author.Rules.{rules}
-use borrow.Author.Tests.{not_true, not_false}
+use borrow.Author.Tests.{not-true, not-false}
 use mathlib.Core.Path.{◌≡◌, sym, ◌∙◌}
 use mathlib.Core.Bool.{true}
 use Rattle.key_symbols.specs.Keyed.{symbol_of}
@@ -15,7 +15,7 @@ use Rattle.identification.proofs.choose.Tie as tie
 -- the key fits, and its symbol is asked for
 fit : (c : tie.Else1) → (let k = c.before.before.packet-key.result in let n = c.before.before.before.before.before.before.args.numbers in
     (k.key ≡ symbol_of (packet_of n)) × (key_fits (packet_of n) ≡ true))
-fit c = let e = c.before.before.packet-key.ensures in let t = not_false _ c.if1.false in (e.1 t, sym e.0 ∙ t)
+fit c = let e = c.before.before.packet-key.ensures in let t = not-false _ c.if1.false in (e.1 t, sym e.0 ∙ t)
 
 packet-key-requires : tie.Need-packet-key-requires
 packet-key-requires c κs = search rules
@@ -24,7 +24,7 @@ returns : tie.Need-returns
 unfolding said_identified refused_by refusal_number refusal_place
 returns c =
     let k = c.before.before in
-    choice_none _ _ (holder_unfit _ _ (sym k.packet-key.ensures.0 ∙ not_true _ c.if1.true))
+    choice_none _ _ (holder_unfit _ _ (sym k.packet-key.ensures.0 ∙ not-true _ c.if1.true))
 
 holder-of-requires : tie.Need-holder-of-requires
 holder-of-requires c κs = search rules

@@ -4,7 +4,7 @@ use Prim.Native.Nat.{◌-◌, ◌≤◌}
 use native.Mathlib.Omega.{arith}
 use lib.ListN.{length}
 use borrow.Author.Rules.{rules}
-use borrow.Author.Tests.{not_true, not_false}
+use borrow.Author.Tests.{not-true, not-false}
 use Rattle.index_entries.specs.Loaded.{packets_in}
 use Rattle.index_test.proofs.TestLaws.{Testing, start, ended, no_packet, no_rise, more}
 use Rattle.index_test.proofs.rises.Statement.{statement}
@@ -35,7 +35,7 @@ returns : tie.Need-returns invariant-loop decreases-loop
 returns c =
     let a = c.before.before in
     let l = a.before.before.before.before in
-    no_packet _ _ _ _ l.loop.invariant.1 (omega arith) a.before.row_of.ensures a.entry_at.ensures.0 (not_true _ c.if1.true)
+    no_packet _ _ _ _ l.loop.invariant.1 (omega arith) a.before.row_of.ensures a.entry_at.ensures.0 (not-true _ c.if1.true)
 
 follows-requires : tie.Need-follows-requires invariant-loop decreases-loop
 follows-requires c κs = search rules
@@ -45,7 +45,7 @@ returns-2 c =
     let f = c.before in
     let a = f.before.before.before.before in
     let l = a.before.before.before.before in
-    no_rise _ _ _ _ l.loop.invariant.1 (omega arith) a.before.row_of.ensures a.entry_at.ensures.1 f.follows.ensures (not_true _ c.if2.true)
+    no_rise _ _ _ _ l.loop.invariant.1 (omega arith) a.before.row_of.ensures a.entry_at.ensures.1 f.follows.ensures (not-true _ c.if2.true)
 
 add-i : tie.Need-overflow-add-i invariant-loop decreases-loop
 add-i c = omega arith
@@ -61,7 +61,7 @@ loop-again c =
     let l = a.before.before.before.before in (
       omega arith,
       more _ _ _ _ l.loop.invariant.1 (omega arith) a.before.row_of.ensures a.entry_at.ensures.1 a.entry_at.ensures.0
-          (not_false _ e.if1.false) f.follows.ensures (not_false _ c.if2.false),
+          (not-false _ e.if1.false) f.follows.ensures (not-false _ c.if2.false),
     )
 
 returns-3 : tie.Need-returns-3 invariant-loop decreases-loop

@@ -1,7 +1,7 @@
 -- By whether its fields can hold the numbers.
 use mathlib.Core.Path.{sym, ◌∙◌}
 use native.Mathlib.Omega.{arith}
-use borrow.Author.Tests.{not_true, not_false}
+use borrow.Author.Tests.{not-true, not-false}
 use Rattle.offered.proofs.OfferedLaws.{apid_fits, count_fits, run_fits, announced_fits, offered_is, offered_none}
 use borrow.Author.Rules.{rules}
 use Rattle.offered.proofs.state_of.Statement.{statement}
@@ -11,7 +11,7 @@ are-fields-requires : tie.Need-are-fields-requires
 are-fields-requires c κs = search rules
 
 returns : tie.Need-returns
-returns c = offered_none _ (sym c.before.are-fields.ensures ∙ not_true _ c.if1.true)
+returns c = offered_none _ (sym c.before.are-fields.ensures ∙ not-true _ c.if1.true)
 
 size-at-requires : tie.Need-size-at-requires
 size-at-requires c κs = search rules
@@ -26,7 +26,7 @@ cast-apid c =
         arith,
         c.size-at2.ensures,
         apid_fits _
-            (sym c.before.before.before.are-fields.ensures ∙ not_false _ c.before.before.if1.false),
+            (sym c.before.before.before.are-fields.ensures ∙ not-false _ c.before.before.if1.false),
       );
     }
 
@@ -40,7 +40,7 @@ cast-count c =
         arith,
         c.size-at3.ensures,
         count_fits _
-            (sym c.before.before.before.before.are-fields.ensures ∙ not_false _ c.before.before.before.if1.false),
+            (sym c.before.before.before.before.are-fields.ensures ∙ not-false _ c.before.before.before.if1.false),
       );
     }
 
@@ -54,7 +54,7 @@ cast-run c =
         arith,
         c.size-at4.ensures,
         run_fits _
-            (sym c.before.before.before.before.before.are-fields.ensures ∙ not_false _ c.before.before.before.before.if1.false),
+            (sym c.before.before.before.before.before.are-fields.ensures ∙ not-false _ c.before.before.before.before.if1.false),
       );
     }
 
@@ -68,14 +68,14 @@ cast-announced c =
         arith,
         c.size-at5.ensures,
         announced_fits _
-            (sym c.before.before.before.before.before.before.are-fields.ensures ∙ not_false _ c.before.before.before.before.before.if1.false),
+            (sym c.before.before.before.before.before.before.are-fields.ensures ∙ not-false _ c.before.before.before.before.before.if1.false),
       );
     }
 
 returns-2 : tie.Need-returns-2
 returns-2 c =
     offered_is _
-    (sym c.before.before.before.before.before.before.are-fields.ensures ∙ not_false _ c.before.before.before.before.before.if1.false)
+    (sym c.before.before.before.before.before.before.are-fields.ensures ∙ not-false _ c.before.before.before.before.before.if1.false)
     c.before.before.before.before.size-at.ensures c.before.before.before.size-at2.ensures c.before.before.size-at3.ensures
     c.before.size-at4.ensures c.size-at5.ensures
 

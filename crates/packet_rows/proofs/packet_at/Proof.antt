@@ -1,6 +1,6 @@
 -- Each test in turn.
 use borrow.Author.Rules.{rules}
-use borrow.Author.Tests.{not_true, not_false}
+use borrow.Author.Tests.{not-true, not-false}
 use mathlib.Core.Path.{◌≡◌, sym, ◌∙◌}
 use mathlib.Core.Bool.{true}
 use Rattle.key_symbols.specs.Keyed.{symbol_of}
@@ -14,7 +14,7 @@ use Rattle.packet_rows.proofs.packet_at.Tie as tie
 -- the key fits, and its symbol is asked for
 fit : (c : tie.Else3) → (let k = c.before.before in
     (k.packet-key.result.key ≡ symbol_of (packet_of k.before.numbers-at.result)) × (key_fits (packet_of k.before.numbers-at.result) ≡ true))
-fit c = let e = c.before.before.packet-key.ensures in let t = not_false _ c.if3.false in (e.1 t, sym e.0 ∙ t)
+fit c = let e = c.before.before.packet-key.ensures in let t = not-false _ c.if3.false in (e.1 t, sym e.0 ∙ t)
 
 returns : tie.Need-returns
 unfolding said_packet
@@ -44,7 +44,7 @@ returns-3 c =
     let k = c.before.before in
     let a = k.before in
     let z = a.before.before.before.before in
-    let unfit = sym k.packet-key.ensures.0 ∙ not_true _ c.if3.true in
+    let unfit = sym k.packet-key.ensures.0 ∙ not-true _ c.if3.true in
     other_row _ _ _ _ _ (λ e. z.if1.false (sym e ∙ held_unfit _ _ _ _ _ a.numbers-at.ensures unfit))
 
 holder-of-requires : tie.Need-holder-of-requires

@@ -1,6 +1,6 @@
 -- By the row that holds the curve's key, where there is one.
 use Rattle.polynomial_curves.proofs.PolynomialLaws.{found_none, found_other, found_polynomial}
-use borrow.Author.Tests.{not_true, not_false}
+use borrow.Author.Tests.{not-true, not-false}
 use borrow.Author.Rules.{rules}
 use Rattle.polynomial_curves.proofs.polynomial_of.Statement.{statement}
 use Rattle.polynomial_curves.proofs.polynomial_of.Tie as tie
@@ -26,7 +26,7 @@ returns-2 c =
     let i = p.before in
     let h = i.before in
     found_other _ _ _ _ _ h.before.curve-key.ensures h.holder-of.ensures.0 i.if1.false p.is-polynomial.ensures
-    (not_true _ c.if2.true)
+    (not-true _ c.if2.true)
 
 sub-mcf-at : tie.Need-overflow-sub-mcf-at
 sub-mcf-at c = search rules
@@ -42,7 +42,7 @@ returns-3 c =
     let i = p.before in
     let h = i.before in
     found_polynomial _ _ _ _ _ h.before.curve-key.ensures h.holder-of.ensures.0 i.if1.false p.is-polynomial.ensures
-    (not_false _ q.if2.false) m.mcf-at.ensures
+    (not-false _ q.if2.false) m.mcf-at.ensures
 
 pub polynomial-of-spec : {M : Type 1} → statement M
 polynomial-of-spec =

@@ -1,6 +1,6 @@
 -- The entry that the search finds is the row's number.
 use borrow.Author.Rules.{rules}
-use borrow.Author.Tests.{not_true, not_false}
+use borrow.Author.Tests.{not-true, not-false}
 use mathlib.Core.Path.{◌≡◌, ap, sym, ◌∙◌}
 use Prim.Native.Nat.{◌<◌, ◌-◌}
 use Rattle.searching.specs.Search.{said_search}
@@ -13,7 +13,7 @@ search-index-requires c κs = search rules
 
 returns : tie.Need-returns
 unfolding said_search
-returns c = none_found _ _ _ _ _ _ c.before.before.search-index.ensures (not_true _ c.if1.true)
+returns c = none_found _ _ _ _ _ _ c.before.before.search-index.ensures (not-true _ c.if1.true)
 
 half-at-requires : tie.Need-half-at-requires
 half-at-requires c κs = search rules
@@ -25,7 +25,7 @@ from : (c : tie.After-half-at) → 0 < c.half_at.result
 from c =
     let s = c.before.before.before in
     rw c.half_at.ensures
-    (entry_from _ _ _ _ _ _ s.before.before.before.before.before.requires s.search-index.ensures (not_false _ c.before.if1.false))
+    (entry_from _ _ _ _ _ _ s.before.before.before.before.before.requires s.search-index.ensures (not-false _ c.before.if1.false))
 
 sub-spid-at : tie.Need-overflow-sub-spid-at
 sub-spid-at c = let f = from c in search rules
@@ -39,7 +39,7 @@ returns-2 c =
     let h = c.before in
     let s = h.before.before.before in
     rw h.half_at.ensures
-    (entry_found _ _ _ _ _ _ s.before.before.before.before.before.requires s.search-index.ensures (not_false _ h.before.if1.false)
+    (entry_found _ _ _ _ _ _ s.before.before.before.before.before.requires s.search-index.ensures (not-false _ h.before.if1.false)
     (rw h.half_at.ensures at c.spid-at.ensures))
 
 pub search-numbers-spec : {M : Type 1} → statement M

@@ -2,7 +2,7 @@ use mathlib.Core.Path.{◌≡◌, ap, sym, ◌∙◌}
 use mathlib.Core.Bool.{true}
 use native.Mathlib.Omega.{arith}
 use borrow.Author.Rules.{rules}
-use borrow.Author.Tests.{not_true, not_false}
+use borrow.Author.Tests.{not-true, not-false}
 use Rattle.symbols.specs.Arrays.{has_space}
 use Rattle.symbols.proofs.AnswerLaws.{Room, room_tells, intern_some, intern_full, intern_new}
 use Rattle.symbols.proofs.intern.Statement.{statement}
@@ -18,7 +18,7 @@ abbrev start : tie.Else2 → tie.Start
 start c = c.before.before.before.before.before.before.before.before.before.before.before
 
 has_room : (c : tie.Else2) → has_space (start c).args.words.now (start c).args.links.now (start c).args.n ≡ true
-has_room c = sym c.before.has_room.ensures ∙ not_false _ c.if2.false
+has_room c = sym c.before.has_room.ensures ∙ not-false _ c.if2.false
 
 room : (c : tie.Else2) → Room (start c).args.words.now (start c).args.links.now (start c).args.n
 room c = room_tells _ _ _ (has_room c)
@@ -63,7 +63,7 @@ same-length-4 c = search rules
 returns-2 : tie.Need-returns-2
 returns-2 c = let s = c.before.before.before.before in
     intern_full _ _ _ _ (ap (λ x. x.at) s.before.before.follow.ensures.is) _ (omega (arith, s.if1.false))
-    (sym c.before.has_room.ensures ∙ not_true _ c.if2.true)
+    (sym c.before.has_room.ensures ∙ not-true _ c.if2.true)
 
 -- src/lib.rt:156:5
 put-requires : tie.Need-put-requires

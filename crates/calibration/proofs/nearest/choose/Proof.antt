@@ -3,7 +3,7 @@ use mathlib.Core.Path.{◌≡◌, sym, ap₂, ◌∙◌}
 use mathlib.Core.Bool.{Bool, true, false, cond}
 use lib.IntN.{pos}
 use lib.ListN.{get_or}
-use borrow.Author.Tests.{not_true, not_false}
+use borrow.Author.Tests.{not-true, not-false}
 use Rattle.laws.proofs.Words.{through_word, kept}
 use Rattle.calibration.specs.Nearest.{passes, nearer, better}
 use Rattle.calibration.specs.declared.nearest.Found.TheVariants.{At}
@@ -30,7 +30,7 @@ chosen c t e =
     let k = c.before.before.before in
     let o = k.before.before.before in
     let a = o.before.before.args in
-    better_than a.side a.xs.now a.v a.n a.best _ t k.best.given.1 (side-is o ∙ not_false _ k.before.before.if1.false)
+    better_than a.side a.xs.now a.v a.n a.best _ t k.best.given.1 (side-is o ∙ not-false _ k.before.before.if1.false)
     (sym (c.is-nearer.ensures ∙ ap₂ (nearer a.side) (kept o.before.item.type-inv o.before.item.ensures)
     (kept c.before.item2.type-inv c.before.item2.ensures)) ∙ e)
 
@@ -41,7 +41,7 @@ on-side-requires : tie.Need-on-side-requires
 on-side-requires c κs = search rules
 
 returns : tie.Need-returns
-returns c = better_off _ _ _ _ _ (side-is c.before ∙ not_true _ c.if1.true)
+returns c = better_off _ _ _ _ _ (side-is c.before ∙ not-true _ c.if1.true)
 
 enum_told : tie.Need-enum-told
 enum_told c = search rules
@@ -56,7 +56,7 @@ is-nearer-requires : tie.Need-is-nearer-requires
 is-nearer-requires c κs = search rules
 
 returns-2 : tie.Need-returns-2
-returns-2 c = better_first _ _ _ _ _ c.enum_told.given.1 (side-is c.before.before.before ∙ not_false _ c.before.before.if1.false)
+returns-2 c = better_first _ _ _ _ _ c.enum_told.given.1 (side-is c.before.before.before ∙ not-false _ c.before.before.if1.false)
 
 returns-3 : tie.Need-returns-3
 returns-3 c = chosen c.before true c.if2.true

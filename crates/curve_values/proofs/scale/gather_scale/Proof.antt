@@ -1,5 +1,5 @@
 -- By CURTX.
-use borrow.Author.Tests.{not_true, not_false}
+use borrow.Author.Tests.{not-true, not-false}
 use Rattle.curve_points.specs.Curves.{xvals_of, yvals_of}
 use Rattle.curve_values.proofs.ScaleLaws.{scale_free, scale_curve, points_free, points_curve}
 use borrow.Author.Rules.{rules}
@@ -8,7 +8,7 @@ use Rattle.curve_values.proofs.scale.gather_scale.Tie as tie
 
 returns : tie.Need-returns
 returns c =
-    let free = not_true _ c.if1.true in
+    let free = not-true _ c.if1.true in
     (scale_free _ _ free, (points_free _ _ xvals_of _ free, points_free _ _ yvals_of _ free))
 
 gather-points-requires : tie.Need-gather-points-requires
@@ -16,7 +16,7 @@ gather-points-requires c κs = tt
 
 returns-2 : tie.Need-returns-2
 returns-2 c =
-    let given = not_false _ c.before.before.before.before.if1.false in
+    let given = not-false _ c.before.before.before.before.if1.false in
     let g = c.gather-points.ensures in
     (scale_curve _ _ given g.0, (points_curve _ _ xvals_of _ given g.1.0, points_curve _ _ yvals_of _ given g.1.1))
 

@@ -3,7 +3,7 @@ use mathlib.Core.Path.{sym, ◌∙◌}
 use mir.Syntax.{w64}
 use mir.Val.{SFits}
 use mir.ValLaws.{to_z-of_z}
-use borrow.Author.Tests.{not_true, not_false}
+use borrow.Author.Tests.{not-true, not-false}
 use Rattle.curves.specs.Line.{is_segment}
 use borrow.Author.Rules.{rules}
 use Rattle.curves.proofs.line.is_segment.Statement.{statement}
@@ -14,7 +14,7 @@ is-point-requires c κs = search rules
 
 returns : tie.Need-returns
 unfolding is_segment
-returns c = rw (sym c.before.is-point.ensures ∙ not_true _ c.if1.true)
+returns c = rw (sym c.before.is-point.ensures ∙ not-true _ c.if1.true)
 
 is-point-requires-2 : tie.Need-is-point-requires-2
 is-point-requires-2 c κs = search rules
@@ -23,8 +23,8 @@ returns-2 : tie.Need-returns-2
 unfolding is_segment
 returns-2 c =
     rw (
-      sym c.before.before.before.is-point.ensures ∙ not_false _ c.before.before.if1.false,
-      sym c.before.is-point2.ensures ∙ not_true _
+      sym c.before.before.before.is-point.ensures ∙ not-false _ c.before.before.if1.false,
+      sym c.before.is-point2.ensures ∙ not-true _
           c.if2.true,
     )
 
@@ -42,9 +42,9 @@ returns-3 c =
     ∙ rw (
       to_z-of_z w64 a.from.x f,
       to_z-of_z w64 a.to.x g,
-      sym n.before.before.before.is-point.ensures ∙ not_false _
+      sym n.before.before.before.is-point.ensures ∙ not-false _
           n.before.before.if1.false,
-      sym n.before.is-point2.ensures ∙ not_false _ n.if2.false,
+      sym n.before.is-point2.ensures ∙ not-false _ n.if2.false,
     )
 
 pub is-segment-spec : {M : Type 1} → statement M

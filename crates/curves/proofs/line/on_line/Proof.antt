@@ -3,7 +3,7 @@ use lib.IntN.{ℤ}
 use mathlib.Core.Path.{◌≡◌, sym, ap, ◌∙◌}
 use mir.Syntax.{w64}
 use mir.ValLaws.{to_z-of_z}
-use borrow.Author.Tests.{not_true, not_false}
+use borrow.Author.Tests.{not-true, not-false}
 use Rattle.curves.specs.Line.{is_raw, height_at, result_of, said_on_line}
 use Rattle.curves.proofs.LineLaws.{line_no_segment, line_no_raw, line_is}
 use borrow.Author.Rules.{rules}
@@ -20,7 +20,7 @@ is-segment-requires c κs = search rules
 
 returns : tie.Need-returns
 unfolding said_on_line
-returns c = line_no_segment _ _ _ (sym c.before.is-segment.ensures ∙ not_true _ c.if1.true)
+returns c = line_no_segment _ _ _ (sym c.before.is-segment.ensures ∙ not-true _ c.if1.true)
 
 lies-within-requires : tie.Need-lies-within-requires
 lies-within-requires c κs = search rules
@@ -28,14 +28,14 @@ lies-within-requires c κs = search rules
 returns-2 : tie.Need-returns-2
 unfolding said_on_line
 returns-2 c =
-    line_no_raw _ _ _ (sym c.before.before.before.is-segment.ensures ∙ not_false _ c.before.before.if1.false)
-    (raw_is c.before ∙ not_true _ c.if2.true)
+    line_no_raw _ _ _ (sym c.before.before.before.is-segment.ensures ∙ not-false _ c.before.before.if1.false)
+    (raw_is c.before ∙ not-true _ c.if2.true)
 
 drawn-requires : tie.Need-drawn-requires
 drawn-requires c κs =
     let s = c.before.before.before.before in (
-      sym c.before.before.before.is-segment.ensures ∙ not_false _ c.before.before.if1.false,
-      rw (to_z-of_z w64 s.args.x s.ranges.x) (raw_is c.before ∙ not_false _ c.if2.false),
+      sym c.before.before.before.is-segment.ensures ∙ not-false _ c.before.before.if1.false,
+      rw (to_z-of_z w64 s.args.x s.ranges.x) (raw_is c.before ∙ not-false _ c.if2.false),
     )
 
 returns-3 : tie.Need-returns-3
@@ -44,8 +44,8 @@ returns-3 c =
     let s = n.before.before.before.before in
     c.drawn.ensures
     ∙ ap (λ (z : ℤ). result_of (height_at s.args.from s.args.to z)) (to_z-of_z w64 s.args.x s.ranges.x)
-    ∙ line_is _ _ _ (sym n.before.before.before.is-segment.ensures ∙ not_false _ n.before.before.if1.false)
-    (raw_is n.before ∙ not_false _ n.if2.false)
+    ∙ line_is _ _ _ (sym n.before.before.before.is-segment.ensures ∙ not-false _ n.before.before.if1.false)
+    (raw_is n.before ∙ not-false _ n.if2.false)
 
 pub on-line-spec : {M : Type 1} → statement M
 on-line-spec =

@@ -6,7 +6,7 @@ use Rattle.outcomes.proofs.OutcomeLaws.{told, then_refused}
 use Rattle.accepting.proofs.TimeLaws.{answers_as}
 use Rattle.stepping.proofs.AnswerLaws.{no_state_lem, with_head, of_state_lem}
 use borrow.Author.Rules.{rules}
-use borrow.Author.Tests.{not_true, not_false}
+use borrow.Author.Tests.{not-true, not-false}
 use Rattle.stepping.proofs.step.step_in.Statement.{statement}
 use Rattle.stepping.proofs.step.step_in.Tie as tie
 
@@ -18,7 +18,7 @@ refuse-requires c κs = search rules
 
 returns : tie.Need-returns
 unfolding refused_by refusal_number refusal_place
-returns c = answers_as c.refuse.ensures (no_state_lem _ _ _ _ (sym c.before.before.is_state.ensures ∙ not_true _ c.before.if1.true))
+returns c = answers_as c.refuse.ensures (no_state_lem _ _ _ _ (sym c.before.before.is_state.ensures ∙ not-true _ c.before.if1.true))
 
 read-header-requires : tie.Need-read-header-requires
 read-header-requires c κs = search rules
@@ -44,7 +44,7 @@ returns-2 c =
     let h = c.before.before.before.before.before in
     let i = h.before in
     answers_as c.step-headed.ensures
-    (of_state_lem _ _ _ _ (sym i.before.is_state.ensures ∙ not_false _ i.if1.false)
+    (of_state_lem _ _ _ _ (sym i.before.is_state.ensures ∙ not-false _ i.if1.false)
     (with_head _ _ _ _ (told said_head h.read-header.ensures c.before.before.before.head.given.1) c.before.name_of.ensures))
 
 returns-3 : tie.Need-returns-3
@@ -53,7 +53,7 @@ returns-3 c =
     let h = c.before.before.before.before in
     let i = h.before in
     answers_as c.refuse2.ensures
-    (of_state_lem _ _ _ _ (sym i.before.is_state.ensures ∙ not_false _ i.if1.false)
+    (of_state_lem _ _ _ _ (sym i.before.is_state.ensures ∙ not-false _ i.if1.false)
     (then_refused _ _ (told said_head h.read-header.ensures c.before.before.refusal.given.1)))
 
 pub step-in-spec : {M : Type 1} → statement M

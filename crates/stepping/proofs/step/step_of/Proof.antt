@@ -12,7 +12,7 @@ use Rattle.parameters.proofs.LocatedLaws.{at_found, at_missing}
 use Rattle.accepting.proofs.TimeLaws.{answers_as}
 use Rattle.stepping.proofs.AnswerLaws.{no_limits_lem, no_place, with_place}
 use borrow.Author.Rules.{rules}
-use borrow.Author.Tests.{not_true, not_false}
+use borrow.Author.Tests.{not-true, not-false}
 use Rattle.stepping.proofs.step.step_of.Statement.{statement}
 use Rattle.stepping.proofs.step.step_of.Tie as tie
 
@@ -52,7 +52,7 @@ unfolding refused_by refusal_number refusal_place
 returns-2 c =
     let l = c.before.before.before in
     answers_as c.refuse2.ensures
-    (no_place _ _ _ _ _ _ (found-limits l.before) (sym (at_missing _ _ _ (not_true _ c.before.if2.true)) ∙ l.locate.ensures _))
+    (no_place _ _ _ _ _ _ (found-limits l.before) (sym (at_missing _ _ _ (not-true _ c.before.if2.true)) ∙ l.locate.ensures _))
 
 sub-ocf-at : tie.Need-overflow-sub-ocf-at
 sub-ocf-at c = omega arith
@@ -68,7 +68,7 @@ returns-3 c =
     let l = c.before.before.before.before in
     answers_as c.step_at_lem.ensures
     (with_place _ _ _ _ _ _ (found-limits l.before) c.before.ocf-at.ensures
-    (sym (at_found _ _ _ (not_false _ c.before.before.if2.false)) ∙ l.locate.ensures _))
+    (sym (at_found _ _ _ (not-false _ c.before.before.if2.false)) ∙ l.locate.ensures _))
 
 pub step-of-spec : {M : Type 1} → statement M
 step-of-spec =
