@@ -1,5 +1,5 @@
 -- Values as questions answer them.
-use Rattle.std.specs.Prelude.{ℕ, ◌≡◌, refl, ℤ, pos}
+use Rattle.std.specs.Prelude.{ℕ, ◌≡◌, refl, ℤ}
 use Rattle.outcomes.specs.declared.Value as code
 use Rattle.outcomes.specs.declared.Value.TheVariants.{Number, Part, Bits}
 
