@@ -13,14 +13,14 @@ use occurrences::Checked;
 use outcomes::Refusal;
 
 // Whether the packet was taken, or why not.
-#[derive(Drop)]
+#[derive(Clone, Copy)]
 pub enum Answer {
     Taken,
     Refused(Refusal),
 }
 
 // The answer, and the state after the packet: refused, it is the state that was offered.
-#[derive(Drop)]
+#[derive(Clone, Copy)]
 pub struct Stepped {
     pub answer: Answer,
     pub state: LimitState,

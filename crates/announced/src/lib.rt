@@ -7,7 +7,7 @@ ghost use Rattle.announced.specs.Announced.{raised, violation, after_reading};
 use severity::Severity;
 
 // The numbers of a state that readings change.
-#[derive(Drop)]
+#[derive(Clone, Copy)]
 pub struct Progress {
     pub run: u8,
     pub announced: u8,

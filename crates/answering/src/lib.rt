@@ -18,7 +18,7 @@ use stepping::step::step_in;
 use tables::TABLES;
 
 // An occurrence or a state goes with the call that takes it.
-#[derive(Drop)]
+#[derive(Clone, Copy)]
 pub enum Call {
     Identify,
     Extract(usize),
@@ -26,7 +26,7 @@ pub enum Call {
     LimitStep(LimitState),
 }
 
-#[derive(Drop)]
+#[derive(Clone, Copy)]
 pub enum Answered {
     Identified(Identified),
     Read(Reading),

@@ -9,7 +9,7 @@ use lines::columns::part;
 // A template in which `#` stands for the next number, the first with a minus if it is negative; then so many bytes of
 // txp from a place on, and the first of an import's cells with their positions.
 // `readable` says whether the question could be read.
-#[derive(Drop)]
+#[derive(Clone, Copy)]
 pub struct Answer {
     pub readable: bool,
     pub template: [u8; 64],

@@ -9,7 +9,7 @@ ghost use Rattle.archives.specs.Framing.{framed_at};
 pub const BLOCK: usize = 131072;
 
 // Where a packet ends, or that it is not there to its end.
-#[derive(Drop)]
+#[derive(Clone, Copy)]
 pub enum Framed {
     Whole(usize),
     Cut,

@@ -9,7 +9,7 @@ use curves::ints::less;
 use curves::line::{OnLine, Point, on_line};
 use rows::letters::OffEnds;
 
-#[derive(Drop)]
+#[derive(Clone, Copy)]
 pub enum CurveValue {
     Is(i64),
     // The raw value is off the ends of an F curve, or of one without two points.

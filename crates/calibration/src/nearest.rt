@@ -6,14 +6,14 @@ use crate::ints::{at_most, item};
 use curves::ints::less;
 
 // Where one is, if there is one.
-#[derive(Drop)]
+#[derive(Clone, Copy)]
 pub enum Found {
     At(usize),
     Nothing,
 }
 
 // The side of a value on which the nearest is looked for.
-#[derive(Drop)]
+#[derive(Clone, Copy)]
 pub enum Side {
     NotAbove,
     Below,

@@ -12,14 +12,14 @@ use tables::{Sizes, TABLES, check_sizes, row_count, table_at};
 use units::{RowNumber, TableNumber};
 
 // The place of a row's cell, from 0; or there is none.
-#[derive(Drop)]
+#[derive(Clone, Copy)]
 pub enum Cell {
     At(usize),
     NoCell,
 }
 
 // Where the cells of a table's rows start, and where they end: one past the last.
-#[derive(Drop)]
+#[derive(Clone, Copy)]
 pub struct TableCells {
     pub start: usize,
     pub end: usize,

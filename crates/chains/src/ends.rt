@@ -6,7 +6,7 @@ use arrays::{PLACES, byte_at};
 use chain_steps::{NO_NEXT, next_row};
 
 // Where a chain leads: to its end, back to its first row, or round without that row.
-#[derive(Drop)]
+#[derive(Clone, Copy)]
 pub(crate) enum Course {
     Ends,
     Returns,

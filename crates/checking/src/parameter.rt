@@ -25,7 +25,7 @@ use tables::TABLES;
 use units::Spid;
 
 // What is checked: a parameter in packets of a SPID, its limits, and the places of its plf and pcf rows.
-#[derive(Drop)]
+#[derive(Clone, Copy)]
 pub struct Subject {
     pub spid: Spid,
     pub name: Name,

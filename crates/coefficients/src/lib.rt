@@ -8,7 +8,7 @@ ghost use Rattle.coefficients.specs.Coefficient.{double, with_sign, scaled, doub
 use notation::{Parsed, Scientific, parse};
 
 // What a text is.
-#[derive(Drop)]
+#[derive(Clone, Copy)]
 pub enum Coefficient {
     Double(f64),
     NotCoefficient,

@@ -6,7 +6,7 @@ use crate::difference::say_difference;
 use answers::answer::Answer;
 use spoken::spelling::agrees;
 
-#[derive(Drop)]
+#[derive(Clone, Copy)]
 pub enum Verdict {
     // The question can't be read.
     Unread,

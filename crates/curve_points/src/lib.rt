@@ -16,14 +16,14 @@ use rows::letters::OffEnds;
 use tables::TABLES;
 
 // What a curve does off its ends, where there is such a curve.
-#[derive(Drop)]
+#[derive(Clone, Copy)]
 pub enum Ends {
     Are(OffEnds),
     NoCurve,
 }
 
 // A curve whose points are the first of two lent arrays, X and Y.
-#[derive(Drop)]
+#[derive(Clone, Copy)]
 pub struct Points {
     pub ends: Ends,
     pub count: usize,

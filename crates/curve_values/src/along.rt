@@ -9,7 +9,7 @@ use curve_points::{Ends, Points};
 use outcomes::Refusal;
 
 // What a raw value gives along a curve.
-#[derive(Drop)]
+#[derive(Clone, Copy)]
 pub enum CurveResult {
     Is(i64),
     Refused(Refusal),

@@ -13,7 +13,7 @@ use rows::records::OptionalCurve;
 use tables::TABLES;
 
 // As it was read, or along a curve whose points are the first of two lent arrays.
-#[derive(Drop)]
+#[derive(Clone, Copy)]
 pub enum Scale {
     AsRead,
     Along(Points),

@@ -6,13 +6,13 @@ ghost use Rattle.curves.specs.Line.{is_coordinate, is_point, is_segment, is_raw,
 use crate::ints::{is_negative, less, lies_within, minus, of_nat, plus, size};
 
 // A point of a curve: XVALS and YVALS of a row of cap.
-#[derive(Drop)]
+#[derive(Clone, Copy)]
 pub struct Point {
     pub x: i64,
     pub y: i64,
 }
 
-#[derive(Drop)]
+#[derive(Clone, Copy)]
 pub enum OnLine {
     Is(i64),
     // The result is outside -2,147,483,648 to 2,147,483,647.

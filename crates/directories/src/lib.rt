@@ -42,7 +42,7 @@ pub fn directory_error(directory: &[u8]) -> i32 {
 pub const SPACE: usize = TABLES * ROOM;
 
 // Where each table ends in the space, and whether all were read. A table that isn't there ends at 0.
-#[derive(Drop)]
+#[derive(Clone, Copy)]
 pub struct Loaded {
     pub ends: [usize; TABLES],
     pub whole: bool,

@@ -19,7 +19,7 @@ use units::{RowNumber, TableOffset};
 
 // A value; the value of a polynomial; a text as its txp row, and ALTXT's place in that table and its length; or why
 // there is none.
-#[derive(Drop)]
+#[derive(Clone, Copy)]
 pub enum Engineered {
     Is(Value),
     Double(f64),

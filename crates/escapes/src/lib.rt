@@ -13,7 +13,7 @@ use lines::columns::part;
 pub const ROOM: usize = 65537;
 
 // How many bytes stand at the start of the buffer, or that the part can't be read.
-#[derive(Drop)]
+#[derive(Clone, Copy)]
 pub enum Bytes {
     Are(usize),
     Unread,

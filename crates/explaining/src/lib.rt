@@ -19,7 +19,7 @@ use tables::TABLES;
 use units::{RowNumber, TableNumber};
 
 // The verdict, and of how many rows it speaks; or there is no such row; or the first table that is too large.
-#[derive(Drop)]
+#[derive(Clone, Copy)]
 pub enum Explanation {
     Verdict(u16, usize),
     NoRow,

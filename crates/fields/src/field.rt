@@ -6,7 +6,7 @@ use crate::bits::gather;
 use units::BitOffset;
 
 // Unsigned and signed answers are apart: 64 unsigned bits don't fit an i64.
-#[derive(Drop)]
+#[derive(Clone, Copy)]
 pub enum Unsigned {
     Is(u64),
     Outside,

@@ -5,14 +5,14 @@ ghost use Rattle.fields.specs.Sign.{complement_of, said_complement, complement_a
 use crate::field::{Unsigned, read_unsigned};
 use units::BitOffset;
 
-#[derive(Drop)]
+#[derive(Clone, Copy)]
 pub enum Complement {
     Integer(i64),
     // No field holds this number: its width is 0 or over 64, or the number is wider.
     NoField,
 }
 
-#[derive(Drop)]
+#[derive(Clone, Copy)]
 pub enum Signed {
     Is(i64),
     Outside,

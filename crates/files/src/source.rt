@@ -4,7 +4,7 @@ ghost use Rattle.files.specs.Reads.{ReadInto};
 use libc::{EINTR, ENOENT};
 
 // How many bytes stand at the start of the buffer; that there is no such file; or the number of the system's error.
-#[derive(Drop)]
+#[derive(Clone, Copy)]
 pub enum Got {
     Bytes(usize),
     Missing,

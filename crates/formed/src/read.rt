@@ -38,7 +38,7 @@ fn or_contradiction(shaped: u16, column: u8) -> u16
     verdict_of(8, column)
 }
 
-#[derive(Drop)]
+#[derive(Clone, Copy)]
 pub struct PidRead {
     pub verdict: u16,
     pub row: PidRow,
@@ -61,7 +61,7 @@ pub fn read_pid(table: &[u8], at: usize) -> PidRead
     }
 }
 
-#[derive(Drop)]
+#[derive(Clone, Copy)]
 pub struct PicRead {
     pub verdict: u16,
     pub row: PicRow,
@@ -84,7 +84,7 @@ pub fn read_pic(table: &[u8], at: usize) -> PicRead
     }
 }
 
-#[derive(Drop)]
+#[derive(Clone, Copy)]
 pub struct PlfRead {
     pub verdict: u16,
     pub row: PlfRow,
@@ -107,7 +107,7 @@ pub fn read_plf(table: &[u8], at: usize) -> PlfRead
     }
 }
 
-#[derive(Drop)]
+#[derive(Clone, Copy)]
 pub struct PcfRead {
     pub verdict: u16,
     pub row: PcfRow,
@@ -130,7 +130,7 @@ pub fn read_pcf(table: &[u8], at: usize) -> PcfRead
     }
 }
 
-#[derive(Drop)]
+#[derive(Clone, Copy)]
 pub struct CafRead {
     pub verdict: u16,
     pub row: CafRow,
@@ -153,7 +153,7 @@ pub fn read_caf(table: &[u8], at: usize) -> CafRead
     }
 }
 
-#[derive(Drop)]
+#[derive(Clone, Copy)]
 pub struct CapRead {
     pub verdict: u16,
     pub row: CapRow,
@@ -176,7 +176,7 @@ pub fn read_cap(table: &[u8], at: usize) -> CapRead
     }
 }
 
-#[derive(Drop)]
+#[derive(Clone, Copy)]
 pub struct TxfRead {
     pub verdict: u16,
     pub row: TxfRow,
@@ -199,7 +199,7 @@ pub fn read_txf(table: &[u8], at: usize) -> TxfRead
     }
 }
 
-#[derive(Drop)]
+#[derive(Clone, Copy)]
 pub struct TxpRead {
     pub verdict: u16,
     pub row: TxpRow,
@@ -222,7 +222,7 @@ pub fn read_txp(table: &[u8], at: usize) -> TxpRead
     }
 }
 
-#[derive(Drop)]
+#[derive(Clone, Copy)]
 pub struct OcfRead {
     pub verdict: u16,
     pub row: OcfRow,
@@ -245,7 +245,7 @@ pub fn read_ocf(table: &[u8], at: usize) -> OcfRead
     }
 }
 
-#[derive(Drop)]
+#[derive(Clone, Copy)]
 pub struct OcpRead {
     pub verdict: u16,
     pub row: OcpRow,
@@ -269,7 +269,7 @@ pub fn read_ocp(table: &[u8], at: usize) -> OcpRead
 }
 
 // Of an mcf row IDENT alone is decoded: its coefficients are for the questions of packets.
-#[derive(Drop)]
+#[derive(Clone, Copy)]
 pub struct McfRead {
     pub verdict: u16,
     pub ident: CurveName,

@@ -11,7 +11,7 @@ use loading::{Loading, load};
 use outcomes::Refusal;
 use tables::TABLES;
 
-#[derive(Drop)]
+#[derive(Clone, Copy)]
 pub enum FullLoading {
     Done,
     Refused(Refusal),

@@ -10,14 +10,14 @@ use outcomes::Refusal;
 use units::BitOffset;
 
 // What the header of a packet tells: whether a data field header is flagged, the APID and the sequence count.
-#[derive(Drop)]
+#[derive(Clone, Copy)]
 pub struct Head {
     pub flagged: bool,
     pub apid: u16,
     pub count: u16,
 }
 
-#[derive(Drop)]
+#[derive(Clone, Copy)]
 pub enum Headed {
     Is(Head),
     Refused(Refusal),

@@ -16,7 +16,7 @@ use tables::TABLES;
 use units::{RowNumber, Spid};
 
 // The pid row's number, its SPID and the five numbers; or why there is none.
-#[derive(Drop)]
+#[derive(Clone, Copy)]
 pub enum Identified {
     Is(RowNumber, Spid, FiveNumbers),
     Refused(Refusal),

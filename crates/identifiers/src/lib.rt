@@ -11,20 +11,20 @@ use rows::records::{IdentificationField, PicRow};
 use units::{BitOffset, ByteOffset};
 
 // What an identification field reads, or that it leaves the packet.
-#[derive(Drop)]
+#[derive(Clone, Copy)]
 pub enum Field {
     Is(u64),
     Refused(Refusal),
 }
 
 // PI1 and PI2.
-#[derive(Drop)]
+#[derive(Clone, Copy)]
 pub struct Identifiers {
     pub pi1: u64,
     pub pi2: u64,
 }
 
-#[derive(Drop)]
+#[derive(Clone, Copy)]
 pub enum Fields {
     Are(Identifiers),
     Refused(Refusal),

@@ -15,7 +15,7 @@ use units::TableNumber;
 mod good;
 
 // The counts of rows and of good rows; or refused: the first table that is too large, or too few cells or positions.
-#[derive(Drop)]
+#[derive(Clone, Copy)]
 pub enum Imported {
     Done(usize, usize),
     TooLong(TableNumber),

@@ -17,7 +17,7 @@ use searching::{Search, search_in};
 use tables::TABLES;
 
 // How many entries the index has; or why it isn't made.
-#[derive(Drop)]
+#[derive(Clone, Copy)]
 pub enum Made {
     Is(usize),
     Refused(Refusal),

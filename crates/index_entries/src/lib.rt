@@ -12,7 +12,7 @@ use packet_rows::{Packet, packet_at};
 use tables::{MOST_ROWS, TABLES};
 
 // Whether a row is one of the packets, and its five numbers; zeros where it has none.
-#[derive(Drop)]
+#[derive(Clone, Copy)]
 pub struct Entry {
     pub packet: bool,
     pub numbers: FiveNumbers,

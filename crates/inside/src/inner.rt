@@ -40,7 +40,7 @@ fn say_width(width: Width) -> Answer
 }
 
 // Two numbers that a question names, and whether it names two.
-#[derive(Drop)]
+#[derive(Clone, Copy)]
 struct Pair {
     readable: bool,
     first: u64,

@@ -9,7 +9,7 @@ use row_keys::records::{Named, RowKeys, Slot};
 use symbols::{Interned, NO_ID, intern};
 
 // The ids of the keys that a row holds and of its first naming, and how many symbols there are then.
-#[derive(Drop)]
+#[derive(Clone, Copy)]
 struct FirstIds {
     key1: u16,
     key2: u16,
@@ -18,7 +18,7 @@ struct FirstIds {
 }
 
 // The ids of all keys of a row, NO_ID where it has none, and how many symbols there are then.
-#[derive(Drop)]
+#[derive(Clone, Copy)]
 pub(crate) struct RowIds {
     pub key1: u16,
     pub key2: u16,

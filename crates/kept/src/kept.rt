@@ -17,7 +17,7 @@ use row_keys::records::RowKeys;
 use tables::{TABLES, kind_of, table_at};
 
 // How many rows are kept, and how many symbols there are.
-#[derive(Drop)]
+#[derive(Clone, Copy)]
 pub(crate) struct Kept {
     pub rows: usize,
     pub symbols: usize,

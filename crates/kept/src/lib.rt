@@ -26,7 +26,7 @@ pub const HALVES: usize = 8 * PLACES;
 pub const BYTES: usize = 5 * PLACES;
 
 // How many rows there are, and how many symbols; or the first table that is too large; or too short an array.
-#[derive(Drop)]
+#[derive(Clone, Copy)]
 pub enum Keeping {
     Done(usize, usize),
     TooLong(TableNumber),

@@ -15,7 +15,7 @@ use units::Spid;
 use words::{apid_word, curve_symbol, name_symbol, two_halves, value_symbol};
 
 // What identification goes by. 01: "The five numbers choose the pid row".
-#[derive(Drop)]
+#[derive(Clone, Copy)]
 pub struct FiveNumbers {
     pub ptype: u32,
     pub stype: u32,
@@ -25,7 +25,7 @@ pub struct FiveNumbers {
 }
 
 // The key of a packet, and whether its symbol tells it apart from every other key.
-#[derive(Drop)]
+#[derive(Clone, Copy)]
 pub struct PacketKey {
     pub fits: bool,
     pub key: Symbol,

@@ -3,7 +3,7 @@ ghost use Rattle.std.specs.Prelude.{◌≡◌};
 ghost use Rattle.limit_state.specs.State.{is_over, has_number, is_a_state, ahead, is_newer};
 
 // Announced is 0 within, 1 soft, 2 hard. A fresh state has seen no packet.
-#[derive(Drop)]
+#[derive(Clone, Copy)]
 pub struct LimitState {
     pub fresh: bool,
     pub apid: u16,

@@ -14,7 +14,7 @@ const LINE_FEED: u8 = 10;
 
 // A line: one past its last byte, whether a line feed ends it, where the next line starts, how many columns it has, and
 // whether a byte stands in it that may not.
-#[derive(Drop)]
+#[derive(Clone, Copy)]
 pub struct Scanned {
     pub end: usize,
     pub ended: bool,

@@ -5,7 +5,7 @@ ghost use Rattle.lines.specs.Lines.{line_length, next_line};
 const LINE_FEED: u8 = 10;
 
 // A line: one past its last byte, whether a line feed ends it, and where the next line starts.
-#[derive(Drop)]
+#[derive(Clone, Copy)]
 pub struct NextLine {
     pub end: usize,
     pub ended: bool,

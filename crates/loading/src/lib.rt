@@ -12,7 +12,7 @@ use tables::TABLES;
 use units::TableNumber;
 
 // Done; or refused: the first table that is too large, or an array that is too short.
-#[derive(Drop)]
+#[derive(Clone, Copy)]
 pub enum Loading {
     Done,
     TooLong(TableNumber),

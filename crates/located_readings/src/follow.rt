@@ -19,7 +19,7 @@ use tables::TABLES;
 use units::Spid;
 
 // What a validity parameter reads in a packet, where that is a number, beside its pcf row.
-#[derive(Drop)]
+#[derive(Clone, Copy)]
 pub(crate) struct Asked {
     pub readable: bool,
     pub value: i64,
@@ -28,7 +28,7 @@ pub(crate) struct Asked {
 
 // How a block of a chain ends: after so many rows with a VALID that can be read, and whether the chain goes on from a
 // row; else whether it ends by a row without VALID.
-#[derive(Drop)]
+#[derive(Clone, Copy)]
 pub(crate) struct BlockEnd {
     pub count: usize,
     pub on: bool,

@@ -27,7 +27,7 @@ const MOST_BLOCKS: usize = MOST_ROWS / BLOCK_ROWS;
 
 // What a block of a chain says of the row that it starts with: valid as the row is that the chain goes on from,
 // else valid or not.
-#[derive(Drop)]
+#[derive(Clone, Copy)]
 pub(crate) struct Block {
     pub on: bool,
     pub valid: bool,

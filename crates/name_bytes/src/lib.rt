@@ -4,13 +4,13 @@
 ghost use Rattle.std.specs.Prelude.{◌≡◌, ◌&&◌, ◌++◌, ◌≤◌, eqb, length, drop};
 ghost use Rattle.name_bytes.specs.Names.{name_of, curve_name_of, same_bytes, same_name, same_curve_name};
 
-#[derive(Drop)]
+#[derive(Clone, Copy)]
 pub struct Name {
     pub bytes: [u8; 8],
     pub len: usize,
 }
 
-#[derive(Drop)]
+#[derive(Clone, Copy)]
 pub struct CurveName {
     pub bytes: [u8; 10],
     pub len: usize,

@@ -8,7 +8,7 @@ ghost use Rattle.notation.specs.Stages.{on_digit, in_digits, stage_after, is_coe
 ghost use Rattle.notation.specs.Scientific.{with_digit, with_character, Short, parsed_of};
 
 // What the characters so far end with. Each but Stuck is the beginning of a coefficient.
-#[derive(Drop)]
+#[derive(Clone, Copy)]
 pub enum Stage {
     Start,
     Minus,
@@ -23,7 +23,7 @@ pub enum Stage {
 
 // The numbers that a text writes: a minus before the digits, all digits without the point, how many stand after it, a
 // minus before the exponent, and the exponent's digits.
-#[derive(Drop)]
+#[derive(Clone, Copy)]
 pub struct Scientific {
     pub negative: bool,
     pub digits: u64,
@@ -33,7 +33,7 @@ pub struct Scientific {
 }
 
 // What a text is.
-#[derive(Drop)]
+#[derive(Clone, Copy)]
 pub enum Parsed {
     Parts(Scientific),
     NotCoefficient,

@@ -5,7 +5,7 @@ ghost use Rattle.std.specs.Prelude.{◌≤◌, ◌≡◌};
 ghost use Rattle.numbers.specs.Number.{minus, leading_zero, hex_mark, digits, digit_of, spelt, meaning, number_of, answer_of};
 
 // What a text is: a number, no number, or a number too large for any column (2 ^ 60 or more in magnitude).
-#[derive(Drop)]
+#[derive(Clone, Copy)]
 pub enum Number {
     Value(i64),
     NotNumber,

@@ -22,7 +22,7 @@ use rows::records::PcfRow;
 use severity::severity_in;
 
 // What the occurrences so far made of run and announced, and whether one is off its curve or out of range.
-#[derive(Drop)]
+#[derive(Clone, Copy)]
 pub struct Pass {
     pub progress: Progress,
     pub off: bool,
@@ -30,7 +30,7 @@ pub struct Pass {
 }
 
 // How readings are checked: NBCHCK, whether they are valid, and how the value comes from the raw one.
-#[derive(Drop)]
+#[derive(Clone, Copy)]
 pub struct Manner {
     pub nbchck: u32,
     pub valid: bool,
@@ -38,14 +38,14 @@ pub struct Manner {
 }
 
 // A raw value as an integer, or why there is none.
-#[derive(Drop)]
+#[derive(Clone, Copy)]
 pub enum RawNumber {
     Is(i64),
     Refused(Refusal),
 }
 
 // Run and announced after all occurrences, or why the packet is refused.
-#[derive(Drop)]
+#[derive(Clone, Copy)]
 pub enum Checked {
     Is(Progress),
     Refused(Refusal),

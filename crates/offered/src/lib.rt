@@ -7,7 +7,7 @@ ghost use Rattle.offered.specs.Offered.{is_within, are_fields, said_offered, off
 use curves::ints::{less, size};
 use limit_state::state::LimitState;
 
-#[derive(Drop)]
+#[derive(Clone, Copy)]
 pub enum Offered {
     State(LimitState),
     NoState,

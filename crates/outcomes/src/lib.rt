@@ -8,7 +8,7 @@ use units::{ByteOffset, TableNumber};
 
 // A number; the part of the packet that a string is: where it starts, and how many bytes it has; or the bits of a real
 // number, and how many they are.
-#[derive(Drop)]
+#[derive(Clone, Copy)]
 pub enum Value {
     Number(i64),
     Part(ByteOffset, usize),
@@ -16,7 +16,7 @@ pub enum Value {
 }
 
 // Every refusal of a call, in the order of 01's numbers.
-#[derive(Drop)]
+#[derive(Clone, Copy)]
 pub enum Refusal {
     TableTooLong(TableNumber),
     TooManyRows(TableNumber),

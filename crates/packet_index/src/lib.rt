@@ -3,7 +3,7 @@
 
 // Whether the entry is found, how many entries come before the place where it stands or would stand, and how many
 // were compared.
-#[derive(Drop)]
+#[derive(Clone, Copy)]
 pub struct Searched {
     pub found: bool,
     pub place: usize,

@@ -12,7 +12,7 @@ use tables::TABLES;
 use units::RowNumber;
 
 // The five numbers of a good VALID Y pid row; or the number is of none.
-#[derive(Drop)]
+#[derive(Clone, Copy)]
 pub enum Packet {
     Is(FiveNumbers),
     NoRow,

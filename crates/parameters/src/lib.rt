@@ -11,7 +11,7 @@ use name_bytes::Name;
 use units::Spid;
 
 // The places of a parameter's plf row and pcf row, if both are there.
-#[derive(Drop)]
+#[derive(Clone, Copy)]
 pub struct Places {
     pub found: bool,
     pub plf: usize,

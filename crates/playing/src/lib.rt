@@ -17,7 +17,7 @@ use stepping::step::step_in;
 use tables::TABLES;
 
 // The state after so many packets, and the stretch of packets that is still to be said.
-#[derive(Drop)]
+#[derive(Clone, Copy)]
 pub struct Replay {
     pub state: LimitState,
     pub packets: usize,
@@ -25,7 +25,7 @@ pub struct Replay {
 }
 
 // The same, and where the bytes begin that are left over.
-#[derive(Drop)]
+#[derive(Clone, Copy)]
 pub struct Played {
     pub replay: Replay,
     pub used: usize,

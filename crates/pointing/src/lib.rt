@@ -10,7 +10,7 @@ use key_rows::{is_counted, shares};
 use named_rows::{follows, names_at};
 
 // A row by its place among all rows, from 0; or there is none.
-#[derive(Drop)]
+#[derive(Clone, Copy)]
 pub enum Cause {
     Row(usize),
     NoMore,

@@ -15,7 +15,7 @@ use rows::records::OptionalCurve;
 use tables::TABLES;
 
 // A polynomial, or that there is none: no row of this name, or a row of caf.
-#[derive(Drop)]
+#[derive(Clone, Copy)]
 pub enum Found {
     Is(Polynomial),
     Nothing,

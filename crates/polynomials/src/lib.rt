@@ -6,7 +6,7 @@ ghost use Rattle.std.specs.Float.{binary64};
 ghost use Rattle.polynomials.specs.Polynomial.{polynomial_at};
 
 // The five coefficients of a curve, held together.
-#[derive(Drop)]
+#[derive(Clone, Copy)]
 pub struct Polynomial {
     pub pol1: f64,
     pub pol2: f64,

@@ -18,7 +18,7 @@ use replies::packet_replies::say_stepped;
 use tables::{TABLES, table_at};
 
 // Whether the line under a question is its answer, and the limit state after it.
-#[derive(Drop)]
+#[derive(Clone, Copy)]
 pub struct Judged {
     pub verdict: Verdict,
     pub state: LimitState,

@@ -27,7 +27,7 @@ use wire_reals::{bits_told, real_bits};
 const PACKET_BYTES: usize = 8192;
 
 // A raw value, or why there is none.
-#[derive(Drop)]
+#[derive(Clone, Copy)]
 pub enum RawValue {
     Is(Value),
     Refused(Refusal),

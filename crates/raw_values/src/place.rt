@@ -4,14 +4,14 @@ ghost use Rattle.std.specs.Prelude.{◌≡◌, ◌+◌, ◌*◌, ◌<◌};
 use units::ByteOffset;
 
 // A byte of the packet and a number of bits, as a line holds them: in 32 bits.
-#[derive(Drop)]
+#[derive(Clone, Copy)]
 pub struct LineByte(pub u32);
 
-#[derive(Drop)]
+#[derive(Clone, Copy)]
 pub struct LineBits(pub u32);
 
 // By four columns of a plf row.
-#[derive(Drop)]
+#[derive(Clone, Copy)]
 pub struct Location {
     pub offby: LineByte,
     pub offbi: LineBits,
@@ -20,7 +20,7 @@ pub struct Location {
 }
 
 // A byte of the packet and a bit of it, kept apart: a start in bits can pass a word.
-#[derive(Drop)]
+#[derive(Clone, Copy)]
 pub(crate) struct FieldStart {
     pub byte: ByteOffset,
     pub bit: usize,

@@ -15,7 +15,7 @@ use outcomes::{Refusal, Value};
 pub const BLOCK_ROWS: usize = 16;
 
 // A raw value and whether it is valid, or why there is none.
-#[derive(Drop)]
+#[derive(Clone, Copy)]
 pub enum Reading {
     Is(Value, bool),
     Refused(Refusal),

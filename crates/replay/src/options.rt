@@ -5,7 +5,7 @@ ghost use Rattle.replay.specs.Options.{showing_chosen};
 use name_bytes::{name_of, same_name};
 use showing::stretches::Showing;
 
-#[derive(Drop)]
+#[derive(Clone, Copy)]
 pub(crate) enum Choice {
     Is(Showing),
     Unknown,

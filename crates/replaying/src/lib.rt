@@ -15,7 +15,7 @@ use tables::TABLES;
 const MOST_BLOCKS: usize = 18446744073709551615;
 
 // What the packets so far have led to, and from where to where bytes of the block are left over.
-#[derive(Drop)]
+#[derive(Clone, Copy)]
 pub struct Standing {
     pub replay: Replay,
     pub from: usize,

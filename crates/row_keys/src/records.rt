@@ -2,21 +2,21 @@
 use symbols::Symbol;
 
 // A key that a row holds or is counted in, or none.
-#[derive(Drop)]
+#[derive(Clone, Copy)]
 pub struct Slot {
     pub given: bool,
     pub key: Symbol,
 }
 
 // What a column names: the code of its manner of naming, 0 where nothing is named, and the key.
-#[derive(Drop)]
+#[derive(Clone, Copy)]
 pub struct Named {
     pub code: u8,
     pub key: Symbol,
 }
 
 // The column that counts the rows of the group that goes by the row's first key, and its number; column 0: none does.
-#[derive(Drop)]
+#[derive(Clone, Copy)]
 pub struct Counting {
     pub column: u8,
     pub number: u32,
@@ -24,7 +24,7 @@ pub struct Counting {
 
 // verdict: of reasons 1 to 8. first, second: the keys that the row holds. one, two: what it names, by rising column.
 // group: where it is counted. marks: the conditions that it meets, by their weights.
-#[derive(Drop)]
+#[derive(Clone, Copy)]
 pub struct RowKeys {
     pub verdict: u16,
     pub first: Slot,
@@ -37,7 +37,7 @@ pub struct RowKeys {
 }
 
 // The keys of a line, and where the next line starts.
-#[derive(Drop)]
+#[derive(Clone, Copy)]
 pub struct LineKeys {
     pub keys: RowKeys,
     pub next: usize,

@@ -3,14 +3,14 @@ ghost use Rattle.std.specs.Prelude.{◌≡◌};
 ghost use Rattle.rows.specs.Values.{valid_of, category_of, nature_of, format_of, off_ends_of, limit_value_of, limit_coding_of, check_type_of};
 
 // PID_VALID.
-#[derive(Drop)]
+#[derive(Clone, Copy)]
 pub enum Valid {
     Yes,
     No,
 }
 
 // PCF_CATEG: N, S, T.
-#[derive(Drop)]
+#[derive(Clone, Copy)]
 pub enum Category {
     Numeric,
     Status,
@@ -18,7 +18,7 @@ pub enum Category {
 }
 
 // PCF_NATUR: R, D, P, H, S, C.
-#[derive(Drop)]
+#[derive(Clone, Copy)]
 pub enum Nature {
     Raw,
     Dynamic,
@@ -29,7 +29,7 @@ pub enum Nature {
 }
 
 // CAF_ENGFMT, CAF_RAWFMT and TXF_RAWFMT: I, U, R.
-#[derive(Drop)]
+#[derive(Clone, Copy)]
 pub enum Format {
     Signed,
     Unsigned,
@@ -37,21 +37,21 @@ pub enum Format {
 }
 
 // CAF_INTER, for a raw value off the ends of a curve: P, F.
-#[derive(Drop)]
+#[derive(Clone, Copy)]
 pub enum OffEnds {
     Extrapolate,
     Refuse,
 }
 
 // OCF_INTER, the value that is checked: U, C.
-#[derive(Drop)]
+#[derive(Clone, Copy)]
 pub enum LimitValue {
     Raw,
     Engineering,
 }
 
 // OCF_CODIN, how limits are written: R, A, I.
-#[derive(Drop)]
+#[derive(Clone, Copy)]
 pub enum LimitCoding {
     Real,
     Text,
@@ -59,7 +59,7 @@ pub enum LimitCoding {
 }
 
 // OCP_TYPE: S, H, D, C, E.
-#[derive(Drop)]
+#[derive(Clone, Copy)]
 pub enum CheckType {
     Soft,
     Hard,

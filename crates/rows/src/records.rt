@@ -8,33 +8,33 @@ use polynomials::Polynomial;
 use units::{BitOffset, ByteOffset, Spid};
 
 // A name in a column that may be empty; not given, it is the empty name.
-#[derive(Drop)]
+#[derive(Clone, Copy)]
 pub struct OptionalName {
     pub given: bool,
     pub name: Name,
 }
 
-#[derive(Drop)]
+#[derive(Clone, Copy)]
 pub struct OptionalCurve {
     pub given: bool,
     pub name: CurveName,
 }
 
 // An APID in a column that may be empty.
-#[derive(Drop)]
+#[derive(Clone, Copy)]
 pub enum OptionalApid {
     Only(u32),
     Any,
 }
 
 // PI1 or PI2 of a pic row: unused, or from the first bit of a byte on, so many bits wide.
-#[derive(Drop)]
+#[derive(Clone, Copy)]
 pub enum IdentificationField {
     Unused,
     At(ByteOffset, u32),
 }
 
-#[derive(Drop)]
+#[derive(Clone, Copy)]
 pub struct PidRow {
     pub ptype: u32,
     pub stype: u32,
@@ -45,7 +45,7 @@ pub struct PidRow {
     pub valid: Valid,
 }
 
-#[derive(Drop)]
+#[derive(Clone, Copy)]
 pub struct PicRow {
     pub ptype: u32,
     pub stype: u32,
@@ -54,7 +54,7 @@ pub struct PicRow {
     pub apid: OptionalApid,
 }
 
-#[derive(Drop)]
+#[derive(Clone, Copy)]
 pub struct PlfRow {
     pub name: Name,
     pub spid: Spid,
@@ -64,7 +64,7 @@ pub struct PlfRow {
     pub lgocc: BitOffset,
 }
 
-#[derive(Drop)]
+#[derive(Clone, Copy)]
 pub struct PcfRow {
     pub name: Name,
     pub ptc: u32,
@@ -76,7 +76,7 @@ pub struct PcfRow {
     pub valpar: i64,
 }
 
-#[derive(Drop)]
+#[derive(Clone, Copy)]
 pub struct CafRow {
     pub numbr: CurveName,
     pub engfmt: Format,
@@ -85,14 +85,14 @@ pub struct CafRow {
     pub inter: OffEnds,
 }
 
-#[derive(Drop)]
+#[derive(Clone, Copy)]
 pub struct CapRow {
     pub numbr: CurveName,
     pub xvals: i64,
     pub yvals: i64,
 }
 
-#[derive(Drop)]
+#[derive(Clone, Copy)]
 pub struct TxfRow {
     pub numbr: CurveName,
     pub rawfmt: Format,
@@ -100,7 +100,7 @@ pub struct TxfRow {
 }
 
 // ALTXT stands in the line from the byte `start` on, to before the byte `end`.
-#[derive(Drop)]
+#[derive(Clone, Copy)]
 pub struct TxpRow {
     pub numbr: CurveName,
     pub from: i64,
@@ -109,7 +109,7 @@ pub struct TxpRow {
     pub end: usize,
 }
 
-#[derive(Drop)]
+#[derive(Clone, Copy)]
 pub struct OcfRow {
     pub name: Name,
     pub nbchck: u32,
@@ -118,7 +118,7 @@ pub struct OcfRow {
     pub codin: LimitCoding,
 }
 
-#[derive(Drop)]
+#[derive(Clone, Copy)]
 pub struct OcpRow {
     pub name: Name,
     pub pos: u32,
@@ -129,7 +129,7 @@ pub struct OcpRow {
     pub valpar: i64,
 }
 
-#[derive(Drop)]
+#[derive(Clone, Copy)]
 pub struct McfRow {
     pub ident: CurveName,
     pub polynomial: Polynomial,

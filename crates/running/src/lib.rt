@@ -22,7 +22,7 @@ use std::num::wrapping_sub_usize;
 use tallies::{Tally, count};
 
 // The limit state; the question that waits for its answer, as its place in the text; and the tally.
-#[derive(Drop)]
+#[derive(Clone, Copy)]
 pub(crate) struct Standing {
     pub state: LimitState,
     pub waits: bool,

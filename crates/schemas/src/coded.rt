@@ -14,7 +14,7 @@ use crate::tables::{
 };
 
 // A column's width, its mark, 1 where it is mandatory, and the number of its kind.
-#[derive(Drop)]
+#[derive(Clone, Copy)]
 pub struct ColumnCode {
     pub width: u8,
     pub mark: u8,

@@ -15,7 +15,7 @@ use column_checks::column::column_reason;
 use lines::columns::{Scanned, column};
 
 // The tables that the rack carries, in their order.
-#[derive(Drop)]
+#[derive(Clone, Copy)]
 pub enum Table {
     Pid,
     Pic,

@@ -9,13 +9,13 @@ use curves::ints::{less, size};
 use lines::columns::{MOST_COLUMNS, part, scan};
 use numbers::{Number, read_number};
 
-#[derive(Drop)]
+#[derive(Clone, Copy)]
 pub enum Natural {
     Is(u64),
     Unread,
 }
 
-#[derive(Drop)]
+#[derive(Clone, Copy)]
 pub enum Integer {
     Is(i64),
     Unread,

@@ -23,7 +23,7 @@ use units::{RowNumber, Spid};
 
 // The pid row's number, its SPID, the five numbers and how many entries were compared; that there is no such row,
 // and how many were; or why the question is refused.
-#[derive(Drop)]
+#[derive(Clone, Copy)]
 pub enum Search {
     Is(RowNumber, Spid, FiveNumbers, usize),
     NoPidRow(usize),

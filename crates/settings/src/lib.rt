@@ -26,7 +26,7 @@ const STATE: usize = PACKET + 4;
 pub const SETTINGS: usize = PACKET + 5;
 
 // The limit state after a line, and whether the line could be read.
-#[derive(Drop)]
+#[derive(Clone, Copy)]
 pub struct SetLine {
     pub readable: bool,
     pub state: LimitState,

@@ -10,7 +10,7 @@ ghost use Rattle.severity.specs.Checks.{checks_in, severity_in};
 use rows::letters::CheckType;
 
 // What a reading's checks say of it.
-#[derive(Drop)]
+#[derive(Clone, Copy)]
 pub enum Severity {
     Within,
     Soft,

@@ -10,7 +10,7 @@ use units::BitOffset;
 
 // The packet's number, from 1, and its sequence count; the number and place of its refusal, 0 of one that is taken; and
 // the state's run and announced.
-#[derive(Drop)]
+#[derive(Clone, Copy)]
 pub struct Line {
     pub number: usize,
     pub count: u64,

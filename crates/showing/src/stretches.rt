@@ -7,7 +7,7 @@ use crate::say::{say_line, say_stretch};
 use accepting::step::Stepped;
 
 // How packets are said: a line for each, one for each stretch, or none.
-#[derive(Drop)]
+#[derive(Clone, Copy)]
 pub enum Showing {
     Each,
     Runs,
@@ -15,7 +15,7 @@ pub enum Showing {
 }
 
 // The first packet and the last; there is none while the first has number 0.
-#[derive(Drop)]
+#[derive(Clone, Copy)]
 pub struct Stretch {
     pub first: Line,
     pub last: Line,

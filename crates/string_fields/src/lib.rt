@@ -6,7 +6,7 @@ ghost use Rattle.string_fields.specs.Text.{said_string, string_at, part_at};
 
 use units::{BitOffset, ByteOffset};
 
-#[derive(Drop)]
+#[derive(Clone, Copy)]
 pub enum StringAt {
     Inside(ByteOffset),
     Outside,

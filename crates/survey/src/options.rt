@@ -5,7 +5,7 @@ ghost use Rattle.survey.specs.Options.{question_chosen};
 use name_bytes::{name_of, same_name};
 use surveying::asking::Question;
 
-#[derive(Drop)]
+#[derive(Clone, Copy)]
 pub(crate) enum Choice {
     Is(Question),
     Unknown,

@@ -13,7 +13,7 @@ use tables::TABLES;
 const MOST_BLOCKS: usize = 18446744073709551615;
 
 // The survey of the packets so far, and from where to where bytes of the block are left over.
-#[derive(Drop)]
+#[derive(Clone, Copy)]
 pub struct Standing {
     pub tally: Tally,
     pub from: usize,

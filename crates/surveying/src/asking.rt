@@ -17,7 +17,7 @@ use polynomials::bits_of;
 use readings::Reading;
 use tables::TABLES;
 
-#[derive(Drop)]
+#[derive(Clone, Copy)]
 pub enum Question {
     Identify,
     Extract,
@@ -25,7 +25,7 @@ pub enum Question {
 }
 
 // What the answer weighs, or that there is none.
-#[derive(Drop)]
+#[derive(Clone, Copy)]
 pub enum Told {
     Weighs(u64),
     Refused,

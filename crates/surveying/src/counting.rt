@@ -9,7 +9,7 @@ use lines::columns::part;
 use std::num::{wrapping_add_u64, wrapping_add_usize};
 use tables::TABLES;
 
-#[derive(Drop)]
+#[derive(Clone, Copy)]
 pub struct Tally {
     pub answered: usize,
     pub refused: usize,
@@ -17,7 +17,7 @@ pub struct Tally {
 }
 
 // The same, and where the bytes begin that are left over.
-#[derive(Drop)]
+#[derive(Clone, Copy)]
 pub struct Surveyed {
     pub tally: Tally,
     pub used: usize,

@@ -25,7 +25,7 @@ pub const LINKS: usize = HEADS + 2 * SYMBOLS;
 pub const NO_ID: u16 = 65535;
 
 // A key: its key space and three words of its own.
-#[derive(Drop)]
+#[derive(Clone, Copy)]
 pub struct Symbol {
     pub space: u64,
     pub a: u64,
@@ -34,14 +34,14 @@ pub struct Symbol {
 }
 
 // The id of a key, NO_ID where it found no room, and how many symbols there are now.
-#[derive(Drop)]
+#[derive(Clone, Copy)]
 pub struct Interned {
     pub id: u16,
     pub count: usize,
 }
 
 // Where a search ended: one more than the id of the key, or 0, and the place of the last link.
-#[derive(Drop)]
+#[derive(Clone, Copy)]
 struct Trace {
     at: usize,
     place: usize,

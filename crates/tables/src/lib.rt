@@ -47,7 +47,7 @@ const LINE_FEED: u8 = 10;
 const BLOCK: usize = 128;
 
 // Whether the tables are of a size that any question takes; else the first that isn't.
-#[derive(Drop)]
+#[derive(Clone, Copy)]
 pub enum Sizes {
     Fit,
     TooLong(TableNumber),

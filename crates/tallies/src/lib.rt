@@ -13,7 +13,7 @@ use lines::columns::keep_at;
 use scripts::verb::QUESTIONS;
 
 // How many questions of each kind were asked, how many answers differ, and how many lines can't be read.
-#[derive(Drop)]
+#[derive(Clone, Copy)]
 pub struct Tally {
     pub asked: [usize; QUESTIONS],
     pub differ: usize,

@@ -7,7 +7,7 @@ pub mod words;
 
 // The number and the place of a refusal, both 0 where there are values; and the first `count` of these,
 // which are the answer's.
-#[derive(Drop)]
+#[derive(Clone, Copy)]
 pub struct Telling {
     pub number: u8,
     pub place: usize,

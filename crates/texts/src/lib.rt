@@ -21,7 +21,7 @@ use units::{ByteOffset, RowNumber, TableOffset};
 
 // A text as its txp row, and ALTXT's place in that table and its length; or why there is none.
 // `text_part` hands back the bytes of such a text.
-#[derive(Drop)]
+#[derive(Clone, Copy)]
 pub enum TextResult {
     Is(RowNumber, TableOffset, usize),
     Refused(Refusal),

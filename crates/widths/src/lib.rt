@@ -5,7 +5,7 @@ ghost use Rattle.std.specs.Prelude.{◌≡◌, ◌*◌};
 ghost use Rattle.widths.specs.Width.{bits_of, width_of, bits_within, integer_width, real_width};
 
 // The width in bits, or no such pair of codes.
-#[derive(Drop)]
+#[derive(Clone, Copy)]
 pub enum Width {
     Bits(u32),
     Refused,
