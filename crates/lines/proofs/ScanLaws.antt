@@ -1,8 +1,8 @@
 -- The walk over a line: what is left of it, with what the walk has met, is the whole.
 use mathlib.Core.Path.{◌≡◌, refl, ap, sym, ◌∙◌}
 use mathlib.Core.List.{List, [], ◌∷◌, ◌++◌}
-use mathlib.Core.Bool.{Bool, true, false, not, ◌||◌, ◌&&◌}
-use Prim.Native.Nat.{ℕ, zero, suc, ◌+◌, ◌-◌, ◌≤◌, ◌<◌}
+use mathlib.Core.Bool.{Bool, true, false, ◌||◌, ◌&&◌}
+use Prim.Native.Nat.{ℕ, suc, ◌+◌, ◌-◌, ◌≤◌, ◌<◌}
 use native.Mathlib.Omega.{arith}
 use native.Mathlib.Numerals.{add-one}
 use lib.Dec.{eqb}
@@ -10,7 +10,7 @@ use lib.ListN.{length, get_or, take, drop, set, drop_of_length-le, length-set}
 use lib.Seq.{sets, length-take-le}
 use borrow.Author.Tests.{eq-eqb, ne_eqb, eqb-true}
 use Rattle.laws.proofs.Lists.{split}
-use Rattle.laws.proofs.Cases.{cond_cases₂, and_left, and_right, or_right, or_false, false≢true}
+use Rattle.laws.proofs.Cases.{cond_cases₂, and_right, or_right, or_false, false≢true}
 use Rattle.lines.specs.declared.columns.Scanned.{Scanned}
 use Rattle.lines.specs.Lines.{line_feed, line_length, next_line, line_from}
 use Rattle.lines.specs.Columns.{tab, columns_from, columns_of, ends_from, ends_of, printable, allowed, foreign_in, walked, closed, scanned, part_of}
