@@ -1,17 +1,16 @@
 -- One stage is stuck.
 use mathlib.Core.Path.{◌≡◌, refl}
-use mathlib.Core.Bool.{true, false}
+use mathlib.Core.Bool.{false}
 use mathlib.Core.List.{List, [], ◌∷◌}
 use Prim.Native.Nat.{ℕ}
 use denote.Enum.Declared.{tag_of}
 use types.Run.{OneOf, miss}
+use borrow.Enum.Refused.{opened}
 use Rattle.notation.specs.Positions.{is_stuck}
 use Rattle.notation.specs.declared.Stage.{Stage}
 use Rattle.notation.specs.declared.Stage.TheVariants.{Start, Minus, Whole, DecimalPoint, Fraction, ExponentMark, ExponentSign, Exponent, Stuck}
 use Rattle.notation.specs.contracts.Stage.{the_type}
-use borrow.Author.Rules.{rules}
-use Rattle.notation.proofs.wrong.is_stuck.Statement.{statement}
-use Rattle.notation.proofs.wrong.is_stuck.Tie as tie
+use Rattle.notation.proofs.wrong.is_stuck.Goals as goal
 
 -- the tags of the others
 abbrev others : List ℕ
@@ -29,15 +28,9 @@ other ExponentSign h = refl
 other Exponent h = refl
 other Stuck h = absurd (miss others 8 tt h)
 
-enum_told : tie.Need-enum-told
-enum_told c = search rules
-
-returns : tie.Need-returns
+pub returns-in-Stuck : goal.returns-in-Stuck
 unfolding is_stuck
-returns c = rw c.enum_told.given.1
+returns-in-Stuck c = rw c.in-Stuck.is
 
-returns-2 : tie.Need-returns-2
-returns-2 c = other c.before.args.s c.match.keys2
-
-pub is-stuck-spec : {M : Type 1} → statement M
-is-stuck-spec = tie.close (tie.spec enum_told returns returns-2)
+pub returns-in_default : goal.returns-in_default
+returns-in_default c = other c.args.s (opened c.in_default.in_default-own.keys2)

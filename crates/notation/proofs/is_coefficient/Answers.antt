@@ -5,12 +5,12 @@ use mathlib.Core.List.{List, [], ◌∷◌}
 use Prim.Native.Nat.{ℕ}
 use denote.Enum.Declared.{tag_of}
 use types.Run.{OneOf, miss}
+use borrow.Enum.Refused.{opened}
 use Rattle.notation.specs.Stages.{is_coefficient}
 use Rattle.notation.specs.declared.Stage.{Stage}
 use Rattle.notation.specs.declared.Stage.TheVariants.{Start, Minus, Whole, DecimalPoint, Fraction, ExponentMark, ExponentSign, Exponent, Stuck}
 use Rattle.notation.specs.contracts.Stage.{the_type}
-use Rattle.notation.proofs.is_coefficient.Statement.{statement}
-use Rattle.notation.proofs.is_coefficient.Tie as tie
+use Rattle.notation.proofs.is_coefficient.Goals as goal
 
 -- the tags of the stages that end a coefficient, and those of the others
 abbrev ends : List ℕ
@@ -43,11 +43,8 @@ other ExponentSign h = refl
 other Exponent h = absurd (miss others 7 tt h)
 other Stuck h = refl
 
-returns : tie.Need-returns
-returns c = end c.before.args.s c.match.keys1
+pub returns-in-Whole : goal.returns-in-Whole
+returns-in-Whole c = end c.args.s c.in-Whole.in-Whole-own.keys1
 
-returns-2 : tie.Need-returns-2
-returns-2 c = other c.before.args.s c.match.keys2
-
-pub is-coefficient-spec : {M : Type 1} → statement M
-is-coefficient-spec = tie.close (tie.spec returns returns-2)
+pub returns-in_default : goal.returns-in_default
+returns-in_default c = other c.args.s (opened c.in_default.in_default-own.keys2)
