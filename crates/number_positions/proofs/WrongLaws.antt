@@ -3,8 +3,7 @@ use mathlib.Core.Path.{◌≡◌, refl, ap, sym, ◌∙◌}
 use mathlib.Core.Logic.{◌⊎◌, inl, inr, ⊎_elim}
 use mathlib.Core.List.{List, [], ◌∷◌}
 use mathlib.Core.Bool.{Bool, true, false, cond, ◌&&◌, ◌||◌}
-use mathlib.Core.Option.{some}
-use Prim.Native.Nat.{ℕ, suc, ◌+◌, ◌-◌, ◌<◌, ◌≤◌}
+use Prim.Native.Nat.{ℕ, suc, ◌+◌, ◌*◌, ◌-◌, ◌<◌, ◌≤◌}
 use native.Mathlib.Omega.{arith}
 use lib.Dec.{eqb, ltb}
 use lib.ListN.{length, get_or, take, drop, length-drop, drop_of_length-le}
@@ -87,7 +86,7 @@ unfolding lead_on after digit_on is_stuck
 lead_any base n m v w [] = refl
 lead_any base n m v w (c ∷ t) =
     bool_cases (ltb (digit_of c) base)
-    (λ q. rw q (ap suc (lead_any base n m _ _ t)))
+    (λ q. rw q (ap suc (lead_any base n m (v * base + digit_of c) (w * base + digit_of c) t)))
     (λ q. rw q)
 
 module _ (base : ℕ) (t : List ℕ) (i : ℕ) where
