@@ -5,9 +5,9 @@ use Prim.Native.Nat.{ℕ, suc, ◌+◌, ◌-◌, ◌*◌, ◌/◌, ◌%◌, ◌^
 use native.Mathlib.Nat.{mul-div_cancel, lt_of_lt_of_le}
 use native.Mathlib.Omega.{arith}
 use lib.Dec.{T, ltb}
-use lib.IntN.{ℤ, pos, nat_abs, ◌+ℤ◌}
+use lib.IntN.{pos, nat_abs, ◌+ℤ◌}
 use lib.Pow.{pow_pos, pow_mono, shl_lt}
-use lib.Ieee.{Float, fin, binary64, up, down, size, round, is_nan, of_bits, to_bits}
+use lib.Ieee.{Float, fin, inf, nan, binary64, up, down, size, round, is_nan, of_bits, to_bits}
 use lib.Ieee.Exact.{HasValue, round_exact}
 use lib.Ieee.Fits.{round-fits, down_pos}
 use lib.Ieee.Bits.{of_bits-to_bits, to_bits-of_bits}
@@ -23,6 +23,8 @@ abbrev Valued : Float → MilReal → Type 0
 Valued v r = HasValue v (is_negative r.mantissa) (nat_abs r.mantissa * up r.power) (down r.power)
 
 exactly_from : (r : MilReal) (bits : ℕ) (v : Float) → of_bits binary64 bits ≡ v → Valued v r → ExactDouble r bits
+exactly_from r bits nan q h = elim h [ ]
+exactly_from r bits (inf _) q h = elim h [ ]
 exactly_from r bits (fin s m e) q h = record { significand = m; exponent = e; double = q ∙ ap (λ (s : Bool). fin s m e) h.0; equal = h.1 }
 
 to_value : (r : MilReal) (bits : ℕ) → ExactDouble r bits → Valued (of_bits binary64 bits) r
@@ -34,12 +36,16 @@ shape s a = cond s (2 ^ 63) 0 + (size a - 53) * 2 ^ 52 + a / 2 ^ (size a - 53)
 
 by_value : (v : Float) (s : Bool) (a : ℕ) → HasValue v s a (2 ^ 1074) → to_bits binary64 v ≡ shape s a
 unfolding to_bits shape
+by_value nan s a h = elim h [ ]
+by_value (inf _) s a h = elim h [ ]
 by_value (fin t m k) s a h =
     let n : m * up k * 2 ^ 1074 / down k ≡ a = ap (λ (x : ℕ). x / down k) h.1 ∙ mul-div_cancel a (down_pos k) in
     rw (h.0, n)
 
 finite : (v : Float) (s : Bool) (a c : ℕ) → HasValue v s a c → T (not (is_nan v))
 unfolding is_nan
+finite nan s a c h = elim h [ ]
+finite (inf _) s a c h = elim h [ ]
 finite (fin t m k) s a c h = tt
 
 module _ (r : MilReal) (n : ℕ) (e : r.power +ℤ pos 1074 ≡ pos n) where

@@ -7,7 +7,7 @@ use native.Mathlib.Omega.{arith}
 use lib.Dec.{ltb}
 use lib.IntN.{ℤ, pos, negsuc, neg_ℤ, ◌+ℤ◌, +ℤ_assoc, pos-ne-negsuc}
 use lib.Pow.{pow-add}
-use lib.Ieee.{Float, fin, up, down}
+use lib.Ieee.{Float, fin, inf, nan, up, down}
 use lib.Ieee.Exact.{HasValue}
 use borrow.Author.Tests.{le-ltb, ltb-false}
 use Rattle.fields.specs.Sign.{complement_of}
@@ -57,6 +57,8 @@ whole_power a p n e = mul_assoc a (up p) (2 ^ 1074) ∙ ap (λ (x : ℕ). a * x)
 
 -- a value is that of every fraction of the same size
 pub same_size : (v : Float) (s : Bool) (a c b d : ℕ) → 0 < c → b * c ≡ a * d → HasValue v s a c → HasValue v s b d
+same_size nan s a c b d p h w = elim w [ ]
+same_size (inf _) s a c b d p h w = elim w [ ]
 same_size (fin t m e) s a c b d p h w = (
   w.0,
   eq_of_mul-eq-mul_right c p (m * up e * d) (b * down e)
