@@ -6,7 +6,7 @@ use native.Mathlib.Nat.{pow-suc, pow-le-pow_right, one-le-pow, lt_of_le_of_lt, l
 use native.Mathlib.Omega.{arith}
 use lib.Dec.{lit<}
 use lib.Pow.{pow-add, pow_mono, shl_lt}
-use lib.Ieee.{Float, fin, binary64, up, down, round, mul, div, of_int}
+use lib.Ieee.{Float, nan, inf, fin, binary64, up, down, round, mul, div, of_int}
 use lib.Ieee.Fits.{down_pos}
 use lib.Ieee.Exact.{HasValue, round_exact}
 use lib.Ieee.Back.{round_whole}
@@ -40,6 +40,10 @@ ten_exact k h =
 -- a product of two whole doubles
 mul_whole : (x y : Float) (a b : ℕ) → HasValue x false a 1 → HasValue y false b 1 → mul binary64 x y ≡ round binary64 false (a * b) 1
 unfolding mul
+mul_whole nan y a b h k = elim h [ ]
+mul_whole (inf _) y a b h k = elim h [ ]
+mul_whole (fin s m e) nan a b h k = elim k [ ]
+mul_whole (fin s m e) (inf _) a b h k = elim k [ ]
 mul_whole (fin s m e) (fin t n d) a b h k =
     rw (h.0, k.0)
     (round_same binary64 false (m * up e * (n * up d)) (down e * down d) (a * b) 1 (mul-pos (down_pos e) (down_pos d)) (lit< tt)
@@ -51,6 +55,10 @@ mul_whole (fin s m e) (fin t n d) a b h k =
 -- a quotient of two
 div_whole : (x y : Float) (a b : ℕ) → 0 < b → HasValue x false a 1 → HasValue y false b 1 → div binary64 x y ≡ round binary64 false a b
 unfolding div
+div_whole nan y a b some h k = elim h [ ]
+div_whole (inf _) y a b some h k = elim h [ ]
+div_whole (fin s m e) nan a b some h k = elim k [ ]
+div_whole (fin s m e) (inf _) a b some h k = elim k [ ]
 div_whole (fin s m e) (fin t n d) a b some h k =
     let p : m * up e ≡ a * down e = sym (mul-one (m * up e)) ∙ h.1 in
     let q : n * up d ≡ b * down d = sym (mul-one (n * up d)) ∙ k.1 in

@@ -11,9 +11,7 @@ use lib.Ieee.{binary64, of_int, of_bits, to_bits}
 use lib.Ieee.Fits.{of_int-fits}
 use lib.Ieee.Bits.{of_bits-to_bits}
 use Rattle.coefficients.proofs.Tables.{at}
-use borrow.Author.Rules.{rules}
-use Rattle.coefficients.proofs.ten.Statement.{statement}
-use Rattle.coefficients.proofs.ten.Tie as tie
+use Rattle.coefficients.proofs.ten.Goals as goal
 
 -- the bits of the table's entries
 patterns : List ℕ
@@ -28,20 +26,10 @@ right : ℕ → ℕ → Bool
 unfolding of_int to_bits
 right k b = eqb b (to_bits binary64 (of_int binary64 (pos (10 ^ k))))
 
-mul-result : tie.Need-overflow-mul-result
-mul-result c = search rules
-
-array-read-result : tie.Need-array-read-result
-array-read-result c = search rules
-
-returns : tie.Need-returns
+pub returns : goal.returns
 unfolding patterns right of_bits
-returns c =
-    let k = c.args.k in
+returns c = let k = c.args.k in
     let bits = to_bits binary64 (of_int binary64 (pos (10 ^ k))) in
     get_or-map (of_bits binary64) patterns k 0x7ff8000000000000
     ∙ ap (of_bits binary64) (eqb→eq (get_or patterns k 0x7ff8000000000000) bits (at right 0x7ff8000000000000 patterns tt k (omega arith)))
     ∙ of_bits-to_bits binary64 (of_int binary64 (pos (10 ^ k))) (of_int-fits binary64 (pos (10 ^ k)))
-
-pub ten-spec : {M : Type 1} → statement M
-ten-spec = tie.close (tie.spec mul-result array-read-result returns)
