@@ -18,10 +18,14 @@ Under k (fin s m e) = m * up e ≤ 2 ^ k * down e
 
 pub under_up : {i j : ℕ} (v : Float) → i ≤ j → Under i v → Under j v
 unfolding Under
+under_up {i = i} {j = j} nan h u = elim u [ ]
+under_up {i = i} {j = j} (inf _) h u = elim u [ ]
 under_up (fin s m e) h u = le_trans u (mul-le-mul_right (down e) (pow_mono h))
 
 pub under_number : (k : ℕ) (v : Float) → Under k v → T (not (is_nan v))
 unfolding Under is_nan
+under_number k nan u = elim u [ ]
+under_number k (inf _) u = elim u [ ]
 under_number k (fin s m e) u = tt
 
 -- ---- what is rounded
@@ -62,6 +66,8 @@ round_flip a c = round_is binary64 true a c ∙ units_flip _ _ ∙ ap neg (sym (
 
 pub under_neg : (k : ℕ) (v : Float) → Under k v → Under k (neg v)
 unfolding Under neg
+under_neg k nan u = elim u [ ]
+under_neg k (inf _) u = elim u [ ]
 under_neg k (fin s m e) u = u
 
 -- from the order of two numbers to their sizes
@@ -77,6 +83,12 @@ below : (x y : Float) (k : ℕ) → Signed false x → HasValue y false (2 ^ k) 
 unfolding Signed Under le
 below nan y k s v h = absurd s
 below (inf true) (fin t n d) k s v h = let z : ◌≡◌ {A = ℕ} 0 1 = cc in absurd (omega arith)
+below (inf false) nan k s v h = elim v [ ]
+below (inf false) (inf _) k s v h = elim v [ ]
+below (inf true) nan k s v h = elim v [ ]
+below (inf true) (inf _) k s v h = elim v [ ]
+below (fin false m e) nan k s v h = elim v [ ]
+below (fin false m e) (inf _) k s v h = elim v [ ]
 below (inf false) (fin t n d) k s v h = absurd h
 below (fin true m e) y k s v h = let z : ◌≡◌ {A = ℕ} 0 1 = cc in absurd (omega arith)
 below (fin false m e) (fin true n d) k s v h = let p = v.0 in let z : ◌≡◌ {A = ℕ} 0 1 = cc in absurd (omega arith)
@@ -107,6 +119,10 @@ under_round true a c k p h l = rw (round_flip a c) (under_neg k (round binary64 
 
 pub under_mul : (i j : ℕ) (x y : Float) → i + j ≤ 1023 → Under i x → Under j y → Under (i + j) (mul binary64 x y)
 unfolding Under mul
+under_mul i j nan y h u v = elim u [ ]
+under_mul i j (inf _) y h u v = elim u [ ]
+under_mul i j (fin s m e) nan h u v = elim v [ ]
+under_mul i j (fin s m e) (inf _) h u v = elim v [ ]
 under_mul i j (fin s m e) (fin t n d) h u v =
     under_round _ (m * up e * (n * up d)) (down e * down d) (i + j) (mul-pos (down_pos e) (down_pos d)) h
     (le_trans (mul-le-mul u v)
@@ -131,6 +147,10 @@ module _ (k c a b : ℕ) (some : 0 < c) (h : k + 1 ≤ 1023) (l : a ≤ 2 ^ k * 
 
 pub under_add : (k : ℕ) (x y : Float) → k + 1 ≤ 1023 → Under k x → Under k y → Under (k + 1) (add binary64 x y)
 unfolding Under add
+under_add k nan y h u v = elim u [ ]
+under_add k (inf _) y h u v = elim u [ ]
+under_add k (fin s m e) nan h u v = elim v [ ]
+under_add k (fin s m e) (inf _) h u v = elim v [ ]
 under_add k (fin s m e) (fin t n d) h u v =
     under_sum k (down e * down d) (m * up e * down d) (n * up d * down e) (mul-pos (down_pos e) (down_pos d)) h
     (le_trans (mul-le-mul_right (down d) u) (le_of_eq (mul_assoc (2 ^ k) (down e) (down d))))
