@@ -1,5 +1,5 @@
 -- A number of 64 bits and a flag, as i64.
-use Rattle.std.specs.Prelude.{ℕ, ◌-◌, ◌^◌, ◌≡◌, refl, Bool, true, false, cond, List, [], ◌∷◌, ltb, ℤ, pos, negsuc}
+use Rattle.std.specs.Prelude.{ℕ, ◌-◌, ◌^◌, ◌≡◌, refl, Bool, true, false, cond, [], ◌∷◌, ltb, ℤ, pos, negsuc}
 
 -- a number of 64 bits as the i64 of the same bits: itself below 2 ^ 63, and 2 ^ 64 less from there on
 unfoldable pub word : ℕ → ℤ
