@@ -1,5 +1,5 @@
 -- What a column says: a number after its default, a letter, a name that may be missing.
-use Rattle.std.specs.Prelude.{ℕ, ◌+◌, ◌^◌, ◌≡◌, refl, List, [], ◌∷◌, Bool, true, false, cond, ltb, eqb, ℤ, pos, negsuc, nat_abs, length, Float}
+use Rattle.std.specs.Prelude.{ℕ, ◌^◌, ◌≡◌, refl, List, [], ◌∷◌, Bool, true, false, cond, ltb, eqb, ℤ, pos, negsuc, nat_abs, Float}
 use Rattle.std.proofs.Math.Option.{Option, some, none}
 use Rattle.laws.specs.Text.{ascii, char}
 use Rattle.numbers.specs.Number.{number_of, meaning, spelt, after, digit_on, digit_of}
