@@ -5,16 +5,18 @@ ghost use Rattle.replaying.specs.Replayed.{Replayed};
 
 use crate::say::say_end;
 use database::COLUMNS;
-use files::source::short;
+use files::source::{open_file, short};
 use replaying::{Standing, at_start, take_blocks};
 use showing::say::say_unread;
 use showing::stretches::Showing;
+use std::rt::Files;
 use symbols::{LINKS, WORDS};
 use tables::TABLES;
 
 // From a fresh state to the file's end, which is said; of a file that can't be opened nothing is read,
 // which is said too.
 pub(crate) fn replay_archive(
+    rt: &(impl Print + Eprint + Files),
     tables: [&[u8]; TABLES],
     words: &[u64; WORDS],
     links: &[u16; LINKS],
@@ -26,13 +28,25 @@ pub(crate) fn replay_archive(
     ensures { Replayed (answers (database (map (λ x. x.now) tables.entry) words.now links.now columns.now))
         name.now result }
 {
-    let fd = os::open_read(file);
-    if fd < 0 {
-        say_unread(file, os::errno());
-        return at_start();
+    match open_file(rt, file) {
+        Ok(opened) => {
+            let mut archive = opened;
+            let standing = take_blocks(
+                rt,
+                tables,
+                words,
+                links,
+                columns,
+                name,
+                &mut archive,
+                showing,
+            );
+            say_end(rt, file, standing, short(&mut archive));
+            standing
+        }
+        Err(error) => {
+            say_unread(rt, file, error);
+            at_start()
+        }
     }
-    let standing = take_blocks(tables, words, links, columns, name, fd, showing);
-    say_end(file, standing, short(fd));
-    libc::close(fd);
-    standing
 }

@@ -9,20 +9,22 @@ use full_loading::{FullLoading, load_full};
 use outcomes::{Refusal, number_of, place_of};
 use replaying::{Standing, at_start};
 use showing::stretches::Showing;
+use std::rt::Files;
 use symbols::{LINKS, WORDS};
 use tables::TABLES;
 use words::refusals::say_refused;
 
 // Refused tables are said, with 01's number and place: nothing is read then.
-fn refuse(refusal: Refusal) -> Standing
+fn refuse(rt: &impl Print, refusal: Refusal) -> Standing
     ensures { AtStart result }
 {
-    say_refused(number_of(refusal) as usize, place_of(refusal));
+    say_refused(rt, number_of(refusal) as usize, place_of(refusal));
     at_start()
 }
 
 // The packets of the file, by the good rows of the tables. The arrays are lent at their full size.
 pub fn replay_tables(
+    rt: &(impl Print + Eprint + Files),
     tables: [&[u8]; TABLES],
     name: &[u8],
     file: &[u8],
@@ -35,8 +37,8 @@ pub fn replay_tables(
     let mut columns = [0u16; COLUMNS];
     match load_full(tables, &mut words, &mut links, &mut columns) {
         FullLoading::Done => {
-            replay_archive(tables, &words, &links, &columns, name, file, showing)
+            replay_archive(rt, tables, &words, &links, &columns, name, file, showing)
         }
-        FullLoading::Refused(refusal) => refuse(refusal),
+        FullLoading::Refused(refusal) => refuse(rt, refusal),
     }
 }

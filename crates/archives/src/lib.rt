@@ -5,6 +5,9 @@ ghost use Rattle.std.specs.Prelude.{◌≡◌, ◌-◌, min, ◌≤◌};
 ghost use Rattle.archives.specs.Blocks.{Moved, Refilled};
 ghost use Rattle.archives.specs.Framing.{framed_at};
 
+use filling::fill;
+use std::io::Read;
+
 // A block has room for the longest packet that a length field can tell of, which is 65,542 bytes.
 pub const BLOCK: usize = 131072;
 
@@ -67,10 +70,10 @@ fn move_rest(block: &mut [u8], from: usize, to: usize) -> usize
 }
 
 // Keeps these bytes at the start of the block and reads on behind them; answers how many bytes then stand there.
-pub fn refill(fd: i32, block: &mut [u8], from: usize, to: usize) -> usize
+pub fn refill(file: &mut impl Read, block: &mut [u8], from: usize, to: usize) -> usize
     ensures { Refilled from to result block.old block.new }
 {
     let kept = move_rest(block, from, to);
-    let read = io::read_full(fd, &mut block[kept..]);
+    let read = fill(file, &mut block[kept..]);
     kept + read
 }

@@ -14,6 +14,7 @@ use scripts::verb::{find_byte, setting_of};
 use tables::{MOST_CELLS, TABLES, table_at};
 
 fn import_into(
+    rt: &impl Print,
     name: &[u8],
     number: usize,
     tables: [&[u8]; TABLES],
@@ -25,6 +26,7 @@ fn import_into(
 {
     let answer = say_imported(import(tables, cells, positions));
     compare(
+        rt,
         name,
         number,
         line,
@@ -37,6 +39,7 @@ fn import_into(
 
 // Into the first cells and positions.
 fn import_part(
+    rt: &impl Print,
     name: &[u8],
     number: usize,
     tables: [&[u8]; TABLES],
@@ -51,6 +54,7 @@ fn import_part(
     ensures { result ≡ import_verdict (map (λ x. x.now) tables.entry) (take room cells.old) (take more positions.old) line.now }
 {
     import_into(
+        rt,
         name,
         number,
         tables,
@@ -85,6 +89,7 @@ fn positions_lent(text: &[u8]) -> Natural
 }
 
 fn import_lent(
+    rt: &impl Print,
     name: &[u8],
     number: usize,
     tables: [&[u8]; TABLES],
@@ -102,6 +107,7 @@ fn import_lent(
         return Verdict::Unread;
     };
     import_part(
+        rt,
         name,
         number,
         tables,
@@ -114,6 +120,7 @@ fn import_lent(
 }
 
 pub fn judge_import(
+    rt: &impl Print,
     name: &[u8],
     number: usize,
     tables: [&[u8]; TABLES],
@@ -124,10 +131,20 @@ pub fn judge_import(
 {
     let mut cells = [65535u16; MOST_CELLS];
     let mut positions = [65535u16; MOST_CELLS];
-    import_lent(name, number, tables, text, line, &mut cells, &mut positions)
+    import_lent(
+        rt,
+        name,
+        number,
+        tables,
+        text,
+        line,
+        &mut cells,
+        &mut positions,
+    )
 }
 
 fn row_into(
+    rt: &impl Print,
     name: &[u8],
     number: usize,
     tables: [&[u8]; TABLES],
@@ -140,6 +157,7 @@ fn row_into(
     let imported = import(tables, cells, positions);
     let answer = say_only(imported, half_at(cells, 0), half_at(positions, 0));
     compare(
+        rt,
         name,
         number,
         line,
@@ -151,7 +169,7 @@ fn row_into(
 }
 
 // A table with these bytes, all others being empty.
-pub fn judge_row(name: &[u8], number: usize, text: &[u8], line: &[u8]) -> Verdict
+pub fn judge_row(rt: &impl Print, name: &[u8], number: usize, text: &[u8], line: &[u8]) -> Verdict
     ensures { result ≡ row_reply text.now line.now }
 {
     let tab = find_byte(text, 9);
@@ -167,5 +185,5 @@ pub fn judge_row(name: &[u8], number: usize, text: &[u8], line: &[u8]) -> Verdic
     tables[t] = part(text, tab + 1, text.len());
     let mut cells = [65535u16; MOST_CELLS];
     let mut positions = [65535u16; MOST_CELLS];
-    row_into(name, number, tables, line, &mut cells, &mut positions)
+    row_into(rt, name, number, tables, line, &mut cells, &mut positions)
 }

@@ -25,44 +25,47 @@ fn count_reason(cells: &[u16], n: usize, reason: u16) -> usize
 }
 
 // "4 rows", "1 row"
-fn say_number_of_rows(count: usize) {
-    say::number(count);
+fn say_number_of_rows(rt: &impl Print, count: usize) {
+    say::number(rt, count);
     if count == 1 {
-        words(b" row");
+        words(rt, b" row");
     } else {
-        words(b" rows");
+        words(rt, b" rows");
     }
 }
 
 // A line for a reason that a row has: "reason 9: 4 rows"
-fn say_reason_count(reason: u16, count: usize) {
+fn say_reason_count(rt: &impl Print, reason: u16, count: usize) {
     if count == 0 {
         return;
     }
-    words(b"reason ");
-    say::number(reason as usize);
-    words(b": ");
-    say_number_of_rows(count);
-    words(b"\n");
+    words(rt, b"reason ");
+    say::number(rt, reason as usize);
+    words(rt, b": ");
+    say_number_of_rows(rt, count);
+    words(rt, b"\n");
 }
 
 // A line for each reason.
-fn say_reasons(cells: &[u16], n: usize) {
+fn say_reasons(rt: &impl Print, cells: &[u16], n: usize) {
     let mut reason: u16 = 1;
     while reason < 15 {
-        say_reason_count(reason, count_reason(cells, n, reason));
+        say_reason_count(rt, reason, count_reason(cells, n, reason));
         reason += 1;
     }
 }
 
 // Those, and the last line: "131 rows, 88 good"
-pub(crate) fn say_counts(cells: &[u16], n: usize) {
-    say_reasons(cells, n);
+pub(crate) fn say_counts(rt: &impl Print, cells: &[u16], n: usize) {
+    say_reasons(rt, cells, n);
     if n == 0 {
-        words(b"no table has a row: is this the directory of pid.dat to mcf.dat?\n");
+        words(
+            rt,
+            b"no table has a row: is this the directory of pid.dat to mcf.dat?\n",
+        );
     }
-    say::number(n);
-    words(b" rows, ");
-    say::number(count_reason(cells, n, 0));
-    words(b" good\n");
+    say::number(rt, n);
+    words(rt, b" rows, ");
+    say::number(rt, count_reason(cells, n, 0));
+    words(rt, b" good\n");
 }

@@ -6,35 +6,41 @@ mod counts;
 use arrays::PLACES;
 use counts::say_counts;
 use directories::{SPACE, directory_error, load_directory, tables_in};
-use files::arguments::{LONGEST, say_argument};
+use files::arguments::{LONGEST, count, say_argument};
 use judged::judge_kept;
 use kept::{BYTES, HALVES, Keeping, LINKS, WORDS, keep};
 use leaning::say_row;
 use row_order::{order_rows, row_in};
+use std::env::Env;
+use std::rt::Files;
 use tables::TABLES;
 use words::refusals::say_refused;
 use words::say::words;
 
-fn say_usage() {
-    words(b"usage: check_tables DIR ..\n");
+fn say_usage(rt: &impl Print) {
+    words(rt, b"usage: check_tables DIR ..\n");
 }
 
 // How the program is called, and what it prints.
-fn say_help() {
-    say_usage();
+fn say_help(rt: &impl Print) {
+    say_usage(rt);
     words(
+        rt,
         b"Each DIR has pid.dat, pic.dat, plf.dat, pcf.dat, caf.dat, cap.dat, txf.dat, txp.dat, ocf.dat, ocp.dat and mcf.dat.\n",
     );
     words(
+        rt,
         b"A line is printed for each row that is not good, a cause before what leans on it: first rows of reasons 1 to 8, 13\n",
     );
     words(
+        rt,
         b"and 14, then those of reasons 9, 10 and 12, then those of reason 11, each after the row that it names.\n",
     );
 }
 
 // Says the rows that aren't good, in the order in which they are told.
 fn say_rows(
+    rt: &impl Print,
     tables: [&[u8]; TABLES],
     halves: &[u16],
     bytes: &[u8],
@@ -45,13 +51,14 @@ fn say_rows(
 ) {
     let mut k: usize = 0;
     while k < count {
-        say_row(tables, halves, bytes, cells, n, row_in(order, k));
+        say_row(rt, tables, halves, bytes, cells, n, row_in(order, k));
         k += 1;
     }
 }
 
 // The rows that are kept are judged, and what their verdicts lean on is said.
 fn judge(
+    rt: &impl Print,
     tables: [&[u8]; TABLES],
     halves: &[u16; HALVES],
     bytes: &[u8; BYTES],
@@ -61,18 +68,25 @@ fn judge(
 ) {
     judge_kept(halves, bytes, cells, rows);
     let count = order_rows(halves, bytes, cells, rows, order);
-    say_rows(tables, halves, bytes, cells, rows, order, count);
-    say_counts(cells, rows);
+    say_rows(rt, tables, halves, bytes, cells, rows, order, count);
+    say_counts(rt, cells, rows);
 }
 
-fn judge_rows(tables: [&[u8]; TABLES], halves: &[u16; HALVES], bytes: &[u8; BYTES], rows: usize) {
+fn judge_rows(
+    rt: &impl Print,
+    tables: [&[u8]; TABLES],
+    halves: &[u16; HALVES],
+    bytes: &[u8; BYTES],
+    rows: usize,
+) {
     let mut cells = [0u16; PLACES];
     let mut order = [0usize; PLACES];
-    judge(tables, halves, bytes, rows, &mut cells, &mut order);
+    judge(rt, tables, halves, bytes, rows, &mut cells, &mut order);
 }
 
 // The arrays are lent at their full size.
 fn check_by(
+    rt: &impl Print,
     tables: [&[u8]; TABLES],
     symbols: &mut [u64; WORDS],
     links: &mut [u16; LINKS],
@@ -80,69 +94,75 @@ fn check_by(
     bytes: &mut [u8; BYTES],
 ) {
     match keep(tables, symbols, links, halves, bytes) {
-        Keeping::Done(rows, _) => judge_rows(tables, halves, bytes, rows),
-        Keeping::TooLong(table) => say_refused(1, table.0),
-        Keeping::TooManyRows(table) => say_refused(2, table.0),
-        Keeping::NoRoom => say_refused(3, 0),
+        Keeping::Done(rows, _) => judge_rows(rt, tables, halves, bytes, rows),
+        Keeping::TooLong(table) => say_refused(rt, 1, table.0),
+        Keeping::TooManyRows(table) => say_refused(rt, 2, table.0),
+        Keeping::NoRoom => say_refused(rt, 3, 0),
     }
 }
 
-fn check_tables(tables: [&[u8]; TABLES]) {
+fn check_tables(rt: &impl Print, tables: [&[u8]; TABLES]) {
     let mut symbols = [0u64; WORDS];
     let mut links = [0u16; LINKS];
     let mut halves = [0u16; HALVES];
     let mut bytes = [0u8; BYTES];
-    check_by(tables, &mut symbols, &mut links, &mut halves, &mut bytes);
+    check_by(
+        rt,
+        tables,
+        &mut symbols,
+        &mut links,
+        &mut halves,
+        &mut bytes,
+    );
 }
 
-fn check_space(space: &[u8], ends: [usize; TABLES]) {
-    check_tables(tables_in(space, ends));
+fn check_space(rt: &impl Print, space: &[u8], ends: [usize; TABLES]) {
+    check_tables(rt, tables_in(space, ends));
 }
 
 // Where there is no such directory, a hint follows the line that says so.
-fn check_lent(directory: &[u8], space: &mut [u8; SPACE]) {
-    let loaded = load_directory(directory, space);
+fn check_lent(rt: &(impl Print + Files), directory: &[u8], space: &mut [u8; SPACE]) {
+    let loaded = load_directory(rt, directory, space);
     let ends = loaded.ends;
     if loaded.whole {
-        check_space(space, ends);
+        check_space(rt, space, ends);
         return;
     }
-    if directory_error(directory) != 0 {
-        say_usage();
+    if directory_error(rt, directory).is_some() {
+        say_usage(rt);
     }
 }
 
-fn check_directory(directory: &[u8]) {
+fn check_directory(rt: &(impl Print + Files), directory: &[u8]) {
     let mut space = [0u8; SPACE];
-    check_lent(directory, &mut space);
+    check_lent(rt, directory, &mut space);
 }
 
-fn check_argument(k: usize) {
+fn check_argument(rt: &(impl Print + Files + Env), k: usize) {
     let mut directory = [0u8; LONGEST];
-    let length = os::arg(k, &mut directory);
-    if os::errno() != 0 {
-        words(b"the name of the directory is too long\n");
-        say_usage();
+    let Ok(length) = rt.arg(k, &mut directory) else {
+        words(rt, b"the name of the directory is too long\n");
+        say_usage(rt);
         return;
-    }
-    check_directory(&directory[..length]);
+    };
+    check_directory(rt, &directory[..length]);
 }
 
 // The arguments after the program's name, each named where there are several.
-fn check_arguments(count: usize) {
+fn check_arguments(rt: &(impl Print + Files + Env), count: usize) {
     for k in 1..count {
         if 2 < count {
-            say_argument(k);
+            say_argument(rt, k);
         }
-        check_argument(k);
+        check_argument(rt, k);
     }
 }
 
-fn main() {
-    let count = os::arg_count();
+fn main(rt: HostRuntime) {
+    let count = count(&rt);
     if count < 2 {
-        say_help();
+        say_help(&rt);
         return;
     }
-    check_arguments(count);
+    check_arguments(&rt, count);
 }

@@ -16,6 +16,7 @@ pub enum Verdict {
 
 // An answer that differs is said, with the file's name and the line's number.
 pub fn compare(
+    rt: &impl Print,
     name: &[u8],
     number: usize,
     line: &[u8],
@@ -32,6 +33,6 @@ pub fn compare(
     if agrees(line, answer, txp, cells, positions) {
         return Verdict::Same;
     }
-    say_difference(name, number, line, answer, txp, cells, positions);
+    say_difference(rt, name, number, line, answer, txp, cells, positions);
     Verdict::Differs
 }

@@ -1,6 +1,5 @@
 // What is said of a line that can't be read and of an answer that differs.
 use answers::answer::Answer;
-use libc::STDOUT_FILENO;
 use lines::columns::part;
 use spoken::spelling::value_at;
 use std::num::wrapping_add_usize;
@@ -9,81 +8,82 @@ use units::ByteOffset;
 use words::say;
 use words::say::words;
 
-fn say_place(name: &[u8], number: usize) {
-    words(name);
-    words(b", line ");
-    say::number(number);
-    words(b": ");
+fn say_place(rt: &impl Print, name: &[u8], number: usize) {
+    words(rt, name);
+    words(rt, b", line ");
+    say::number(rt, number);
+    words(rt, b": ");
 }
 
 // A line of a file, from 1.
-pub fn say_unread(name: &[u8], number: usize, line: &[u8]) {
-    say_place(name, number);
-    words(b"can't be read: ");
-    words(line);
-    words(b"\n");
+pub fn say_unread(rt: &impl Print, name: &[u8], number: usize, line: &[u8]) {
+    say_place(rt, name, number);
+    words(rt, b"can't be read: ");
+    words(rt, line);
+    words(rt, b"\n");
 }
 
-fn say_byte(template: &[u8], i: usize) {
-    words(part(template, i, wrapping_add_usize(i, 1)));
+fn say_byte(rt: &impl Print, template: &[u8], i: usize) {
+    words(rt, part(template, i, wrapping_add_usize(i, 1)));
 }
 
-fn say_template(template: &[u8], values: [u64; 7]) {
+fn say_template(rt: &impl Print, template: &[u8], values: [u64; 7]) {
     let mut k: usize = 0;
     for i in 0..template.len() {
         if template[i] == b'#' {
-            io::print_decimal(STDOUT_FILENO, value_at(values, k));
+            say::number(rt, value_at(values, k) as usize);
             k = wrapping_add_usize(k, 1);
         } else {
-            say_byte(template, i);
+            say_byte(rt, template, i);
         }
     }
 }
 
-fn say_cell(cell: u16) {
+fn say_cell(rt: &impl Print, cell: u16) {
     if cell == 0 {
-        words(b" good");
+        words(rt, b" good");
         return;
     }
-    words(b" ");
-    say::number((cell / 256) as usize);
-    words(b":");
-    say::number((cell % 256) as usize);
+    words(rt, b" ");
+    say::number(rt, (cell / 256) as usize);
+    words(rt, b":");
+    say::number(rt, (cell % 256) as usize);
 }
 
-fn say_position(position: u16) {
+fn say_position(rt: &impl Print, position: u16) {
     if position == 0 {
         return;
     }
-    words(b"@");
-    say::number(position as usize);
+    words(rt, b"@");
+    say::number(rt, position as usize);
 }
 
 // As far as there are both.
-fn say_cells(cells: &[u16], positions: &[u16], n: usize) {
+fn say_cells(rt: &impl Print, cells: &[u16], positions: &[u16], n: usize) {
     for i in 0..cells.len() {
         if i < n {
             if i < positions.len() {
-                say_cell(cells[i]);
-                say_position(positions[i]);
+                say_cell(rt, cells[i]);
+                say_position(rt, positions[i]);
             }
         }
     }
 }
 
-fn say_answer(answer: Answer, txp: &[u8], cells: &[u16], positions: &[u16]) {
+fn say_answer(rt: &impl Print, answer: Answer, txp: &[u8], cells: &[u16], positions: &[u16]) {
     if answer.negative {
-        words(b"-");
+        words(rt, b"-");
     }
     let template = answer.template;
     let values = answer.values;
-    say_template(part(&template, 0, answer.length), values);
-    words(string_part(txp, ByteOffset(answer.from), answer.bytes));
-    say_cells(cells, positions, answer.cells);
+    say_template(rt, part(&template, 0, answer.length), values);
+    words(rt, string_part(txp, ByteOffset(answer.from), answer.bytes));
+    say_cells(rt, cells, positions, answer.cells);
 }
 
 // The answer that stands in a line of a file, and the one that was given.
 pub(crate) fn say_difference(
+    rt: &impl Print,
     name: &[u8],
     number: usize,
     line: &[u8],
@@ -92,10 +92,10 @@ pub(crate) fn say_difference(
     cells: &[u16],
     positions: &[u16],
 ) {
-    say_place(name, number);
-    words(b"expected ");
-    words(line);
-    words(b"\n    and was answered = ");
-    say_answer(answer, txp, cells, positions);
-    words(b"\n");
+    say_place(rt, name, number);
+    words(rt, b"expected ");
+    words(rt, line);
+    words(rt, b"\n    and was answered = ");
+    say_answer(rt, answer, txp, cells, positions);
+    words(rt, b"\n");
 }

@@ -8,34 +8,38 @@ ghost use Rattle.directories.specs.Space.{DirectoryInto, LoadedInto, TableInto, 
 
 use files::errors::say_error;
 use files::path::{MOST_PATH, table_path};
-use files::source::{Got, read_file};
-use libc::{EISDIR, ENOTDIR};
+use files::source::{Got, open_file, read_file};
 use lines::columns::keep_at;
+use std::io::{ErrorKind, Read};
 use std::num::wrapping_add_usize;
+use std::rt::Files;
 use table_names::table_name;
 use tables::{ROOM, TABLES};
 use units::TableNumber;
 use words::say;
 use words::say::words;
 
-// 0 where there is such a directory, else the number of the system's error. Reading a directory fails,
-// by which it is told from a file.
-pub fn directory_error(directory: &[u8]) -> i32 {
-    let fd = os::open_read(directory);
-    if fd < 0 {
-        return os::errno();
-    }
+// Nothing where an open file is a directory, else the error. Reading a directory fails, by which it is told from a file.
+fn read_error(file: &mut impl Read) -> Option<ErrorKind> {
     let mut byte = [0u8; 1];
-    let got = libc::read(fd, &mut byte);
-    let error = os::errno();
-    libc::close(fd);
-    if 0 <= got {
-        return ENOTDIR;
+    match file.read(&mut byte) {
+        Ok(_) => Some(ErrorKind::NotADirectory),
+        Err(error) => match error.kind() {
+            ErrorKind::IsADirectory => None,
+            kind => Some(kind),
+        },
     }
-    if error == EISDIR {
-        return 0;
+}
+
+// Nothing where there is such a directory, else the system's error.
+pub fn directory_error(rt: &impl Files, directory: &[u8]) -> Option<ErrorKind> {
+    match open_file(rt, directory) {
+        Ok(opened) => {
+            let mut file = opened;
+            read_error(&mut file)
+        }
+        Err(error) => Some(error),
     }
-    error
 }
 
 // A part for each table.
@@ -48,24 +52,24 @@ pub struct Loaded {
     pub whole: bool,
 }
 
-fn say_file(table: TableNumber) {
-    say::name(table_name(table));
-    words(b".dat: ");
+fn say_file(rt: &impl Print, table: TableNumber) {
+    say::name(rt, table_name(table));
+    words(rt, b".dat: ");
 }
 
-fn say_missing(table: TableNumber) {
-    say_file(table);
-    words(b"there is none, so the table is empty\n");
+fn say_missing(rt: &impl Print, table: TableNumber) {
+    say_file(rt, table);
+    words(rt, b"there is none, so the table is empty\n");
 }
 
-fn say_failed(table: TableNumber, error: i32) {
-    say_file(table);
-    say_error(error);
-    words(b"\n");
+fn say_failed(rt: &impl Print, table: TableNumber, error: ErrorKind) {
+    say_file(rt, table);
+    say_error(rt, error);
+    words(rt, b"\n");
 }
 
 // The table with this number, from 0, into its part of the space.
-fn read_table(directory: &[u8], t: usize, space: &mut [u8]) -> Got
+fn read_table(rt: &impl Files, directory: &[u8], t: usize, space: &mut [u8]) -> Got
     ensures { TableInto t result space.old space.new }
 {
     if TABLES <= t {
@@ -78,7 +82,7 @@ fn read_table(directory: &[u8], t: usize, space: &mut [u8]) -> Got
     }
     let mut path = [0u8; MOST_PATH];
     let length = table_path(directory, TableNumber(t + 1), &mut path);
-    read_file(&path[..length], &mut space[from..to])
+    read_file(rt, &path[..length], &mut space[from..to])
 }
 
 // Where a table of so many bytes ends in the space.
@@ -95,20 +99,26 @@ fn end_of(t: usize, count: usize) -> usize
 }
 
 // Reads one table, and says where it isn't there or can't be read; answers whether it could.
-fn load_table(directory: &[u8], t: usize, space: &mut [u8], ends: &mut [usize; TABLES]) -> bool
+fn load_table(
+    rt: &(impl Print + Files),
+    directory: &[u8],
+    t: usize,
+    space: &mut [u8],
+    ends: &mut [usize; TABLES],
+) -> bool
     ensures { TableLoaded t result space.old space.new ends.old ends.new }
 {
-    match read_table(directory, t, space) {
+    match read_table(rt, directory, t, space) {
         Got::Bytes(count) => {
             keep_at(ends, t, end_of(t, count));
             true
         }
         Got::Missing => {
-            say_missing(TableNumber(wrapping_add_usize(t, 1)));
+            say_missing(rt, TableNumber(wrapping_add_usize(t, 1)));
             true
         }
         Got::Failed(error) => {
-            say_failed(TableNumber(wrapping_add_usize(t, 1)), error);
+            say_failed(rt, TableNumber(wrapping_add_usize(t, 1)), error);
             false
         }
     }
@@ -124,36 +134,35 @@ fn both(a: bool, b: bool) -> bool
 }
 
 // Reads the tables. A table for which the space has no room counts as missing.
-pub fn load(directory: &[u8], space: &mut [u8]) -> Loaded
+pub fn load(rt: &(impl Print + Files), directory: &[u8], space: &mut [u8]) -> Loaded
     ensures { LoadedInto result space.old space.new }
 {
     let mut ends = [0usize; TABLES];
     let mut whole = true;
     for t in 0..TABLES {
-        let read = load_table(directory, t, space, &mut ends);
+        let read = load_table(rt, directory, t, space, &mut ends);
         whole = both(whole, read);
     }
     Loaded { ends, whole }
 }
 
 // The same, and a line where there is no such directory, or a table was not read.
-pub fn load_directory(directory: &[u8], space: &mut [u8]) -> Loaded
+pub fn load_directory(rt: &(impl Print + Files), directory: &[u8], space: &mut [u8]) -> Loaded
     ensures { DirectoryInto result space.old space.new }
 {
-    let error = directory_error(directory);
-    if error != 0 {
-        words(directory);
-        words(b": ");
-        say_error(error);
-        words(b"\n");
+    if let Some(error) = directory_error(rt, directory) {
+        words(rt, directory);
+        words(rt, b": ");
+        say_error(rt, error);
+        words(rt, b"\n");
         return Loaded {
             ends: [0; TABLES],
             whole: false,
         };
     }
-    let loaded = load(directory, space);
+    let loaded = load(rt, directory, space);
     if !loaded.whole {
-        words(b"not imported, since a table was not read\n");
+        words(rt, b"not imported, since a table was not read\n");
     }
     loaded
 }

@@ -5,13 +5,13 @@ use explaining::{Explanation, explain};
 use units::{RowNumber, TableNumber};
 use words::say::{number, words};
 
-fn say_place(place: usize) {
-    words(b" ");
-    number(place);
+fn say_place(rt: &impl Print, place: usize) {
+    words(rt, b" ");
+    number(rt, place);
 }
 
 // The verdict of a row, of how many rows it speaks, and what the three places that are lent then hold.
-fn say_row(table: usize, row: usize) {
+fn say_row(rt: &impl Print, table: usize, row: usize) {
     let none: &[u8] = b"";
     let caf: &[u8] = b"C1\tA\tI\tI\tD\t\t3\tP\n";
     let cap: &[u8] = b"C1\t0\t0\nC1\t10\t-5\n";
@@ -21,25 +21,25 @@ fn say_row(table: usize, row: usize) {
     let mut places = [99usize; 3];
     match explain(tables, TableNumber(table), RowNumber(row), &mut places) {
         Explanation::Verdict(verdict, count) => {
-            number(verdict as usize);
-            words(b" speaks of ");
-            number(count);
-            words(b":");
-            say_place(places[0]);
-            say_place(places[1]);
-            say_place(places[2]);
-            words(b"\n");
+            number(rt, verdict as usize);
+            words(rt, b" speaks of ");
+            number(rt, count);
+            words(rt, b":");
+            say_place(rt, places[0]);
+            say_place(rt, places[1]);
+            say_place(rt, places[2]);
+            words(rt, b"\n");
         }
-        Explanation::NoRow => words(b"no such row\n"),
-        Explanation::TooLong(_) => words(b"refused 1\n"),
-        Explanation::TooManyRows(_) => words(b"refused 2\n"),
+        Explanation::NoRow => words(rt, b"no such row\n"),
+        Explanation::TooLong(_) => words(rt, b"refused 1\n"),
+        Explanation::TooManyRows(_) => words(rt, b"refused 2\n"),
     }
 }
 
-fn main() {
-    say_row(5, 1);
-    say_row(6, 1);
-    say_row(6, 2);
-    say_row(6, 3);
-    say_row(12, 1);
+fn main(rt: HostRuntime) {
+    say_row(&rt, 5, 1);
+    say_row(&rt, 6, 1);
+    say_row(&rt, 6, 2);
+    say_row(&rt, 6, 3);
+    say_row(&rt, 12, 1);
 }

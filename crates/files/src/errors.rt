@@ -1,15 +1,15 @@
 // The system's errors in words.
-use libc::{EACCES, EINTR, EISDIR, ENAMETOOLONG, ENOENT, ENOTDIR};
+use std::io::ErrorKind;
 use words::say::words;
 
-pub fn say_error(error: i32) {
+pub fn say_error(rt: &impl Print, error: ErrorKind) {
     match error {
-        ENOENT => words(b"there is none"),
-        ENOTDIR => words(b"it is no directory"),
-        EISDIR => words(b"it is a directory"),
-        EACCES => words(b"it may not be read"),
-        ENAMETOOLONG => words(b"its name is too long"),
-        EINTR => words(b"its reading was broken off"),
-        _ => words(b"it cannot be read"),
+        ErrorKind::NotFound => words(rt, b"there is none"),
+        ErrorKind::NotADirectory => words(rt, b"it is no directory"),
+        ErrorKind::IsADirectory => words(rt, b"it is a directory"),
+        ErrorKind::PermissionDenied => words(rt, b"it may not be read"),
+        ErrorKind::InvalidFilename => words(rt, b"its name is too long"),
+        ErrorKind::Interrupted => words(rt, b"its reading was broken off"),
+        _ => words(rt, b"it cannot be read"),
     }
 }

@@ -19,7 +19,9 @@ fn append(path: &mut [u8], at: usize, text: &[u8]) -> usize
     ensures value { result ≡ at + length text.now }
     ensures path_after { path.new ≡ take at path.old ++ (text.now ++ drop (at + length text.now) path.old) }
 {
-    at + bytes::copy(text, &mut path[at..])
+    let end = at + text.len();
+    path[at..end].copy_from_slice(text);
+    end
 }
 
 // Puts the path of the table with this number at the start of the buffer, and answers its length. Of a directory's

@@ -1,55 +1,62 @@
 // A file read whole, as far as a buffer holds it.
 ghost use Rattle.files.specs.Reads.{ReadInto};
 
-use libc::{EINTR, ENOENT};
+use filling::fill;
+use std::fs;
+use std::io::{ErrorKind, Read};
+use std::rt::Files;
 
-// How many bytes stand at the start of the buffer; that there is no such file; or the number of the system's error.
+// How many bytes stand at the start of the buffer; that there is no such file; or the system's error.
 #[derive(Clone, Copy)]
 pub enum Got {
     Bytes(usize),
     Missing,
-    Failed(i32),
+    Failed(ErrorKind),
 }
 
-// A read that came back short: 0 where the file has ended, else the number of the error.
-pub fn short(fd: i32) -> i32 {
+// A file opened for reading, or the error. A path that is no UTF-8 opens none.
+pub fn open_file<R: Files>(rt: &R, path: &[u8]) -> Result<R::File, ErrorKind> {
+    let Ok(text) = str::from_utf8(path) else {
+        return Err(ErrorKind::InvalidInput);
+    };
+    match fs::open(rt, text) {
+        Ok(file) => Ok(file),
+        Err(error) => Err(error.kind()),
+    }
+}
+
+// A read that came back short: nothing where the file has ended, else the error.
+pub fn short(file: &mut impl Read) -> Option<ErrorKind> {
     let mut more = [0u8; 1];
-    let got = libc::read(fd, &mut more);
-    if got == 0 {
-        return 0;
+    match file.read(&mut more) {
+        Ok(0) => None,
+        Ok(_) => Some(ErrorKind::Interrupted),
+        Err(error) => Some(error.kind()),
     }
-    if got < 0 {
-        return os::errno();
-    }
-    EINTR
 }
 
 // Reads until the file ends or the buffer is full.
-fn read_open(fd: i32, buffer: &mut [u8]) -> Got
+fn read_open(file: &mut impl Read, buffer: &mut [u8]) -> Got
     ensures { ReadInto result buffer.old buffer.new }
 {
-    let count = io::read_full(fd, buffer);
+    let count = fill(file, buffer);
     if count < buffer.len() {
-        let error = short(fd);
-        if error != 0 {
+        if let Some(error) = short(file) {
             return Got::Failed(error);
         }
     }
     Got::Bytes(count)
 }
 
-pub fn read_file(path: &[u8], buffer: &mut [u8]) -> Got
+pub fn read_file(rt: &impl Files, path: &[u8], buffer: &mut [u8]) -> Got
     ensures { ReadInto result buffer.old buffer.new }
 {
-    let fd = os::open_read(path);
-    if fd < 0 {
-        let error = os::errno();
-        if error == ENOENT {
-            return Got::Missing;
+    match open_file(rt, path) {
+        Ok(opened) => {
+            let mut file = opened;
+            read_open(&mut file, buffer)
         }
-        return Got::Failed(error);
+        Err(ErrorKind::NotFound) => Got::Missing,
+        Err(error) => Got::Failed(error),
     }
-    let got = read_open(fd, buffer);
-    libc::close(fd);
-    got
 }

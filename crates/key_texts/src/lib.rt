@@ -46,14 +46,14 @@ fn put_shown(text: &[u8], letters: &mut [u8], n: usize)
 }
 
 // The start of a text.
-fn say_text(text: &[u8]) {
+fn say_text(rt: &impl Print, text: &[u8]) {
     let mut letters = [0u8; SHOWN];
     put_shown(text, &mut letters, SHOWN);
     if SHOWN < text.len() {
-        words(&letters);
-        words(b"..");
+        words(rt, &letters);
+        words(rt, b"..");
     } else {
-        words(part(&letters, 0, text.len()));
+        words(rt, part(&letters, 0, text.len()));
     }
 }
 
@@ -79,16 +79,30 @@ fn text_of<'a>(
 }
 
 // Says it.
-pub fn say_column_text(tables: [&[u8]; TABLES], halves: &[u16], bytes: &[u8], i: usize, k: usize) {
-    say_text(text_of(tables, halves, bytes, i, k));
+pub fn say_column_text(
+    rt: &impl Print,
+    tables: [&[u8]; TABLES],
+    halves: &[u16],
+    bytes: &[u8],
+    i: usize,
+    k: usize,
+) {
+    say_text(rt, text_of(tables, halves, bytes, i, k));
 }
 
 // In quotes, where there is one.
-pub fn say_quoted(tables: [&[u8]; TABLES], halves: &[u16], bytes: &[u8], i: usize, k: usize) {
+pub fn say_quoted(
+    rt: &impl Print,
+    tables: [&[u8]; TABLES],
+    halves: &[u16],
+    bytes: &[u8],
+    i: usize,
+    k: usize,
+) {
     if 0 < k {
-        words(b"\"");
-        say_column_text(tables, halves, bytes, i, k);
-        words(b"\"");
+        words(rt, b"\"");
+        say_column_text(rt, tables, halves, bytes, i, k);
+        words(rt, b"\"");
     }
 }
 

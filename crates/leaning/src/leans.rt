@@ -17,22 +17,30 @@ const TOLD: usize = 5;
 const INTER: usize = 4;
 
 // A row that a name leads to, and why it doesn't do: "pcf 8 is not good: 2304"
-fn say_named(tables: [&[u8]; TABLES], bytes: &[u8], cells: &[u16], j: usize, column: usize) {
+fn say_named(
+    rt: &impl Print,
+    tables: [&[u8]; TABLES],
+    bytes: &[u8],
+    cells: &[u16],
+    j: usize,
+    column: usize,
+) {
     let verdict = half_at(cells, j) as usize;
-    say_place(tables, bytes, j);
+    say_place(rt, tables, bytes, j);
     if 0 < verdict {
-        words(b" is not good: ");
-        say::number(verdict);
+        words(rt, b" is not good: ");
+        say::number(rt, verdict);
         return;
     }
     if column == INTER {
-        words(b" is good, and has no CURTX that names a caf row");
+        words(rt, b" is good, and has no CURTX that names a caf row");
         return;
     }
-    words(b" is good, and of another kind");
+    words(rt, b" is good, and of another kind");
 }
 
 fn say_cause(
+    rt: &impl Print,
     tables: [&[u8]; TABLES],
     bytes: &[u8],
     cells: &[u16],
@@ -42,17 +50,18 @@ fn say_cause(
     k: usize,
 ) {
     if 0 < k {
-        words(b", ");
+        words(rt, b", ");
     }
     if reason == 11 {
-        say_named(tables, bytes, cells, j, column);
+        say_named(rt, tables, bytes, cells, j, column);
     } else {
-        say_place(tables, bytes, j);
+        say_place(rt, tables, bytes, j);
     }
 }
 
 // The first rows that the verdict of row i speaks of.
 fn say_first(
+    rt: &impl Print,
     tables: [&[u8]; TABLES],
     halves: &[u16],
     bytes: &[u8],
@@ -67,7 +76,7 @@ fn say_first(
     for k in 0..TOLD {
         match next_cause(halves, bytes, cells, n, i, from) {
             Cause::Row(j) => {
-                say_cause(tables, bytes, cells, reason, column, j, k);
+                say_cause(rt, tables, bytes, cells, reason, column, j, k);
                 from = wrapping_add_usize(j, 1);
             }
             Cause::NoMore => {
@@ -79,6 +88,7 @@ fn say_first(
 
 // All of them: "pid 12, pid 13 and 4 more"
 fn say_causes(
+    rt: &impl Print,
     tables: [&[u8]; TABLES],
     halves: &[u16],
     bytes: &[u8],
@@ -87,16 +97,17 @@ fn say_causes(
     i: usize,
     count: usize,
 ) {
-    say_first(tables, halves, bytes, cells, n, i);
+    say_first(rt, tables, halves, bytes, cells, n, i);
     if TOLD < count {
-        words(b" and ");
-        say::number(count - TOLD);
-        words(b" more");
+        words(rt, b" and ");
+        say::number(rt, count - TOLD);
+        words(rt, b" more");
     }
 }
 
 // Reason 11: what the name leads to.
 fn say_name(
+    rt: &impl Print,
     tables: [&[u8]; TABLES],
     halves: &[u16],
     bytes: &[u8],
@@ -105,16 +116,17 @@ fn say_name(
     i: usize,
     count: usize,
 ) {
-    words(b": ");
+    words(rt, b": ");
     if count == 0 {
-        words(b"no well-formed row has this name");
+        words(rt, b"no well-formed row has this name");
         return;
     }
-    say_causes(tables, halves, bytes, cells, n, i, count);
+    say_causes(rt, tables, halves, bytes, cells, n, i, count);
 }
 
 // Reason 10: the number asked, as the table writes it, and the number counted.
 fn say_count(
+    rt: &impl Print,
     tables: [&[u8]; TABLES],
     halves: &[u16],
     bytes: &[u8],
@@ -123,17 +135,18 @@ fn say_count(
     i: usize,
     count: usize,
 ) {
-    words(b" asked, ");
-    say::number(count);
-    words(b" counted");
+    words(rt, b" asked, ");
+    say::number(rt, count);
+    words(rt, b" counted");
     if 0 < count {
-        words(b": ");
-        say_causes(tables, halves, bytes, cells, n, i, count);
+        words(rt, b": ");
+        say_causes(rt, tables, halves, bytes, cells, n, i, count);
     }
 }
 
 // Reasons 9 and 12.
 fn say_others(
+    rt: &impl Print,
     tables: [&[u8]; TABLES],
     halves: &[u16],
     bytes: &[u8],
@@ -143,17 +156,18 @@ fn say_others(
     reason: usize,
     count: usize,
 ) {
-    say_reason(reason);
+    say_reason(rt, reason);
     if reason == 9 {
-        words(b": ");
+        words(rt, b": ");
     } else {
-        words(b": by VALID next is ");
+        words(rt, b": by VALID next is ");
     }
-    say_causes(tables, halves, bytes, cells, n, i, count);
+    say_causes(rt, tables, halves, bytes, cells, n, i, count);
 }
 
 // Why row i isn't good, and what it leans on.
 pub(crate) fn say_leans(
+    rt: &impl Print,
     tables: [&[u8]; TABLES],
     halves: &[u16],
     bytes: &[u8],
@@ -165,20 +179,20 @@ pub(crate) fn say_leans(
     let reason = verdict / 256;
     let column = verdict % 256;
     let count = count_causes(halves, bytes, cells, n, i);
-    say_quoted(tables, halves, bytes, i, text_column(reason, column));
+    say_quoted(rt, tables, halves, bytes, i, text_column(reason, column));
     match reason {
-        9 => say_others(tables, halves, bytes, cells, n, i, reason, count),
-        10 => say_count(tables, halves, bytes, cells, n, i, count),
-        11 => say_name(tables, halves, bytes, cells, n, i, count),
+        9 => say_others(rt, tables, halves, bytes, cells, n, i, reason, count),
+        10 => say_count(rt, tables, halves, bytes, cells, n, i, count),
+        11 => say_name(rt, tables, halves, bytes, cells, n, i, count),
         12 => {
-            words(b": ");
-            say_others(tables, halves, bytes, cells, n, i, reason, count);
+            words(rt, b": ");
+            say_others(rt, tables, halves, bytes, cells, n, i, reason, count);
         }
-        6 | 13 => say_wrong(tables, halves, bytes, i, reason, column),
+        6 | 13 => say_wrong(rt, tables, halves, bytes, i, reason, column),
         4 | 5 | 7 | 8 | 14 => {
-            words(b": ");
-            say_reason(reason);
+            words(rt, b": ");
+            say_reason(rt, reason);
         }
-        _ => say_reason(reason),
+        _ => say_reason(rt, reason),
     }
 }

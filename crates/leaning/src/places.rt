@@ -7,9 +7,9 @@ use words::say;
 use words::say::words;
 
 // "pcf 12"
-pub(crate) fn say_place(tables: [&[u8]; TABLES], bytes: &[u8], i: usize) {
+pub(crate) fn say_place(rt: &impl Print, tables: [&[u8]; TABLES], bytes: &[u8], i: usize) {
     let table = table_of(bytes, i);
-    say::name(table_name(table));
-    words(b" ");
-    say::number(row_number(table_cells(tables, table), i).0);
+    say::name(rt, table_name(table));
+    words(rt, b" ");
+    say::number(rt, row_number(table_cells(tables, table), i).0);
 }

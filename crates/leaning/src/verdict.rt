@@ -10,24 +10,25 @@ use tables::{TABLES, kind_of};
 use words::say;
 use words::say::words;
 
-fn say_column(kind: Table, column: usize) {
+fn say_column(rt: &impl Print, kind: Table, column: usize) {
     if column == 0 {
-        words(b"the whole row");
+        words(rt, b"the whole row");
     } else {
-        say::name(column_name(kind, column));
+        say::name(rt, column_name(kind, column));
     }
 }
 
 // The column of a verdict: "8 (VALID)"
-fn say_at(bytes: &[u8], i: usize, column: usize) {
-    say::number(column);
-    words(b" (");
-    say_column(kind_of(byte(bytes, TABLE, i) as usize), column);
-    words(b")");
+fn say_at(rt: &impl Print, bytes: &[u8], i: usize, column: usize) {
+    say::number(rt, column);
+    words(rt, b" (");
+    say_column(rt, kind_of(byte(bytes, TABLE, i) as usize), column);
+    words(rt, b")");
 }
 
 // "pcf 12: 2824: reason 11 at column 8 (VALID): "T5": no well-formed row has this name"
 pub fn say_row(
+    rt: &impl Print,
     tables: [&[u8]; TABLES],
     halves: &[u16],
     bytes: &[u8],
@@ -37,14 +38,14 @@ pub fn say_row(
 ) {
     let verdict = half_at(cells, i) as usize;
     let reason = verdict / 256;
-    say_place(tables, bytes, i);
-    words(b": ");
-    say::number(verdict);
-    words(b": reason ");
-    say::number(reason);
-    words(b" at column ");
-    say_at(bytes, i, verdict % 256);
-    words(b": ");
-    say_leans(tables, halves, bytes, cells, n, i);
-    words(b"\n");
+    say_place(rt, tables, bytes, i);
+    words(rt, b": ");
+    say::number(rt, verdict);
+    words(rt, b": reason ");
+    say::number(rt, reason);
+    words(rt, b" at column ");
+    say_at(rt, bytes, i, verdict % 256);
+    words(rt, b": ");
+    say_leans(rt, tables, halves, bytes, cells, n, i);
+    words(rt, b"\n");
 }

@@ -11,16 +11,17 @@ use words::say::words;
 const SPACES: [u8; 16] = *b"                ";
 
 // A caret under a character, from 1, of a text that stands four places in.
-fn say_caret(position: usize) {
-    words(b"    ");
+fn say_caret(rt: &impl Print, position: usize) {
+    words(rt, b"    ");
     if 0 < position {
-        words(part(&SPACES, 0, position - 1));
+        words(rt, part(&SPACES, 0, position - 1));
     }
-    words(b"^");
+    words(rt, b"^");
 }
 
 // Reasons 6 and 13: "a wrong digit at character 2", then the text again with a caret under that character.
 pub(crate) fn say_wrong(
+    rt: &impl Print,
     tables: [&[u8]; TABLES],
     halves: &[u16],
     bytes: &[u8],
@@ -29,12 +30,12 @@ pub(crate) fn say_wrong(
     column: usize,
 ) {
     let position = position_at(tables, halves, bytes, i) as usize;
-    words(b": ");
-    say_reason(reason);
-    words(b" at character ");
-    say::number(position);
-    words(b"\n    ");
-    say_column_text(tables, halves, bytes, i, column);
-    words(b"\n");
-    say_caret(position);
+    words(rt, b": ");
+    say_reason(rt, reason);
+    words(rt, b" at character ");
+    say::number(rt, position);
+    words(rt, b"\n    ");
+    say_column_text(rt, tables, halves, bytes, i, column);
+    words(rt, b"\n");
+    say_caret(rt, position);
 }

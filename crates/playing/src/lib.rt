@@ -71,6 +71,7 @@ fn next_number(packets: usize) -> usize
 
 // Offers a packet, and says of it what is to be said.
 fn offer(
+    rt: &(impl Print + Eprint),
     tables: [&[u8]; TABLES],
     words: &[u64],
     links: &[u16],
@@ -89,8 +90,8 @@ fn offer(
     let stretch = begun.stretch;
     let stepped = step_in(tables, words, links, columns, packet, name, state);
     let number = next_number(begun.packets);
-    let after = show(showing, stretch, number, packet, stepped);
-    say_progress(number);
+    let after = show(rt, showing, stretch, number, packet, stepped);
+    say_progress(rt, number);
     let state = stepped.state;
     Replay {
         state,
@@ -101,6 +102,7 @@ fn offer(
 
 // Offers each packet of the bytes in its turn, up to the first that is not there to its end.
 pub fn play(
+    rt: &(impl Print + Eprint),
     tables: [&[u8]; TABLES],
     words: &[u64],
     links: &[u16],
@@ -119,7 +121,9 @@ pub fn play(
         match packet_at(bytes, at) {
             Framed::Whole(end) => {
                 let packet = part(bytes, at, end);
-                replay = offer(tables, words, links, columns, name, packet, showing, replay);
+                replay = offer(
+                    rt, tables, words, links, columns, name, packet, showing, replay,
+                );
                 at = end;
             }
             Framed::Cut => return Played { replay, used: at },

@@ -26,6 +26,7 @@ pub struct Judged {
 
 // A refusal leaves the state as it was.
 fn judge_step(
+    rt: &impl Print,
     name: &[u8],
     number: usize,
     tables: [&[u8]; TABLES],
@@ -41,6 +42,7 @@ fn judge_step(
     let cells = [0u16; 0];
     let positions = [0u16; 0];
     let verdict = compare(
+        rt,
         name,
         number,
         line,
@@ -66,6 +68,7 @@ fn answer_of(k: usize, tables: [&[u8]; TABLES], packet: &[u8], text: &[u8]) -> A
 }
 
 fn judge_question(
+    rt: &impl Print,
     name: &[u8],
     number: usize,
     k: usize,
@@ -77,15 +80,16 @@ fn judge_question(
     ensures { result ≡ question_verdict k (map (λ x. x.now) tables.entry) packet.now text.now line.now }
 {
     if k == 0 {
-        return judge_import(name, number, tables, text, line);
+        return judge_import(rt, name, number, tables, text, line);
     }
     if k == 1 {
-        return judge_row(name, number, text, line);
+        return judge_row(rt, name, number, text, line);
     }
     let cells = [0u16; 0];
     let positions = [0u16; 0];
     let answer = answer_of(k, tables, packet, text);
     compare(
+        rt,
         name,
         number,
         line,
@@ -97,6 +101,7 @@ fn judge_question(
 }
 
 fn judge_text(
+    rt: &impl Print,
     name: &[u8],
     number: usize,
     k: usize,
@@ -109,10 +114,10 @@ fn judge_text(
     ensures { result ≡ judged_text k (map (λ x. x.now) tables.entry) packet.now state line.now text.now }
 {
     if k == 5 {
-        return judge_step(name, number, tables, packet, text, state, line);
+        return judge_step(rt, name, number, tables, packet, text, state, line);
     }
     Judged {
-        verdict: judge_question(name, number, k, tables, packet, text, line),
+        verdict: judge_question(rt, name, number, k, tables, packet, text, line),
         state,
     }
 }
@@ -129,6 +134,7 @@ fn question_text(k: usize, raw: &[u8], out: &mut [u8; ROOM]) -> Bytes
 
 // The text is read into a lent array.
 fn judge_in(
+    rt: &impl Print,
     name: &[u8],
     number: usize,
     k: usize,
@@ -143,6 +149,7 @@ fn judge_in(
 {
     match question_text(k, raw, out) {
         Bytes::Are(n) => judge_text(
+            rt,
             name,
             number,
             k,
@@ -160,6 +167,7 @@ fn judge_in(
 }
 
 pub fn judge(
+    rt: &impl Print,
     name: &[u8],
     number: usize,
     k: usize,
@@ -172,5 +180,7 @@ pub fn judge(
     ensures { result ≡ judged k (map (λ x. x.now) tables.entry) packet.now raw.now state line.now }
 {
     let mut out = [0u8; ROOM];
-    judge_in(name, number, k, tables, packet, raw, state, line, &mut out)
+    judge_in(
+        rt, name, number, k, tables, packet, raw, state, line, &mut out,
+    )
 }

@@ -9,6 +9,7 @@ use archives::{BLOCK, refill};
 use lines::columns::part;
 use playing::{Replay, fresh_replay, play};
 use showing::stretches::Showing;
+use std::io::Read;
 use tables::TABLES;
 
 // More blocks than any file has.
@@ -36,12 +37,13 @@ pub fn at_start() -> Standing
 
 // Reads a block behind what is left over of the last, and offers its packets.
 fn take_block(
+    rt: &(impl Print + Eprint),
     tables: [&[u8]; TABLES],
     words: &[u64],
     links: &[u16],
     columns: &[u16],
     name: &[u8],
-    fd: i32,
+    file: &mut impl Read,
     block: &mut [u8],
     showing: Showing,
     begun: Standing,
@@ -49,10 +51,12 @@ fn take_block(
     ensures { BlockReplayed (answers (database (map (λ x. x.now) tables.entry) words.now links.now columns.now))
         name.now begun result block.old block.new }
 {
-    let to = refill(fd, block, begun.from, begun.to);
+    let to = refill(file, block, begun.from, begun.to);
     let replay = begun.replay;
     let bytes = part(block, 0, to);
-    let played = play(tables, words, links, columns, name, bytes, showing, replay);
+    let played = play(
+        rt, tables, words, links, columns, name, bytes, showing, replay,
+    );
     let after = played.replay;
     Standing {
         replay: after,
@@ -63,12 +67,13 @@ fn take_block(
 
 // From a fresh state to the end of the file.
 pub fn take_blocks(
+    rt: &(impl Print + Eprint),
     tables: [&[u8]; TABLES],
     words: &[u64],
     links: &[u16],
     columns: &[u16],
     name: &[u8],
-    fd: i32,
+    file: &mut impl Read,
     showing: Showing,
 ) -> Standing
     ensures { Replayed (answers (database (map (λ x. x.now) tables.entry) words.now links.now columns.now))
@@ -79,7 +84,7 @@ pub fn take_blocks(
     let mut standing = at_start();
     for _ in 0..MOST_BLOCKS {
         standing = take_block(
-            tables, words, links, columns, name, fd, block, showing, standing,
+            rt, tables, words, links, columns, name, file, block, showing, standing,
         );
         if standing.to < BLOCK {
             break;

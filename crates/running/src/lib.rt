@@ -45,9 +45,9 @@ fn stands(state: LimitState, tally: Tally) -> Standing
 }
 
 // A question that can't be read stands in the line before its answer.
-fn say_question(name: &[u8], number: usize, question: &[u8], verdict: Verdict) {
+fn say_question(rt: &impl Print, name: &[u8], number: usize, question: &[u8], verdict: Verdict) {
     match verdict {
-        Verdict::Unread => say_unread(name, wrapping_sub_usize(number, 1), question),
+        Verdict::Unread => say_unread(rt, name, wrapping_sub_usize(number, 1), question),
         Verdict::Same => {}
         Verdict::Differs => {}
     }
@@ -55,6 +55,7 @@ fn say_question(name: &[u8], number: usize, question: &[u8], verdict: Verdict) {
 
 // The line under a question.
 fn take_answer(
+    rt: &impl Print,
     name: &[u8],
     number: usize,
     question: &[u8],
@@ -71,6 +72,7 @@ fn take_answer(
     let k = question_of(word_of(question));
     let packet = area_in(space, ends, PACKET);
     let judged = judge(
+        rt,
         name,
         number,
         k,
@@ -81,12 +83,13 @@ fn take_answer(
         line,
     );
     let verdict = judged.verdict;
-    say_question(name, number, question, verdict);
+    say_question(rt, name, number, question, verdict);
     stands(judged.state, count(tally, k, verdict))
 }
 
 // A line that sets something.
 fn take_setting(
+    rt: &impl Print,
     name: &[u8],
     number: usize,
     k: usize,
@@ -104,12 +107,13 @@ fn take_setting(
     if l.readable {
         return stands(l.state, tally);
     }
-    say_unread(name, number, line);
+    say_unread(rt, name, number, line);
     stands(l.state, count(tally, 0, Verdict::Unread))
 }
 
 // A line that isn't an answer; from and to are its place in the text.
 fn take_line(
+    rt: &impl Print,
     name: &[u8],
     number: usize,
     line: &[u8],
@@ -142,14 +146,15 @@ fn take_line(
     }
     let k = setting_of(word);
     if k < SETTINGS {
-        return take_setting(name, number, k, line, space, ends, state, tally);
+        return take_setting(rt, name, number, k, line, space, ends, state, tally);
     }
-    say_unread(name, number, line);
+    say_unread(rt, name, number, line);
     stands(state, count(tally, 0, Verdict::Unread))
 }
 
 // The line with this number, from 1, after a question or not.
 fn take_next(
+    rt: &impl Print,
     name: &[u8],
     number: usize,
     text: &[u8],
@@ -167,23 +172,29 @@ fn take_next(
     let tally = s.tally;
     if s.waits {
         let question = part(text, s.from, s.to);
-        return take_answer(name, number, question, line, space, ends, state, tally);
+        return take_answer(rt, name, number, question, line, space, ends, state, tally);
     }
-    take_line(name, number, line, from, to, space, ends, state, tally)
+    take_line(rt, name, number, line, from, to, space, ends, state, tally)
 }
 
 // A question that no line follows can't be read.
-fn close(name: &[u8], number: usize, text: &[u8], s: Standing) -> Tally
+fn close(rt: &impl Print, name: &[u8], number: usize, text: &[u8], s: Standing) -> Tally
     ensures { (space ends : List ℕ) → result ≡ closing (standing_in text.now space ends s) }
 {
     if s.waits {
-        say_unread(name, number, part(text, s.from, s.to));
+        say_unread(rt, name, number, part(text, s.from, s.to));
         return count(s.tally, 0, Verdict::Unread);
     }
     s.tally
 }
 
-fn run_lines(name: &[u8], text: &[u8], space: &mut [u8], ends: &mut [usize]) -> Tally
+fn run_lines(
+    rt: &impl Print,
+    name: &[u8],
+    text: &[u8],
+    space: &mut [u8],
+    ends: &mut [usize],
+) -> Tally
     ensures { result ≡ closing (after_lines (first_standing space.old ends.old) (lines_of text.now)) }
 {
     let mut s = stands(
@@ -205,17 +216,17 @@ fn run_lines(name: &[u8], text: &[u8], space: &mut [u8], ends: &mut [usize]) -> 
     while from < text.len() {
         let line = next_line(text, from);
         number += 1;
-        s = take_next(name, number, text, from, line.end, space, ends, s);
+        s = take_next(rt, name, number, text, from, line.end, space, ends, s);
         from = line.next;
     }
-    close(name, number, text, s)
+    close(rt, name, number, text, s)
 }
 
 // The tally of a vector file's text. The space is for its tables and packet, which are empty at first.
-pub fn run(name: &[u8], text: &[u8], space: &mut [u8; SPACE]) -> Tally
+pub fn run(rt: &impl Print, name: &[u8], text: &[u8], space: &mut [u8; SPACE]) -> Tally
     ensures { result ≡ tally_of space.old text.now }
 {
     let mut ends = [0usize; AREAS];
     clear_all(&mut ends);
-    run_lines(name, text, space, &mut ends)
+    run_lines(rt, name, text, space, &mut ends)
 }

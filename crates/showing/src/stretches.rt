@@ -38,7 +38,7 @@ fn joins(last: Line, next: Line) -> bool
 }
 
 // The stretch that is open after this packet. One that ends before it is said.
-pub fn extend(stretch: Stretch, line: Line) -> Stretch
+pub fn extend(rt: &impl Print, stretch: Stretch, line: Line) -> Stretch
     ensures { result ≡ extended stretch line }
 {
     let first = stretch.first;
@@ -52,7 +52,7 @@ pub fn extend(stretch: Stretch, line: Line) -> Stretch
     if joins(last, line) {
         return Stretch { first, last: line };
     }
-    say_stretch(first, last);
+    say_stretch(rt, first, last);
     Stretch {
         first: line,
         last: line,
@@ -61,6 +61,7 @@ pub fn extend(stretch: Stretch, line: Line) -> Stretch
 
 // What is said of the packet with this number, from 1, and the stretch that is open after it.
 pub fn show(
+    rt: &impl Print,
     showing: Showing,
     stretch: Stretch,
     number: usize,
@@ -71,19 +72,19 @@ pub fn show(
 {
     match showing {
         Showing::Each => {
-            say_line(line_of(number, count_of(packet), stepped));
+            say_line(rt, line_of(number, count_of(packet), stepped));
             stretch
         }
-        Showing::Runs => extend(stretch, line_of(number, count_of(packet), stepped)),
+        Showing::Runs => extend(rt, stretch, line_of(number, count_of(packet), stepped)),
         Showing::Last => stretch,
     }
 }
 
 // At the end the stretch that is still open is said.
-pub fn close(stretch: Stretch) {
+pub fn close(rt: &impl Print, stretch: Stretch) {
     let first = stretch.first;
     let last = stretch.last;
     if first.number != 0 {
-        say_stretch(first, last);
+        say_stretch(rt, first, last);
     }
 }

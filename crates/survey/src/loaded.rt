@@ -8,21 +8,23 @@ use database::COLUMNS;
 use full_loading::{FullLoading, load_full};
 use kept::{LINKS, WORDS};
 use outcomes::{Refusal, number_of, place_of};
+use std::rt::Files;
 use surveying::archive::{Standing, at_start};
 use surveying::asking::Question;
 use tables::TABLES;
 use words::refusals::say_refused;
 
 // Refused tables are said, with 01's number and place: nothing is read then.
-fn refuse(refusal: Refusal) -> Standing
+fn refuse(rt: &impl Print, refusal: Refusal) -> Standing
     ensures { result ≡ nothing_read }
 {
-    say_refused(number_of(refusal) as usize, place_of(refusal));
+    say_refused(rt, number_of(refusal) as usize, place_of(refusal));
     at_start()
 }
 
 // The packets of the file, by the good rows of the tables.
 pub(crate) fn survey_tables(
+    rt: &(impl Print + Files),
     tables: [&[u8]; TABLES],
     name: &[u8],
     file: &[u8],
@@ -35,8 +37,8 @@ pub(crate) fn survey_tables(
     let mut columns = [0u16; COLUMNS];
     match load_full(tables, &mut words, &mut links, &mut columns) {
         FullLoading::Done => {
-            survey_archive(tables, &words, &links, &columns, name, file, question)
+            survey_archive(rt, tables, &words, &links, &columns, name, file, question)
         }
-        FullLoading::Refused(refusal) => refuse(refusal),
+        FullLoading::Refused(refusal) => refuse(rt, refusal),
     }
 }

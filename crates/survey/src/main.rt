@@ -9,54 +9,72 @@ mod say;
 
 use directories::SPACE;
 use directory::survey_directory;
-use files::arguments::{LONGEST, is_too_long};
+use files::arguments::{LONGEST, count, is_too_long};
 use options::{Choice, chosen};
+use std::env::Env;
+use std::rt::Files;
 use surveying::asking::Question;
 use words::say::words;
 
-fn say_usage() {
-    words(b"usage: survey DIR NAME FILE (identify | extract | engineer)\n");
+fn say_usage(rt: &impl Print) {
     words(
+        rt,
+        b"usage: survey DIR NAME FILE (identify | extract | engineer)\n",
+    );
+    words(
+        rt,
         b"  DIR   a directory with the tables pid.dat to mcf.dat\n  NAME  a parameter, of which occurrence 0 is asked for\n",
     );
     words(
+        rt,
         b"  FILE  packets end to end, as an archive has them\nAn answer weighs its SPID, its value without sign, or where its text starts.\n",
     );
 }
 
 fn survey_in(
+    rt: &(impl Print + Files),
     directory: &[u8],
     name: &[u8],
     file: &[u8],
     question: Question,
     space: &mut [u8; SPACE],
 ) {
-    survey_directory(directory, name, file, question, space);
+    survey_directory(rt, directory, name, file, question, space);
 }
 
-fn survey(directory: &[u8], name: &[u8], file: &[u8], question: Question) {
+fn survey(
+    rt: &(impl Print + Files),
+    directory: &[u8],
+    name: &[u8],
+    file: &[u8],
+    question: Question,
+) {
     let mut space = [0u8; SPACE];
-    survey_in(directory, name, file, question, &mut space);
+    survey_in(rt, directory, name, file, question, &mut space);
 }
 
 // The first three arguments.
-fn survey_as(question: Question) {
+fn survey_as(rt: &(impl Print + Files + Env), question: Question) {
     let mut directory = [0u8; LONGEST];
     let mut name = [0u8; LONGEST];
     let mut file = [0u8; LONGEST];
-    let directory_length = os::arg(1, &mut directory);
-    if is_too_long() {
+    let directory_asked = rt.arg(1, &mut directory);
+    if is_too_long(rt, directory_asked) {
         return;
     }
-    let name_length = os::arg(2, &mut name);
-    if is_too_long() {
+    let directory_length = directory_asked.unwrap_or(0);
+    let name_asked = rt.arg(2, &mut name);
+    if is_too_long(rt, name_asked) {
         return;
     }
-    let file_length = os::arg(3, &mut file);
-    if is_too_long() {
+    let name_length = name_asked.unwrap_or(0);
+    let file_asked = rt.arg(3, &mut file);
+    if is_too_long(rt, file_asked) {
         return;
     }
+    let file_length = file_asked.unwrap_or(0);
     survey(
+        rt,
         &directory[..directory_length],
         &name[..name_length],
         &file[..file_length],
@@ -65,26 +83,27 @@ fn survey_as(question: Question) {
 }
 
 // The fourth.
-fn survey_by_option() {
+fn survey_by_option(rt: &(impl Print + Files + Env)) {
     let mut option = [0u8; LONGEST];
-    let length = os::arg(4, &mut option);
-    if is_too_long() {
+    let asked = rt.arg(4, &mut option);
+    if is_too_long(rt, asked) {
         return;
     }
+    let length = asked.unwrap_or(0);
     match chosen(&option[..length]) {
-        Choice::Is(question) => survey_as(question),
+        Choice::Is(question) => survey_as(rt, question),
         Choice::Unknown => {
-            words(&option[..length]);
-            words(b": there is no such question\n");
-            say_usage();
+            words(rt, &option[..length]);
+            words(rt, b": there is no such question\n");
+            say_usage(rt);
         }
     }
 }
 
-fn main() {
-    if os::arg_count() == 5 {
-        survey_by_option();
+fn main(rt: HostRuntime) {
+    if count(&rt) == 5 {
+        survey_by_option(&rt);
         return;
     }
-    say_usage();
+    say_usage(&rt);
 }

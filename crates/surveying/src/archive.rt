@@ -7,6 +7,7 @@ use crate::asking::Question;
 use crate::counting::{Tally, survey};
 use archives::{BLOCK, refill};
 use lines::columns::part;
+use std::io::Read;
 use tables::TABLES;
 
 // More blocks than any file has.
@@ -43,14 +44,14 @@ fn take_block(
     columns: &[u16],
     name: &[u8],
     question: Question,
-    fd: i32,
+    file: &mut impl Read,
     block: &mut [u8],
     begun: Standing,
 ) -> Standing
     ensures { BlockSurveyed (answers (database (map (λ x. x.now) tables.entry) words.now links.now columns.now))
         name.now question begun result block.old block.new }
 {
-    let to = refill(fd, block, begun.from, begun.to);
+    let to = refill(file, block, begun.from, begun.to);
     let bytes = part(block, 0, to);
     let tally = begun.tally;
     let surveyed = survey(tables, words, links, columns, name, question, bytes, tally);
@@ -70,7 +71,7 @@ pub fn take_blocks(
     columns: &[u16],
     name: &[u8],
     question: Question,
-    fd: i32,
+    file: &mut impl Read,
     block: &mut [u8; BLOCK],
 ) -> Standing
     ensures { SurveyedFile (answers (database (map (λ x. x.now) tables.entry) words.now links.now columns.now))
@@ -79,7 +80,7 @@ pub fn take_blocks(
     let mut standing = at_start();
     for _ in 0..MOST_BLOCKS {
         standing = take_block(
-            tables, words, links, columns, name, question, fd, block, standing,
+            tables, words, links, columns, name, question, file, block, standing,
         );
         if standing.to < BLOCK {
             break;

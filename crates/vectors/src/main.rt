@@ -10,13 +10,15 @@ ghost use Rattle.running.specs.Script.{tally_of};
 ghost use Rattle.vectors.specs.Files.{unread_file, OfFile};
 
 use areas::SPACE;
-use files::arguments::LONGEST;
+use files::arguments::{LONGEST, argument, count};
 use files::errors::say_error;
 use files::source::{Got, read_file};
-use libc::ENOENT;
 use lines::columns::part;
 use running::run;
 use scripts::verb::QUESTIONS;
+use std::env::Env;
+use std::io::ErrorKind;
+use std::rt::Files;
 use tallies::{Tally, add_up};
 use totals::say_totals;
 use words::say::words;
@@ -35,69 +37,69 @@ fn unread_file() -> Tally
     }
 }
 
-fn say_failed(name: &[u8], error: i32) {
-    words(name);
-    words(b": ");
-    say_error(error);
-    words(b"\n");
+fn say_failed(rt: &impl Print, name: &[u8], error: ErrorKind) {
+    words(rt, name);
+    words(rt, b": ");
+    say_error(rt, error);
+    words(rt, b"\n");
 }
 
-fn ask_text(name: &[u8], text: &[u8]) -> Tally
+fn ask_text(rt: &impl Print, name: &[u8], text: &[u8]) -> Tally
     ensures { result ≡ tally_of (replicate space_size 0) text.now }
 {
     let mut space = [0u8; SPACE];
-    run(name, text, &mut space)
+    run(rt, name, text, &mut space)
 }
 
 // The tally of a file that is read into a buffer.
-fn ask_into(name: &[u8], buffer: &mut [u8; MOST_TEXT]) -> Tally
+fn ask_into(rt: &(impl Print + Files), name: &[u8], buffer: &mut [u8; MOST_TEXT]) -> Tally
     ensures { OfFile result }
 {
     let text: &mut [u8] = buffer;
-    match read_file(name, text) {
+    match read_file(rt, name, text) {
         Got::Bytes(count) => {
             if count < MOST_TEXT {
-                return ask_text(name, part(text, 0, count));
+                return ask_text(rt, name, part(text, 0, count));
             }
-            words(name);
-            words(b": it is too long\n");
+            words(rt, name);
+            words(rt, b": it is too long\n");
             unread_file()
         }
         Got::Missing => {
-            say_failed(name, ENOENT);
+            say_failed(rt, name, ErrorKind::NotFound);
             unread_file()
         }
         Got::Failed(error) => {
-            say_failed(name, error);
+            say_failed(rt, name, error);
             unread_file()
         }
     }
 }
 
-fn ask_file(name: &[u8]) -> Tally
+fn ask_file(rt: &(impl Print + Files), name: &[u8]) -> Tally
     ensures { OfFile result }
 {
     let mut buffer = [0u8; MOST_TEXT];
-    ask_into(name, &mut buffer)
+    ask_into(rt, name, &mut buffer)
 }
 
-fn ask_argument(k: usize) -> Tally
+fn ask_argument(rt: &(impl Print + Files + Env), k: usize) -> Tally
     ensures { OfFile result }
 {
     let mut name = [0u8; LONGEST];
-    let length = os::arg(k, &mut name);
-    ask_file(&name[..length])
+    let length = argument(rt, k, &mut name);
+    ask_file(rt, &name[..length])
 }
 
-fn main() {
-    let count = os::arg_count();
+fn main(rt: HostRuntime) {
+    let count = count(&rt);
     let mut total = Tally {
         asked: [0; QUESTIONS],
         differ: 0,
         unread: 0,
     };
     for k in 1..count {
-        total = add_up(total, ask_argument(k));
+        total = add_up(total, ask_argument(&rt, k));
     }
-    say_totals(total);
+    say_totals(&rt, total);
 }

@@ -1,17 +1,17 @@
 // Words, numbers and names on standard output.
-use libc::STDOUT_FILENO;
 use lines::columns::part;
 use name_bytes::Name;
 
-pub fn words(text: &[u8]) {
-    io::write_all(STDOUT_FILENO, text);
+// A write that fails is not told: the text, or the rest of it, is then missing.
+pub fn words(rt: &impl Print, text: &[u8]) {
+    let _ = rt.write_all(text);
 }
 
-pub fn number(n: usize) {
-    io::print_decimal(STDOUT_FILENO, n as u64);
+pub fn number(rt: &impl Print, n: usize) {
+    let _ = rt.print(n);
 }
 
-pub fn name(name: Name) {
+pub fn name(rt: &impl Print, name: Name) {
     let bytes = name.bytes;
-    words(part(&bytes, 0, name.len));
+    words(rt, part(&bytes, 0, name.len));
 }
