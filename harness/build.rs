@@ -1,4 +1,4 @@
-//! Tells the linker where the proved library is: `PETROLYAZ_LIB`, or where `rt staticlib exports` writes it.
+//! Tells the linker where the proved library is: `PETROLYAZ_LIB`, or where `.ci/build` writes it.
 
 use std::path::PathBuf;
 

@@ -39,6 +39,16 @@ def meets(f, t, new):
     return re.search(rf"(?<![^\s(){{}};,@])(?<!proofs\.){name}(?![^\s(){{}};,@])(?! *=(?!=))", t)
 
 
+def of_libraries(t, own):
+    """The names that a file imports from modules that aren't this repository's."""
+    names = set()
+    for path, group in re.findall(r"\buse ([^\s;{]+?)\.\{([^}]*)\}", t):
+        steps = path.split(".")
+        if not (steps[0] == "package" or steps[0] == "Rattle" and steps[1] in own):
+            names.update(x.strip() for x in group.split(","))
+    return names
+
+
 def main():
     dry = "--dry" in sys.argv
     if os.path.exists(OTHER_FILE):
@@ -105,12 +115,14 @@ def main():
         for old in words[f]:
             if re.match(r"[a-z]", old) and old not in table and old not in now and snake(old) != old and snake(old) in now:
                 table[old] = snake(old)
+    own = set(os.listdir("crates"))
     n = 0
     for f, t in text.items():
+        theirs = of_libraries(t, own) if f.endswith((".antt", ".rt")) else ()
         if f.endswith(".md"):
             out = re.sub(r"`[^`\n]+`", lambda m: WORD.sub(lambda w: table.get(w[0], w[0]), m[0]), t)
         else:
-            out = OUTSIDE.sub(lambda m: m[0] if m[0][0] == '"' else WORD.sub(lambda w: table.get(w[0], w[0]), m[0]), t)
+            out = OUTSIDE.sub(lambda m: m[0] if m[0][0] == '"' else WORD.sub(lambda w: w[0] if w[0] in theirs else table.get(w[0], w[0]), m[0]), t)
         if out != t:
             open(f, "w", encoding="utf-8").write(out)
             n += 1

@@ -1,5 +1,5 @@
 /* Some of the specification's figures, asked through the C interface:
- *   rt staticlib exports
+ *   .ci/build
  *   cc -Wall -Wextra -Iinclude examples/c/figures.c target/staticlib/libexports.a -o figures && ./figures */
 #include "petrolyaz.h"
 #include <stdio.h>
