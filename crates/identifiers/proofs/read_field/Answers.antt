@@ -1,0 +1,11 @@
+-- By the field's case.
+use Rattle.identifiers.specs.Identifiers.{said_field, identifier_at}
+use Rattle.identifiers.proofs.read_field.Goals as goal
+
+pub returns-in-Unused : goal.returns-in-Unused
+unfolding said_field identifier_at
+returns-in-Unused c = rw c.in-Unused.is
+
+pub returns-in-At : goal.returns-in-At
+unfolding identifier_at
+returns-in-At c = rw c.in-At.is c.field_at.ensures
