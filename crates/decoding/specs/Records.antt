@@ -1,6 +1,6 @@
 -- What a line of each table says, by its columns: `at k` is the text of column k, counted from 0,
 -- so that 01's column k is `at (k - 1)`.
-use Rattle.std.specs.Prelude.{ℕ, List, ◌≡◌, refl, ℤ, pos, negsuc, get_or}
+use Rattle.std.specs.Prelude.{ℕ, List, ◌≡◌, refl, pos, negsuc, get_or}
 use Rattle.laws.specs.Text.{ascii}
 use Rattle.numbers.specs.Number.{digit_of, digit_on, after, spelt, meaning, number_of}
 use Rattle.lines.specs.Columns.{columns_of, columns_from, column_at, Place, places_of, places_from}
@@ -35,7 +35,6 @@ use Rattle.rows.specs.declared.records.TxpRow.{TxpRow}
 use Rattle.rows.specs.declared.records.OcfRow.{OcfRow}
 use Rattle.rows.specs.declared.records.OcpRow.{OcpRow}
 use Rattle.rows.specs.declared.records.McfRow.{McfRow}
-use Rattle.polynomials.specs.declared.Polynomial.{Polynomial}
 
 -- a column of a line; one that isn't there reads as empty
 unfoldable pub column : List ℕ → ℕ → List ℕ
