@@ -8,7 +8,6 @@ use lib.ListN.{length, take, drop, get_or, length-drop}
 use lib.Seq.{get_or-drop, drop-drop}
 use borrow.Author.Tests.{le-leb, lt-leb}
 use Rattle.lines.specs.Columns.{part_of}
-use Rattle.archives.specs.declared.Framed.{Framed}
 use Rattle.archives.specs.declared.Framed.TheVariants.{Whole, Cut}
 use Rattle.archives.specs.Packets.{length_said, is_complete, packets_in, left_in}
 use Rattle.archives.specs.Framing.{framed_at}
