@@ -1,5 +1,5 @@
 -- The columns of the tables, as 01 prints them under "Columns".
-use Rattle.std.specs.Prelude.{ℕ, List, [], ◌∷◌, ℤ, pos, neg_ℤ}
+use Rattle.std.specs.Prelude.{List, [], ◌∷◌, pos, neg_ℤ}
 use Rattle.laws.specs.Text.{ascii}
 use Rattle.column_checks.specs.Schema.{Column, text, text!, integer, integer!, natural, natural!, letter, letter!, coefficient, coefficient! }
 use Rattle.schemas.specs.declared.Table.{Table}

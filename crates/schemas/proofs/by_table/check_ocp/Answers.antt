@@ -1,0 +1,9 @@
+-- The table's constants, taken together, are its schema of the definitions.
+use Rattle.schemas.specs.Tables.{schema, ocp}
+use Rattle.schemas.specs.Constants.{schema_from}
+use Rattle.column_checks.specs.ColumnKinds.{kind_at, letters_at, lowests, highests}
+use Rattle.schemas.proofs.by_table.check_ocp.Goals as goal
+
+pub returns : goal.returns
+unfolding schema ocp schema_from kind_at letters_at lowests highests
+returns c = c.check_row.ensures
