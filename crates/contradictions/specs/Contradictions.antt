@@ -1,6 +1,6 @@
 -- Reason 8: columns that contradict each other. Each answer is the lowest such column, from 1,
 -- or 0 where there is none.
-use Rattle.std.specs.Prelude.{ℕ, ◌≡◌, refl, List, Bool, true, false, not, cond, ◌||◌, ◌&&◌, leb, ltb, eqb}
+use Rattle.std.specs.Prelude.{ℕ, ◌≡◌, refl, List, Bool, true, false, not, cond, ◌&&◌, leb, ltb, eqb}
 use Rattle.std.proofs.Math.Option.{Option, some, none}
 use Rattle.std.specs.Int.Signed.{lt_z}
 use Rattle.schemas.specs.declared.Table.{Table}
