@@ -1,0 +1,16 @@
+-- The walk, the check, the decoded row and its contradiction together.
+use mathlib.Core.Path.{ap, ◌∙◌}
+use Rattle.schemas.specs.declared.Table.TheVariants.{Txf}
+use Rattle.decoding.specs.Records.{txf_row}
+use Rattle.decoding.proofs.PlaceLaws.{txf_divided}
+use Rattle.contradictions.specs.Contradictions.{contradiction, txf_contradiction}
+use Rattle.lines.proofs.WalkedLaws.{walked_over, line_is, ends_are, next_is}
+use Rattle.formed.proofs.FormedLaws.{formed_is}
+use Rattle.formed.proofs.read.read_txf.Goals as goal
+
+pub returns : goal.returns
+unfolding contradiction
+returns c = let w = walked_over c.scan-walk.ensures.value c.part-line.ensures c.scan-walk.ensures.ends_after in
+    let row = c.txf_row-row.ensures ∙ txf_divided _ (ends_are w) in
+    let verdict = formed_is w Txf c.check_txf-shaped.ensures (c.txf_contradiction.ensures ∙ ap txf_contradiction row)
+    c.or_contradiction.ensures in record { verdict_value = (verdict, row ∙ ap txf_row (line_is w)); next_value = next_is w }
