@@ -8,7 +8,7 @@ use Rattle.laws.specs.Lists.{any}
 use Rattle.laws.proofs.Cases.{or_false}
 use Rattle.laws.proofs.Tests.{any_never, any_keep}
 use Rattle.rows.specs.declared.records.PcfRow.{PcfRow}
-use Rattle.verdicts.specs.Key.{Key, parameter}
+use Rattle.verdicts.specs.Key.{parameter}
 use Rattle.verdicts.specs.Facts.{any_row, whole, points, itself, through, Naming, curtx_key, pcf_facts}
 use Rattle.verdicts.specs.Entries.{Entry, fine, facts}
 use Rattle.verdicts.specs.Steps.{holds, names_at}

@@ -5,7 +5,6 @@ use Rattle.schemas.specs.declared.Table.{Table}
 use Rattle.schemas.specs.declared.Table.TheVariants.{Pid, Pic, Plf, Pcf, Caf, Cap, Txf, Txp, Ocf, Ocp, Mcf}
 use Rattle.decoding.specs.Records.{pid_row, pic_row, plf_row, pcf_row, caf_row, cap_row, txf_row, txp_row, ocf_row, ocp_row, mcf_row}
 use Rattle.contradictions.specs.Contradictions.{is_whole}
-use Rattle.rows.specs.declared.records.OptionalName.{OptionalName}
 use Rattle.rows.specs.declared.records.OptionalCurve.{OptionalCurve}
 use Rattle.rows.specs.declared.records.PidRow.{PidRow}
 use Rattle.rows.specs.declared.records.PicRow.{PicRow}
