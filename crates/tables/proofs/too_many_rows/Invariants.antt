@@ -1,0 +1,17 @@
+-- The invariant: the tables left give the place that all give.
+use Prim.Native.Nat.{◌-◌, ◌+◌, ◌≤◌}
+use mathlib.Core.Path.{◌≡◌}
+use mathlib.Core.List.{map}
+use lib.Dec.{ltb}
+use lib.ListN.{length, drop}
+use Rattle.verdicts.specs.Answer.{first_table, too_many_rows, most_rows}
+use Rattle.verdicts.specs.Entries.{table_count}
+use Rattle.lines.specs.Lines.{lines_of}
+use Rattle.tables.proofs.too_many_rows.Given as goal
+
+abbrev pub invariant-loop-t : goal.invariant-loop-t
+invariant-loop-t l = (l.t ≤ table_count) × (first_table (λ text. ltb most_rows (length (lines_of text))) (l.t + 1) (drop l.t (map (λ x. x.now) l.tables)) ≡ too_many_rows
+    (map (λ x. x.now) l.tables))
+
+abbrev pub decreases-loop-t : goal.decreases-loop-t
+decreases-loop-t l = table_count - l.t
