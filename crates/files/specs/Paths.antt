@@ -1,5 +1,5 @@
 -- The file of a table in a directory.
-use Rattle.std.specs.Prelude.{ℕ, ◌≡◌, refl, List, [], ◌∷◌, ◌++◌, cond, leb, length, drop}
+use Rattle.std.specs.Prelude.{ℕ, ◌≡◌, refl, List, [], ◌++◌, cond, leb, length, drop}
 use Rattle.laws.specs.Text.{ascii}
 use Rattle.lines.specs.Columns.{columns_of, columns_from, part_of}
 use Rattle.name_bytes.specs.Names.{name_of}
