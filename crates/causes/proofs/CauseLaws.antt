@@ -1,16 +1,15 @@
 -- Causes and steps fit together: every row that a verdict speaks of is one step of demand 3 away.
-use mathlib.Core.Path.{◌≡◌, refl, ap, sym, ◌∙◌}
+use mathlib.Core.Path.{◌≡◌, ap}
 use mathlib.Core.Bool.{Bool, true, false, cond, ◌&&◌, ◌||◌, or-false}
 use mathlib.Core.List.{List, [], ◌∷◌, Memᴰ}
 use Prim.Native.Nat.{ℕ}
 use lib.Dec.{eqb}
 use lib.ListN.{length}
-use Rattle.laws.specs.Lists.{any, keep}
 use Rattle.laws.proofs.Cases.{false≢true, and_left, or_right}
 use Rattle.laws.proofs.Tests.{keep_mem, keep_same}
 use Rattle.verdicts.specs.Facts.{Count}
 use Rattle.verdicts.specs.Entries.{Entry, facts}
-use Rattle.verdicts.specs.Steps.{twin, belongs, rivals, names, names_at, counts, step, Reach, one}
+use Rattle.verdicts.specs.Steps.{twin, belongs, rivals, names, counts, step, Reach, one}
 use Rattle.verdicts.specs.Verdicts.{sound, tally, follows, next, circle, verdict}
 use Rattle.verdicts.specs.Good.{Chain, last, then}
 use Rattle.verdicts.proofs.StepLaws.{rival_step, column_step, chain_step}

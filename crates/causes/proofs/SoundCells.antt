@@ -1,11 +1,11 @@
 -- A row is sound just where its own columns give no verdict and its verdict isn't reason 9.
-use mathlib.Core.Path.{◌≡◌, refl, ap, sym, ◌∙◌}
+use mathlib.Core.Path.{◌≡◌, refl, ◌∙◌}
 use mathlib.Core.Bool.{Bool, true, false, not, cond, ◌&&◌}
 use mathlib.Core.List.{List, [], ◌∷◌, map}
 use Prim.Native.Nat.{ℕ, zero, suc, ◌+◌, ◌≤◌}
 use native.Mathlib.Omega.{arith}
 use lib.Dec.{eqb}
-use borrow.Author.Tests.{eqb-true, eq-eqb, ne_eqb}
+use borrow.Author.Tests.{eqb-true, ne_eqb}
 use Rattle.laws.specs.Lists.{any, or_else, first}
 use Rattle.laws.proofs.Cases.{bool_cases}
 use Rattle.verdicts.specs.Facts.{Naming, Count}

@@ -1,15 +1,15 @@
 -- What a verdict of reason 11 says of the rows that it speaks of: none is good and of the kind asked.
-use mathlib.Core.Path.{◌≡◌, refl, ap, sym, ◌∙◌}
+use mathlib.Core.Path.{◌≡◌, refl, sym, ◌∙◌}
 use mathlib.Core.Bool.{Bool, true, false, cond, ◌&&◌}
 use mathlib.Core.List.Memᴰ
 use mathlib.Core.List.{List, [], ◌∷◌, map, Memᴰ}
-use Prim.Native.Nat.{ℕ, zero, suc, ◌+◌, ◌-◌, ◌*◌, ◌/◌, ◌%◌, ◌≤◌, ◌<◌}
+use Prim.Native.Nat.{ℕ, zero, suc, ◌+◌, ◌-◌, ◌/◌, ◌≤◌, ◌<◌}
 use native.Mathlib.Omega.{arith}
 use lib.Dec.{eqb}
 use lib.ListN.{get_or}
 use borrow.Author.Tests.{eq-eqb}
 use Rattle.laws.specs.Lists.{any, or_else, first}
-use Rattle.laws.proofs.Cases.{bool_cases, false_of, false≢true}
+use Rattle.laws.proofs.Cases.{false_of, false≢true}
 use Rattle.laws.proofs.Tests.{any_keep, any_mem}
 use Rattle.schemas.specs.Reasons.{reason_at as verdict_of}
 use Rattle.lines.specs.Lines.{Line, lines_of}
