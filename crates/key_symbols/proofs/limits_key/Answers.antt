@@ -1,0 +1,8 @@
+-- The name as a symbol.
+use Rattle.key_symbols.specs.Keyed.{symbol_of}
+use Rattle.key_symbols.specs.Bounded.{key_fits}
+use Rattle.key_symbols.proofs.limits_key.Goals as goal
+
+pub returns : goal.returns
+unfolding symbol_of key_fits
+returns c = c.name_symbol.ensures
