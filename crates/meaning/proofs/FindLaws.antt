@@ -1,7 +1,7 @@
 -- The row that a key finds by its id.
 use mathlib.Core.Path.{◌≡◌, refl, ap, sym, subst, ◌∙◌}
 use mathlib.Core.Bool.{true, false, ◌||◌}
-use mathlib.Core.List.{List, ◌∷◌, Memᴰ}
+use mathlib.Core.List.{List, [], ◌∷◌, Memᴰ}
 use Prim.Native.Nat.{ℕ, zero, suc, ◌+◌, ◌≤◌, ◌<◌}
 use native.Mathlib.Omega.{arith}
 use lib.Dec.{ltb}
@@ -24,7 +24,7 @@ use Rattle.verdicts.specs.Steps.{twin, holds}
 use Rattle.verdicts.specs.Verdicts.{shared}
 use Rattle.verdicts.proofs.KeyLaws.{same_key_is}
 use Rattle.verdicts.proofs.SoundLaws.{both_shared}
-use Rattle.meaning.specs.Kept.{Coding, key_id, Known, AllKnown, none, more, no_entry, kept_entry, ToldApart, Kept, holder_of, ById}
+use Rattle.meaning.specs.Kept.{Coding, key_id, Known, AllKnown, more, no_entry, kept_entry, ToldApart, Kept, holder_of, ById}
 use Rattle.meaning.specs.Found.{Finds}
 use Rattle.meaning.proofs.ShareLaws.{held}
 
@@ -90,6 +90,7 @@ module _ (c : Coding) (symbols : List Symbol) (rows : List Entry) (formed key1 k
 
   -- a key that a row holds has an id
   known_of : (ks : List Key) → AllKnown c symbols ks → {k : Key} → Memᴰ k ks → Known c symbols k
+  known_of [] _ {k = k} x3 = elim x3 [ ]
   known_of (l ∷ ls) (more g w) (Memᴰ.head e) = subst (Known c symbols) (sym e) g
   known_of (l ∷ ls) (more g w) (Memᴰ.tail m) = known_of ls w m
 

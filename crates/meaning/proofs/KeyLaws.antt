@@ -32,11 +32,13 @@ module _ (k : Key) where
   one_of_two : (ks : List Key) → AtMostTwo ks → any (same_key k) ks ≡ (first_is k ks || first_is k (drop 1 ks))
   one_of_two [] zero_keys = refl
   one_of_two (l ∷ []) one_key = refl
+  one_of_two (l ∷ (m ∷ (_ ∷ _))) x7 = elim x7 [ ]
   one_of_two (l ∷ m ∷ []) (two_keys z) = ap (λ (t : Bool). same_key k l || t) (or-false (same_key k m))
 
   not_both : (ks : List Key) → AtMostTwo ks → (first_is k ks && first_is k (drop 1 ks)) ≡ false
   not_both [] zero_keys = refl
   not_both (l ∷ []) one_key = and-false (same_key k l)
+  not_both (l ∷ (m ∷ (_ ∷ _))) x7 = elim x7 [ ]
   not_both (l ∷ m ∷ []) (two_keys z) =
       false_of (same_key k l && same_key k m)
       (λ e. let p = same_key_is k l (and_left (same_key k l) _ e) in
@@ -45,6 +47,7 @@ module _ (k : Key) where
 
   the_one : (ks : List Key) → AtMostOne ks → any (same_key k) ks ≡ first_is k ks
   the_one [] no_group = refl
+  the_one (l ∷ (_ ∷ _)) x5 = elim x5 [ ]
   the_one (l ∷ []) one_group = or-false (same_key k l)
 
 -- a row that isn't well-formed says nothing

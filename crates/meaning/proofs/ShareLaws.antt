@@ -80,6 +80,7 @@ module _ (c : Coding) (symbols : List Symbol) (rows : List Entry) (formed key1 k
           (λ j r. ap (λ (t : Bool). not (eqb i j) && t) (or-false (holds (kept_entry rows j) k)))
           ∙ others_hold k h i p (own_key k (rw (q, same_key_self k)))
           ∙ sym (rw (under_none key2 i b, under_key key1 i k h a) (or-false (ltb 1 (holders_of formed key1 key2 n (key_id c symbols k)))))
+      by-keys (k ∷ (l ∷ (_ ∷ _))) q x13 _ a b = elim x13 [ ]
       by-keys (k ∷ l ∷ []) q (two_keys z) (more h (more g none)) a b =
           any_with_same (λ j. not (eqb i j) && (holds (kept_entry rows j) k || (holds (kept_entry rows j) l || false)))
           (λ j. (not (eqb i j) && holds (kept_entry rows j) k) || (not (eqb i j) && holds (kept_entry rows j) l)) n
