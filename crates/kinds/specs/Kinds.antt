@@ -1,6 +1,6 @@
 -- The kinds that rows are of, as marks: the conditions that a row meets,
 -- and whether it leads to a second row that others ask about.
-use Rattle.std.specs.Prelude.{ℕ, ◌≡◌, refl, Bool, true, false, not, ◌&&◌, ◌||◌, List, [], ◌∷◌, eqb, get_or}
+use Rattle.std.specs.Prelude.{ℕ, ◌≡◌, refl, Bool, not, ◌&&◌, ◌||◌, List, [], ◌∷◌, eqb, get_or}
 use Rattle.manners.specs.Manners.{manners, manner_at, weight, is_met_by, is_second, with_second}
 use Rattle.chain_steps.specs.Chains.{no_row}
 
