@@ -1,0 +1,8 @@
+-- Past the end there is none.
+use mathlib.Core.Path.{sym}
+use native.Mathlib.Omega.{arith}
+use lib.ListN.{get_or-eq_default}
+use Rattle.areas.proofs.number_at.Goals as goal
+
+pub returns : goal.returns
+returns c = sym (get_or-eq_default c.args.numbers.now 0 {n = c.args.k} (omega arith))
