@@ -1,5 +1,6 @@
 -- One table read into its part of the space.
-use Rattle.std.proofs.Common.{◌≡◌, ℕ, ◌+◌, ◌-◌, ◌*◌, ◌<◌, ◌≤◌, true, false, ltb, List, length, get_or, set, ℤ, sym, refl, ap, ◌∙◌, subst, arith, get_or-drop, get_or-take, ltb-false, ltb-true, lt-ltb, le-leb}
+use Rattle.std.proofs.Common.{◌≡◌, ℕ, ◌+◌, ◌-◌, ◌*◌, ◌<◌, ◌≤◌, true, false, ltb, List, length, get_or, set, sym, refl, ap, ◌∙◌, subst, arith, get_or-drop, get_or-take, ltb-false, ltb-true, lt-ltb, le-leb}
+use Rattle.std.specs.declared.io.ErrorKind.{ErrorKind}
 use borrow.Rule.Slice.PartMut.{mid_of, put_mid, mid_len, put_same, take_put, drop_put}
 use Rattle.laws.proofs.Cases.{bool_cases, and_both, false≢true}
 use Rattle.verdicts.specs.Entries.{table_count}
@@ -78,6 +79,6 @@ module _ (t : ℕ) {got : Got} {before after : List ℕ} (into : TableInto t got
   pub loaded_missing : got ≡ Missing → TableLoaded t true before after ends ends
   loaded_missing is = record { answer = Missing; into = subst (λ (g : Got). TableInto t g before after) is into; kept = refl; told = refl }
 
-  pub loaded_failed : {error : ℤ} → got ≡ Failed error → TableLoaded t false before after ends ends
+  pub loaded_failed : {error : ErrorKind} → got ≡ Failed error → TableLoaded t false before after ends ends
   loaded_failed {error} is =
       record { answer = Failed error; into = subst (λ (g : Got). TableInto t g before after) is into; kept = refl; told = refl }

@@ -1,5 +1,6 @@
 -- The tables in the space that they are read into, each in its own part.
-use Rattle.std.specs.Prelude.{◌≡◌, ℕ, suc, ◌+◌, ◌*◌, ◌<◌, ◌≤◌, Bool, true, false, cond, ◌&&◌, ◌⊎◌, List, [], ◌∷◌, length, take, drop, replicate, pos, nat_le, nat_lt, slice_index, slice_index_or, slice_set, refl}
+use Rattle.std.specs.Prelude.{◌≡◌, ℕ, suc, ◌+◌, ◌*◌, ◌<◌, ◌≤◌, Bool, true, false, cond, ◌&&◌, ◌⊎◌, List, [], ◌∷◌, length, take, drop, replicate, nat_le, nat_lt, slice_index, slice_index_or, slice_set, refl}
+use Rattle.std.specs.declared.io.ErrorKind.TheVariants.{PermissionDenied}
 use Rattle.verdicts.specs.Entries.{table_count}
 use Rattle.tables.specs.Parts.{part_size}
 use Rattle.files.specs.declared.source.Got.{Got}
@@ -103,7 +104,7 @@ DirectoryInto loaded before after = ((loaded ≡ not_loaded) × (after ≡ befor
 pub record Examples : Type 0 where
   -- a table of five bytes, one that isn't there, and one of three
   pub three : loaded_by (Bytes 5 ∷ Missing ∷ Bytes 3 ∷ []) ≡ record { ends = 5 ∷ 0 ∷ 131077 ∷ []; whole = true }
-  pub failed : all_read (Bytes 5 ∷ Failed (pos 13) ∷ []) ≡ false
+  pub failed : all_read (Bytes 5 ∷ Failed PermissionDenied ∷ []) ≡ false
 
 pub examples : Examples
 unfolding loaded_by ends_by all_read end_of
