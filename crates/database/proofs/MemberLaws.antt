@@ -4,12 +4,11 @@ use mathlib.Core.List.{List, [], ◌∷◌}
 use Prim.Native.Nat.{ℕ, zero, suc, ◌+◌, ◌-◌, ◌≤◌, ◌<◌}
 use native.Mathlib.Omega.{arith}
 use native.Mathlib.Numerals.{add-one}
-use lib.Dec.{eqb}
 use lib.ListN.{length, get_or, set, drop}
 use lib.Seq.{sets, get_or-drop}
 use borrow.Author.Tests.{eq-eqb, ne_eqb}
 use Rattle.passes.specs.Groups.{chain}
-use Rattle.database.specs.Arrays.{next_column, most_members, group_places}
+use Rattle.database.specs.Arrays.{next_column, group_places}
 
 -- nothing comes after the last row
 ended : (nexts : List ℕ) (steps at : ℕ) → at ≡ 0 → chain nexts steps at ≡ []

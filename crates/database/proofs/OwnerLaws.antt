@@ -1,6 +1,6 @@
 -- The table of a row that holds a key; and which rows hold the keys of packets.
 use mathlib.Core.Path.{◌≡◌, refl, ap, sym, subst, ◌∙◌}
-use mathlib.Core.Bool.{Bool, true, false}
+use mathlib.Core.Bool.{true}
 use mathlib.Core.List.{List, [], ◌∷◌, Memᴰ}
 use Prim.Native.Nat.{ℕ}
 use native.Mathlib.Omega.{arith}
@@ -16,7 +16,7 @@ use Rattle.decoding.specs.Records.{pid_row}
 use Rattle.rows.specs.declared.records.PidRow.{PidRow}
 use Rattle.rows.specs.declared.letters.Valid.{Valid}
 use Rattle.rows.specs.declared.letters.Valid.TheVariants.{Yes, No}
-use Rattle.verdicts.specs.Key.{Key, packet, structure, same_key}
+use Rattle.verdicts.specs.Key.{Key, structure, same_key}
 use Rattle.verdicts.specs.Facts.{facts_of, pid_keys, pid_facts}
 use Rattle.verdicts.specs.Entries.{carried, table_count, carried_at}
 use Rattle.verdicts.proofs.KeyLaws.{same_key_is, same_key_self}

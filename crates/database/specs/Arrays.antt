@@ -1,6 +1,6 @@
 -- The database: tables in lent arrays, in which a row is found by its key, and rows are followed by their group. What
 -- they answer, whatever they hold; that after loading they answer what the tables do is a law of `loading`.
-use Rattle.std.specs.Prelude.{ℕ, ◌+◌, ◌*◌, ◌-◌, cond, not, ◌&&◌, ◌≡◌, refl, List, [], ◌∷◌, map, eqb, ltb, get_or, drop}
+use Rattle.std.specs.Prelude.{ℕ, ◌+◌, ◌-◌, cond, not, ◌&&◌, ◌≡◌, refl, List, [], ◌∷◌, map, eqb, ltb, get_or, drop}
 use Rattle.std.proofs.Math.Option.{Option, none, some}
 use Rattle.arrays.specs.Room.{most_places}
 use Rattle.symbols.specs.Arrays.{most_symbols}
