@@ -15,11 +15,10 @@ use Rattle.rows.specs.Values.{integer_or, integer_from}
 use Rattle.decoding.specs.Records.{column, cap_row}
 use Rattle.contradictions.specs.Contradictions.{contradiction}
 use Rattle.formed.specs.Formed.{or_contradiction, formed}
-use Rattle.symbols.specs.declared.Symbol.{Symbol}
 use Rattle.verdicts.specs.Key.{Key}
 use Rattle.verdicts.specs.Facts.{Facts, Naming, Count, cap_facts, facts_of}
 use Rattle.verdicts.specs.Entries.{reading_of, own, facts_in}
-use Rattle.key_symbols.specs.Keyed.{digits_number, number_from, symbol, no_symbol, curve_symbol, value_symbol, integer_word, symbol_of}
+use Rattle.key_symbols.specs.Keyed.{digits_number, number_from, symbol, curve_symbol, value_symbol, integer_word, symbol_of}
 use Rattle.row_keys.specs.declared.records.Slot.{Slot}
 use Rattle.row_keys.specs.declared.records.Named.{Named}
 use Rattle.row_keys.specs.declared.records.Counting.{Counting}

@@ -1,0 +1,21 @@
+-- The row is read, and each symbol is the definition's.
+use Rattle.verdicts.specs.Facts.{facts_of, mcf_facts}
+use Rattle.manners.specs.Manners.{manners, weight, same_manner, code_from, code_of, marks_of}
+use Rattle.keys.specs.Held.{slot_of, named_of, count_of, keys_of}
+use Rattle.keys.proofs.tables.mcf_keys.Goals as goal
+
+pub read_mcf-read-requires : goal.read_mcf-read-requires
+read_mcf-read-requires c = tt
+
+pub curve_key-requires : goal.curve_key-requires
+curve_key-requires c = tt
+
+pub holder-keys-requires : goal.holder-keys-requires
+holder-keys-requires c = tt
+
+pub returns : goal.returns
+unfolding facts_of mcf_facts keys_of slot_of named_of count_of marks_of weight code_of code_from same_manner manners
+returns c = record {
+  keys = rw (← c.read_mcf-read.ensures.verdict_value.0, ← c.read_mcf-read.ensures.verdict_value.1, c.holder-keys.ensures, c.curve_key.ensures.0);
+  next = c.read_mcf-read.ensures.next_value;
+}

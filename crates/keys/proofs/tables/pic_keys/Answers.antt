@@ -1,0 +1,21 @@
+-- The row is read, and each symbol is the definition's.
+use Rattle.verdicts.specs.Facts.{facts_of, pic_facts}
+use Rattle.manners.specs.Manners.{manners, weight, same_manner, code_from, code_of, marks_of}
+use Rattle.keys.specs.Held.{slot_of, named_of, count_of, keys_of}
+use Rattle.keys.proofs.tables.pic_keys.Goals as goal
+
+pub read_pic-read-requires : goal.read_pic-read-requires
+read_pic-read-requires c = tt
+
+pub identification_key-key-requires : goal.identification_key-key-requires
+identification_key-key-requires c = tt
+
+pub holder-keys-requires : goal.holder-keys-requires
+holder-keys-requires c = tt
+
+pub returns : goal.returns
+unfolding facts_of pic_facts keys_of slot_of named_of count_of marks_of weight code_of code_from same_manner manners
+returns c = record {
+  keys = rw (← c.read_pic-read.ensures.verdict_value.0, ← c.read_pic-read.ensures.verdict_value.1, c.holder-keys.ensures, c.identification_key-key.ensures.0);
+  next = c.read_pic-read.ensures.next_value;
+}

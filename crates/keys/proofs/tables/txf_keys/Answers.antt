@@ -1,0 +1,21 @@
+-- The row is read, and each symbol is the definition's.
+use Rattle.verdicts.specs.Facts.{facts_of, txf_facts}
+use Rattle.manners.specs.Manners.{weight, marks_of}
+use Rattle.keys.proofs.CaseLaws.{counter_said}
+use Rattle.keys.proofs.tables.txf_keys.Goals as goal
+
+pub read_txf-read-requires : goal.read_txf-read-requires
+read_txf-read-requires c = tt
+
+pub texts_key-requires : goal.texts_key-requires
+texts_key-requires c = tt
+
+pub counter-keys-requires : goal.counter-keys-requires
+counter-keys-requires c = tt
+
+pub returns : goal.returns
+unfolding facts_of txf_facts marks_of weight
+returns c = record {
+  keys = rw (← c.read_txf-read.ensures.verdict_value.0, ← c.read_txf-read.ensures.verdict_value.1, counter_said, c.counter-keys.ensures, c.texts_key.ensures.0);
+  next = c.read_txf-read.ensures.next_value;
+}
