@@ -11,7 +11,7 @@ use Rattle.settings.specs.declared.SetLine.{SetLine}
 use Rattle.escapes.specs.Escapes.{byte_of, unescaped, hex_bytes, row_bytes, where_room, before, before_byte, plain}
 use Rattle.scripts.specs.Words.{setting_of}
 use Rattle.scripts.specs.Numerals.{natural_in, natural_of, at_most}
-use Rattle.areas.specs.Memory.{Memory, KeptMemory, memory, kept, added, cleared, all_cleared, packet_area, area_count}
+use Rattle.areas.specs.Memory.{Memory, KeptMemory, memory, added, cleared, all_cleared, packet_area, area_count}
 use Rattle.areas.specs.Memory.{unread}
 
 -- the places of the words that follow `packet` in the list of settings
