@@ -2,17 +2,17 @@
 use mathlib.Core.Path.{◌≡◌, refl, ap, sym, ◌∙◌}
 use mathlib.Core.Bool.{Bool, true, false, cond, ◌&&◌, ◌||◌}
 use mathlib.Core.List.{List, [], ◌∷◌, ◌++◌}
-use Prim.Native.Nat.{ℕ, zero, suc, ◌≤◌, ◌<◌}
+use Prim.Native.Nat.{ℕ, zero, suc, ◌<◌}
 use native.Mathlib.Omega.{arith}
 use lib.Dec.{eqb}
 use lib.ListN.{length, get_or, get_or-eq_default}
 use borrow.Author.Tests.{eq-eqb, ne_eqb, eqb-true, eqb-false}
-use Rattle.laws.specs.Lists.{any, keep}
+use Rattle.laws.specs.Lists.{any}
 use Rattle.laws.specs.Prefix.{flag}
 use Rattle.laws.proofs.At.{same_test, keep_none, keep_one}
 use Rattle.laws.proofs.Cases.{bool_cases, and_left, and_right, and_both, false≢true}
 use Rattle.verdicts.specs.Facts.{Naming}
-use Rattle.verdicts.specs.Entries.{Entry, own, facts}
+use Rattle.verdicts.specs.Entries.{Entry, own}
 use Rattle.verdicts.specs.Steps.{twin, holds}
 use Rattle.verdicts.specs.Verdicts.{sound, follows, next, leads, circle}
 use Rattle.manners.specs.Manners.{manners, manner_at}

@@ -1,7 +1,7 @@
 -- Good rows, layer by layer, and along VALID chains.
 use mathlib.Core.Path.{◌≡◌, refl, ap, sym, ◌∙◌}
-use mathlib.Core.Bool.{Bool, true, false, not, cond, ◌&&◌, ◌||◌}
-use mathlib.Core.List.{List, [], ◌∷◌, ◌++◌, map}
+use mathlib.Core.Bool.{Bool, true, false, cond, ◌&&◌}
+use mathlib.Core.List.{List, map}
 use Prim.Native.Nat.{ℕ, zero, suc, ◌+◌, ◌-◌, ◌≤◌, ◌<◌}
 use native.Mathlib.Omega.{arith}
 use lib.Dec.{eqb}
@@ -16,7 +16,7 @@ use Rattle.laws.proofs.Tests.{any_up}
 use Rattle.schemas.specs.Reasons.{reason_at as verdict_of}
 use Rattle.verdicts.specs.Facts.{Naming}
 use Rattle.verdicts.specs.Entries.{Entry, own, facts}
-use Rattle.verdicts.specs.Verdicts.{sound, asked, name_cell, judge, within, verdict}
+use Rattle.verdicts.specs.Verdicts.{asked, name_cell, within, verdict}
 use Rattle.verdicts.proofs.VerdictLaw.{good_in, good_up}
 use Rattle.manners.specs.Manners.{manner_at}
 use Rattle.chain_steps.specs.Chains.{no_row, firm_from}

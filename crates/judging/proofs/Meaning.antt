@@ -15,7 +15,7 @@ use Rattle.verdicts.specs.Verdicts.{verdict}
 use Rattle.manners.specs.Manners.{manner_at}
 use Rattle.chain_steps.specs.Chains.{no_row}
 use Rattle.met_names.specs.Names.{firm_of, final_at}
-use Rattle.base_verdicts.specs.Judged.{filled, next_of, clean_rows, firm_rows, chained_at, good_at, cell_at, next_rows, base_rows, cells_by, cell_rows}
+use Rattle.base_verdicts.specs.Judged.{filled, next_of, clean_rows, firm_rows, chained_at, good_at, next_rows, base_rows, cells_by, cell_rows}
 use Rattle.judging.proofs.Resolved.{no_entry, row_at, Arrays, code1, row1, code2, row2, Resolved}
 use Rattle.judging.proofs.PassLaws.{filled_at}
 use Rattle.judging.proofs.KindMeaning.{kinds_in}

@@ -1,15 +1,14 @@
 -- A verdict is that of the reasons before the names, and else that of the names.
 use mathlib.Core.Path.{◌≡◌, refl, ap, ap₂, sym, ◌∙◌}
-use mathlib.Core.Bool.{Bool, true, false, not, cond, ◌&&◌, ◌||◌}
-use mathlib.Core.List.{List, [], ◌∷◌, ◌++◌, map}
-use Prim.Native.Nat.{ℕ, zero, suc, ◌+◌, ◌*◌, ◌≤◌, ◌<◌}
+use mathlib.Core.Bool.{Bool, true, false, not, cond, ◌&&◌}
+use mathlib.Core.List.{List, ◌++◌, map}
+use Prim.Native.Nat.{ℕ, zero, suc, ◌<◌}
 use native.Mathlib.Omega.{arith}
 use lib.Dec.{eqb}
 use lib.ListN.{length, get_or}
 use borrow.Author.Tests.{ne_eqb, eqb-false}
 use Rattle.laws.specs.Lists.{any, or_else, first}
 use Rattle.laws.specs.Prefix.{flag}
-use Rattle.laws.proofs.Cases.{bool_cases}
 use Rattle.laws.proofs.First.{or_else_zero, when_zero}
 use Rattle.schemas.specs.Reasons.{reason_at as verdict_of}
 use Rattle.verdicts.specs.Facts.{Naming}
@@ -20,7 +19,7 @@ use Rattle.manners.specs.Manners.{manner_at, kind_weight, is_met_by}
 use Rattle.chain_steps.specs.Chains.{no_row, comes_to}
 use Rattle.met_names.specs.Names.{asked_at, met_at, name_at}
 use Rattle.base_verdicts.specs.Judged.{next_of, base_of}
-use Rattle.judging.proofs.Resolved.{no_entry, row_at, Answers, Named, absent, present, names_in, Names, Arrays, code1, row1, code2, row2, Resolved, is_good}
+use Rattle.judging.proofs.Resolved.{row_at, Answers, Named, absent, present, names_in, Names, Arrays, code1, row1, Resolved, is_good}
 use Rattle.judging.proofs.KindMeaning.{kinds_in, met_is}
 use Rattle.judging.proofs.CircleMeaning.{flag_one, circle_is}
 
