@@ -1,5 +1,5 @@
 -- A row by its number: the three tests that it has to pass.
-use mathlib.Core.Path.{◌≡◌, refl, ap, ap₂, sym, ◌∙◌}
+use mathlib.Core.Path.{◌≡◌, refl, ap, sym, ◌∙◌}
 use mathlib.Core.Bool.{Bool, true, false, cond, not, ◌&&◌}
 use mathlib.Core.List.{List}
 use mathlib.Core.Option.{Option, none, some}
@@ -8,7 +8,6 @@ use lib.Dec.{eqb}
 use borrow.Author.Tests.{eq-eqb, ne_eqb}
 use Rattle.laws.proofs.Cases.{and_false}
 use Rattle.symbols.specs.declared.Symbol.{Symbol}
-use Rattle.verdicts.specs.Key.{Key}
 use Rattle.key_symbols.specs.declared.FiveNumbers.{FiveNumbers}
 use Rattle.key_symbols.specs.Keyed.{symbol_of}
 use Rattle.key_symbols.specs.Bounded.{key_fits, packet_of}
