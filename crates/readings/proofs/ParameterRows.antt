@@ -2,7 +2,6 @@
 use mathlib.Core.Path.{◌≡◌, refl, ap, ◌∙◌}
 use mathlib.Core.Bool.{Bool, true, false, cond}
 use mathlib.Core.List.{List, [], ◌∷◌, ◌++◌, Memᴰ}
-use mathlib.Core.Option.{some}
 use Prim.Native.Nat.{ℕ, suc, ◌+◌, ◌≤◌, ◌<◌}
 use native.Mathlib.Omega.{arith}
 use lib.Dec.{eqb}
@@ -40,6 +39,7 @@ module _ {A : Type 0} where
       by false e = e
 
   mem_keep : (f : A → Bool) {a : A} (l : List A) → Memᴰ a l → f a ≡ true → Memᴰ a (keep f l)
+  mem_keep f {a = a} [] x'' t = elim x'' [ ]
   mem_keep f (x ∷ l) (Memᴰ.head q) t =
       let e : f x ≡ true = cc in
       rw e (Memᴰ.head q)

@@ -1,6 +1,6 @@
 -- Rows of a VALID chain that were read: what the validity parameter of each row says,
 -- and the VALPAR that it must equal.
-use Rattle.std.specs.Prelude.{ℕ, zero, suc, ◌≡◌, refl, Bool, true, false, ◌&&◌, List, [], ◌∷◌, eqb, ℤ, pos, get_or}
+use Rattle.std.specs.Prelude.{ℕ, zero, suc, ◌≡◌, refl, Bool, true, false, ◌&&◌, List, [], ◌∷◌, ℤ, pos, get_or}
 use Rattle.readings.specs.Readings.{same_integer}
 
 -- a block of a chain has at most so many rows
