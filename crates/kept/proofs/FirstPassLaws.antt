@@ -6,7 +6,7 @@ use native.Mathlib.Omega.{arith}
 use native.Mathlib.Decide.{ℕ_discrete}
 use native.Mathlib.Nat.{add-mul, mul-le-mul_right}
 use native.Mathlib.Numerals.{add-one}
-use lib.ListN.{length, get_or, take, drop, length-drop}
+use lib.ListN.{length, get_or, drop, length-drop}
 use Rattle.arrays.specs.Room.{most_places}
 use Rattle.symbols.specs.Arrays.{most_symbols}
 use Rattle.kept.proofs.PlaceLaws.{at_below, at_is, at_next}

@@ -1,5 +1,5 @@
 -- The keys of a row become symbols: what is kept of the row then, and what of the symbols stays.
-use Rattle.std.specs.Prelude.{ℕ, ◌+◌, ◌*◌, ◌≤◌, ◌<◌, ◌≡◌, Bool, true, not, cond, ◌&&◌, List, length}
+use Rattle.std.specs.Prelude.{ℕ, ◌+◌, ◌≤◌, ◌<◌, ◌≡◌, Bool, true, not, cond, ◌&&◌, List, length}
 use Rattle.symbols.specs.declared.Symbol.{Symbol}
 use Rattle.symbols.specs.declared.Interned.{Interned}
 use Rattle.symbols.specs.Symbols.{same_symbol, id_of, no_id}

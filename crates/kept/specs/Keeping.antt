@@ -1,5 +1,5 @@
 -- What keeping the rows of tables answers, and what it leaves in the arrays.
-use Rattle.std.specs.Prelude.{ℕ, ◌+◌, ◌*◌, ◌≤◌, ◌<◌, ◌≡◌, Bool, true, false, ◌&&◌, List, leb, length}
+use Rattle.std.specs.Prelude.{ℕ, ◌≡◌, Bool, true, false, ◌&&◌, List, leb, length}
 use Rattle.symbols.specs.Arrays.{all_words, all_links}
 use Rattle.verdicts.specs.Entries.{all_rows}
 use Rattle.tables.specs.Sizes.{fit, refused_by, sizes_of}
