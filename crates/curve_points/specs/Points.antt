@@ -1,5 +1,5 @@
 -- A curve in lent arrays.
-use Rattle.std.specs.Prelude.{ℕ, ◌≡◌, refl, List, [], ◌∷◌, ℤ, pos, length, take}
+use Rattle.std.specs.Prelude.{◌≡◌, refl, List, [], ◌∷◌, ℤ, pos, length, take}
 use Rattle.std.proofs.Math.Option.{Option, some}
 use Rattle.name_bytes.specs.declared.CurveName.{CurveName}
 use Rattle.rows.specs.declared.letters.OffEnds.TheVariants.{Refuse}
