@@ -1,5 +1,5 @@
 -- The bytes of a text are ALTXT of the row that it names.
-use mathlib.Core.Path.{◌≡◌, refl, sym, ap, ◌∙◌}
+use mathlib.Core.Path.{◌≡◌, refl, ap}
 use mathlib.Core.Bool.{Bool, true, false, cond}
 use mathlib.Core.List.{List, [], ◌∷◌, map}
 use mathlib.Core.Option.{Option, none, some}
@@ -16,8 +16,8 @@ use Rattle.verdicts.specs.Places.{text_at}
 use Rattle.calibration.specs.Nearest.{not_above}
 use Rattle.calibration.specs.declared.nearest.Found.{Found}
 use Rattle.calibration.specs.declared.nearest.Found.TheVariants.{At, Nothing}
-use Rattle.outcomes.specs.Outcome.{Outcome, answer, refused}
-use Rattle.database.specs.Rows.{Row, Rows}
+use Rattle.outcomes.specs.Outcome.{answer, refused}
+use Rattle.database.specs.Rows.{Row}
 use Rattle.database.specs.Arrays.{Database, row_at, keyed_by, first_column, group_places, answers}
 use Rattle.texts.specs.Texts.{Text, from_of, to_of, altxt_of, found_in, text_in, text_for}
 use Rattle.texts.proofs.AltxtLaws.{altxt_bytes}
