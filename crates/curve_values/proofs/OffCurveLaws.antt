@@ -1,7 +1,7 @@
 -- 30 comes up exactly where the raw value is off an F curve: of a curve of two sound points or more,
 -- no two of them with one X.
 use mathlib.Core.Path.{◌≡◌, refl, sym, ap, ◌∙◌}
-use mathlib.Core.Bool.{Bool, true, false, not, cond, ◌&&◌, ◌||◌}
+use mathlib.Core.Bool.{Bool, true, false, not, cond, ◌&&◌}
 use mathlib.Core.List.{List}
 use mathlib.Core.Option.{some}
 use Prim.Native.Nat.{ℕ, zero, suc, ◌≤◌, ◌<◌}
@@ -12,7 +12,7 @@ use lib.Signed.{lt_z, le_z}
 use Rattle.laws.specs.Said.{Said, value, refused as refused_with}
 use Rattle.laws.specs.Lists.{any}
 use Rattle.laws.proofs.Cases.{false≢true, false_of, bool_cases, cond_cases, and_both, and_false, or_right}
-use Rattle.laws.proofs.At.{Place, any_place, place_any}
+use Rattle.laws.proofs.At.{any_place, place_any}
 use Rattle.rows.specs.declared.letters.OffEnds.{OffEnds}
 use Rattle.rows.specs.declared.letters.OffEnds.TheVariants.{Extrapolate, Refuse}
 use Rattle.curves.specs.Line.{is_between, is_point, is_segment, is_raw, height_at, result_of, line_at}
