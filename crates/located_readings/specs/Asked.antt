@@ -1,5 +1,5 @@
 -- What the validity parameter of a row was found to say.
-use Rattle.std.specs.Prelude.{ℕ, ◌≡◌, refl, Bool, true, false, ◌&&◌, [], ℤ, pos}
+use Rattle.std.specs.Prelude.{◌≡◌, refl, Bool, true, false, ◌&&◌, [], ℤ, pos}
 use Rattle.name_bytes.specs.Names.{name_of, curve_name_of}
 use Rattle.rows.specs.declared.letters.Category.TheVariants.{Numeric}
 use Rattle.rows.specs.declared.letters.Nature.TheVariants.{Raw}

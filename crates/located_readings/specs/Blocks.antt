@@ -1,6 +1,5 @@
 -- A block of a VALID chain.
 use Rattle.std.specs.Prelude.{ℕ, ◌-◌, ◌≤◌, ◌≡◌, refl, Bool, true, false, cond, List, [], ℤ}
-use Rattle.std.proofs.Common.{arith}
 use Rattle.rows.specs.declared.records.PcfRow.{PcfRow}
 use Rattle.database.specs.Rows.{Rows}
 use Rattle.database.specs.GoodRows.{among}
