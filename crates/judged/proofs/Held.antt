@@ -1,15 +1,11 @@
 -- Rows that are kept in the arrays, and what each says fits into symbols.
-use mathlib.Core.Path.{◌≡◌, refl, ap, sym, ◌∙◌}
-use mathlib.Core.Bool.{Bool, true, false}
-use mathlib.Core.List.{List, [], ◌∷◌}
-use Prim.Native.Nat.{ℕ, ◌+◌, ◌*◌, ◌≤◌, ◌<◌}
-use native.Mathlib.Omega.{arith}
-use lib.Dec.{eqb}
+use mathlib.Core.Path.{◌≡◌, ◌∙◌}
+use mathlib.Core.List.{List}
+use Prim.Native.Nat.{ℕ, ◌*◌, ◌<◌}
 use lib.ListN.{length, get_or, drop}
 use lib.Seq.{get_or-take, get_or-drop}
 use Rattle.arrays.specs.Room.{most_places}
-use Rattle.symbols.specs.Arrays.{symbols}
-use Rattle.verdicts.specs.Entries.{Entry, own, facts}
+use Rattle.verdicts.specs.Entries.{Entry, facts}
 use Rattle.key_symbols.specs.Keyed.{symbol_of}
 use Rattle.key_symbols.specs.Bounded.{Bounded}
 use Rattle.key_symbols.proofs.ExactLaws.{symbol_exact}

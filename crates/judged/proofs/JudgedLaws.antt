@@ -1,7 +1,7 @@
 -- The cells that the passes leave are the definition's verdicts.
-use mathlib.Core.Path.{◌≡◌, refl, ap, sym, ◌∙◌}
+use mathlib.Core.Path.{◌≡◌, refl, ap, ◌∙◌}
 use mathlib.Core.List.{List, map}
-use Prim.Native.Nat.{ℕ, zero, suc, ◌+◌, ◌*◌, ◌≤◌, ◌<◌, min}
+use Prim.Native.Nat.{ℕ, zero, suc, ◌≤◌, ◌<◌}
 use native.Mathlib.Omega.{arith}
 use lib.Dec.{eqb}
 use lib.ListN.{length, get_or, replicate, length-replicate}
@@ -13,16 +13,14 @@ use Rattle.arrays.specs.Room.{most_places}
 use Rattle.symbols.specs.declared.Symbol.{Symbol}
 use Rattle.symbols.specs.Arrays.{symbols, most_symbols}
 use Rattle.symbols.proofs.FindLaws.{symbols_length}
-use Rattle.passes.specs.Marked.{under}
 use Rattle.verdicts.specs.Entries.{Entry, own}
 use Rattle.verdicts.specs.Verdicts.{verdict}
 use Rattle.chain_steps.specs.Chains.{no_row}
-use Rattle.meaning.specs.Kept.{kept_entry, Kept}
+use Rattle.meaning.specs.Kept.{kept_entry}
 use Rattle.meaning.specs.Judging.{Judged}
 use Rattle.meaning.proofs.PassLaws.{Fresh, judged}
-use Rattle.base_verdicts.specs.Judged.{cell_rows}
 use Rattle.judging.proofs.Meaning.{judged_are}
-use Rattle.kept.specs.Stored.{at, own_column, key1_column, key2_column, name1_column, name2_column, group_column, kept_number_column, count_column, Stored}
+use Rattle.kept.specs.Stored.{at, key1_column, key2_column, name1_column, name2_column, group_column, kept_number_column, count_column}
 use Rattle.findings.specs.Found.{row_linked, count_finding}
 use Rattle.judged.specs.Passes.{column_of, formed_by, FoundBy, JudgedInto}
 use Rattle.judged.proofs.Held.{coding, Held, column_at_lem}

@@ -1,8 +1,8 @@
 -- The ids that are kept of a row are those of its keys and of its group.
-use mathlib.Core.Path.{◌≡◌, refl, ap, sym, ◌∙◌}
-use mathlib.Core.Bool.{Bool, true, false}
+use mathlib.Core.Path.{◌≡◌, refl, ◌∙◌}
+use mathlib.Core.Bool.{true}
 use mathlib.Core.List.{List, [], ◌∷◌}
-use Prim.Native.Nat.{ℕ, ◌+◌, ◌*◌, ◌≤◌, ◌<◌}
+use Prim.Native.Nat.{ℕ, ◌<◌}
 use native.Mathlib.Omega.{arith}
 use lib.Dec.{eqb}
 use lib.ListN.{length, get_or, drop}
@@ -12,14 +12,11 @@ use Rattle.symbols.specs.declared.Symbol.{Symbol}
 use Rattle.symbols.specs.Symbols.{no_id, id_of}
 use Rattle.symbols.specs.Arrays.{symbols}
 use Rattle.verdicts.specs.Key.{Key}
-use Rattle.verdicts.specs.Facts.{Facts}
 use Rattle.verdicts.specs.Entries.{Entry, own, facts}
-use Rattle.key_symbols.specs.Keyed.{symbol_of}
-use Rattle.key_symbols.specs.Bounded.{Bounded}
-use Rattle.keys.specs.Held.{slot_of, named_of, keys_of}
-use Rattle.keys.proofs.Fitting.{Fits, KeysFit, GroupsFit}
-use Rattle.meaning.specs.Kept.{Coding, first_id, Known, AllKnown, none, more, kept_entry, KeptRow, Kept}
-use Rattle.kept.specs.Stored.{at, own_column, key1_column, key2_column, group_column, slot_id, StoredRow, KnownRow, Stored}
+use Rattle.keys.specs.Held.{slot_of, keys_of}
+use Rattle.keys.proofs.Fitting.{KeysFit, GroupsFit}
+use Rattle.meaning.specs.Kept.{first_id, AllKnown, none, more, kept_entry, KeptRow, Kept}
+use Rattle.kept.specs.Stored.{own_column, key1_column, key2_column, group_column, slot_id}
 use Rattle.judged.specs.Passes.{column_of}
 use Rattle.judged.proofs.Held.{coding, Held, column_at_lem}
 

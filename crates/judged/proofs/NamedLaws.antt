@@ -1,26 +1,25 @@
 -- What a row names is kept by its code, and leads to the row that holds the key.
-use mathlib.Core.Path.{◌≡◌, refl, ap, sym, subst, ◌∙◌}
-use mathlib.Core.Bool.{Bool, true, false, cond}
-use mathlib.Core.List.{List, [], ◌∷◌, ◌++◌, Memᴰ}
-use Prim.Native.Nat.{ℕ, zero, suc, ◌+◌, ◌≤◌, ◌<◌}
+use mathlib.Core.Path.{◌≡◌, refl, ap, sym, ◌∙◌}
+use mathlib.Core.Bool.{true}
+use mathlib.Core.List.{List, [], ◌∷◌}
+use Prim.Native.Nat.{ℕ, zero, suc, ◌≤◌, ◌<◌}
 use native.Mathlib.Omega.{arith}
-use lib.Dec.{eqb}
 use lib.ListN.{length, drop}
 use borrow.Author.Tests.{eqb-false}
 use Rattle.laws.proofs.Cases.{false≢true}
 use Rattle.arrays.specs.Room.{most_places}
 use Rattle.verdicts.specs.Key.{Key}
-use Rattle.verdicts.specs.Facts.{Naming, Facts}
+use Rattle.verdicts.specs.Facts.{Naming}
 use Rattle.verdicts.specs.Entries.{Entry}
 use Rattle.verdicts.specs.Steps.{holds}
 use Rattle.chain_steps.specs.Chains.{no_row}
 use Rattle.manners.specs.Manners.{manner_of, manner_at, code_of}
-use Rattle.keys.specs.Held.{named_of, keys_of}
+use Rattle.keys.specs.Held.{named_of}
 use Rattle.keys.proofs.Fitting.{Listed, NamesFit}
 use Rattle.meaning.specs.Kept.{kept_entry}
 use Rattle.meaning.specs.Found.{Finds}
 use Rattle.judging.proofs.CircleMeaning.{no_code}
-use Rattle.judging.proofs.Resolved.{Answers, Named, absent, present, names_in, Names}
+use Rattle.judging.proofs.Resolved.{Answers, absent, present, Names}
 use Rattle.findings.specs.Found.{row_linked}
 
 module _ (rows : List Entry) (few : length rows ≤ most_places) where

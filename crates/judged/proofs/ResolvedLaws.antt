@@ -1,61 +1,42 @@
 -- Where the arrays hold the rows, what the passes find resolves them: so their verdicts are the definition's.
-use mathlib.Core.Path.{◌≡◌, refl, ap, ap₂, sym, subst, ◌∙◌}
-use mathlib.Core.Bool.{Bool, true, false, cond, ◌&&◌, ◌||◌}
+use mathlib.Core.Path.{◌≡◌, refl, ap, sym, subst, ◌∙◌}
+use mathlib.Core.Bool.{Bool, true, false, cond, ◌&&◌}
 use mathlib.Core.List.{List, [], ◌∷◌, ◌++◌, map, Memᴰ}
-use Prim.Native.Nat.{ℕ, zero, suc, ◌+◌, ◌*◌, ◌≤◌, ◌<◌, min}
+use Prim.Native.Nat.{ℕ, zero, suc, ◌≤◌, ◌<◌, min}
 use native.Mathlib.Omega.{arith}
 use lib.Dec.{eqb, ltb, leb}
-use lib.ListN.{length, get_or, drop, get_or-eq_default}
-use borrow.Author.Tests.{eq-eqb, ne_eqb, eqb-true, eqb-false, ltb-true, ltb-false, leb-true}
+use lib.ListN.{length, get_or, drop}
+use borrow.Author.Tests.{ne_eqb, eqb-true, ltb-true, ltb-false, leb-true}
 use Rattle.laws.specs.Lists.{or_else, first}
 use Rattle.laws.specs.Prefix.{flag}
 use Rattle.laws.proofs.Cases.{bool_cases, false≢true, and_left, and_right}
 use Rattle.laws.proofs.Tests.{keep_length}
-use Rattle.laws.proofs.Values.{any_default}
 use Rattle.arrays.specs.Room.{most_places}
 use Rattle.schemas.specs.Reasons.{reason_at}
 use Rattle.symbols.specs.declared.Symbol.{Symbol}
 use Rattle.symbols.specs.Symbols.{no_id, id_of}
 use Rattle.symbols.specs.Arrays.{symbols}
-use Rattle.passes.specs.Marked.{under}
 use Rattle.verdicts.specs.Key.{Key}
 use Rattle.verdicts.specs.Facts.{Naming, Count, Facts}
 use Rattle.verdicts.specs.Entries.{Entry, own, facts}
-use Rattle.verdicts.specs.Steps.{holds, belongs}
+use Rattle.verdicts.specs.Steps.{belongs}
 use Rattle.verdicts.specs.Verdicts.{sound, tally, count_cell}
 use Rattle.chain_steps.specs.Chains.{no_row}
-use Rattle.key_symbols.specs.Keyed.{symbol_of, space_of}
+use Rattle.key_symbols.specs.Keyed.{symbol_of}
 use Rattle.keys.specs.Ranks.{parameters, rank, ranks}
 use Rattle.manners.specs.Manners.{manner_of, manner_at, code_of, marks_of}
 use Rattle.key_symbols.specs.Bounded.{Bounded}
 use Rattle.keys.specs.Says.{rank_in, Says}
 use Rattle.keys.specs.Held.{slot_of, named_of, count_of as countingOf, keys_of}
-use Rattle.keys.proofs.Fitting.{Fits, Listed, NamesFit, CountsFit}
+use Rattle.keys.proofs.Fitting.{Listed, NamesFit, CountsFit}
 use Rattle.manners.proofs.MarkLaws.{marked}
 use Rattle.keys.proofs.SaysLaws.{fits_say}
 use Rattle.keys.proofs.RankLaws.{names_lower, chain_level}
-use Rattle.meaning.specs.Kept.{key_id, Known, kept_entry}
+use Rattle.meaning.specs.Kept.{Known, kept_entry}
 use Rattle.meaning.specs.Found.{Finds}
-use Rattle.judging.proofs.Resolved.{Answers, Named, absent, present, names_in, Names, Arrays, Layers, Resolved}
+use Rattle.judging.proofs.Resolved.{Answers, Named, absent, present, names_in, Names, Arrays, Resolved}
 use Rattle.judging.proofs.CircleMeaning.{no_code}
-use Rattle.kept.specs.Stored.{
-  at,
-  own_column,
-  key1_column,
-  name1_column,
-  name2_column,
-  kept_number_column,
-  code1_column,
-  code2_column,
-  marks_column,
-  count_column,
-  slot_id,
-  named_id,
-  keys_at,
-  StoredRow,
-  KnownRow,
-  Stored,
-}
+use Rattle.kept.specs.Stored.{at, own_column, key1_column, name1_column, name2_column, kept_number_column, code1_column, code2_column, marks_column, count_column, slot_id, named_id, keys_at}
 use Rattle.findings.specs.Found.{row_linked, count_finding}
 use Rattle.judged.specs.Passes.{column_of}
 use Rattle.judged.proofs.Held.{coding, Held, column_at_lem}

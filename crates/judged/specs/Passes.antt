@@ -1,5 +1,5 @@
 -- What the passes leave in the arrays that they are lent, by what is kept of the rows.
-use Rattle.std.specs.Prelude.{ℕ, min, ◌*◌, ◌≡◌, List, eqb, length, get_or, take, drop, replicate}
+use Rattle.std.specs.Prelude.{ℕ, min, ◌*◌, ◌≡◌, List, eqb, get_or, take, drop, replicate}
 use Rattle.std.proofs.lemmas.List.Edits.{sets}
 use Rattle.laws.specs.Prefix.{flag}
 use Rattle.laws.specs.Values.{tabulate}
