@@ -6,8 +6,8 @@ use native.Mathlib.Omega.{arith}
 use native.Mathlib.Nat.{sub-zero, zero-sub, suc-sub-suc}
 use native.Mathlib.Numerals.{add-one}
 use lib.ListN.{length, take, drop, get_or, set, length-take, length-drop, length-append, take-append-drop}
-use lib.Seq.{take-suc, drop-cons, set_at, get_or-drop, get_or-append-add, length-take-le, take_at, append_snoc, take-append_seam, take-take, take-nil}
-use borrow.Rule.Slice.PartMut.{put_mid, take_put}
+use lib.Seq.{take-suc, drop-cons, set_at, get_or-drop, get_or-append-add, length-take-le, take_at, append_snoc, take-append_seam, take-take, take-nil, drop_at, take-append-le}
+use borrow.Rule.Slice.PartMut.{put_mid, post_of, take_put}
 use Rattle.lines.specs.Columns.{part_of}
 use Rattle.archives.specs.Packets.{packets_in, left_in}
 use Rattle.archives.specs.Blocks.{Moved, Refilled}
@@ -72,6 +72,17 @@ module _ {from to count : ℕ} {before after : List ℕ} (m : Moved from to coun
         least = omega (arith, m.number);
         most = simp length-append (omega arith);
       }
+
+  -- they alone stand there
+  pub part_behind : (n k : ℕ) (more : List ℕ) → n ≤ length more
+      → part_of (put_mid count k after more) (length (part_of before from to)) (count + n) ≡ take n more
+  part_behind n k more h =
+      let same : (count + n) - count ≡ n = omega arith in
+      let rest = post_of count k after in
+      ap (λ (i : ℕ). part_of (put_mid count k after more) i (count + n)) (sym m.number)
+      ∙ ap (take ((count + n) - count)) (drop_at (take count after) (more ++ rest) count (length-take-le count after moved_within))
+      ∙ ap (λ (i : ℕ). take i (more ++ rest)) same
+      ∙ take-append-le n more rest h
 
 part_is : (u t : ℕ) (l : List ℕ) → drop u (take t l) ≡ part_of l u t
 part_is zero t l = rw (sub-zero t)

@@ -1,7 +1,9 @@
 // An archive of packets end to end: where each ends in bytes, and a file of any length read in blocks.
 #![tactic(auto)]
 
-ghost use Rattle.std.specs.Prelude.{◌≡◌, ◌-◌, min, ◌≤◌};
+ghost use Rattle.std.specs.Prelude.{◌≡◌, ◌-◌, min, ◌≤◌, length};
+ghost use Rattle.std.specs.Io.KnownBytes.{Consumes};
+ghost use Rattle.lines.specs.Columns.{part_of};
 ghost use Rattle.archives.specs.Blocks.{Moved, Refilled};
 ghost use Rattle.archives.specs.Framing.{framed_at};
 
@@ -69,9 +71,12 @@ fn move_rest(block: &mut [u8], from: usize, to: usize) -> usize
     count
 }
 
-// Keeps these bytes at the start of the block and reads on behind them; answers how many bytes then stand there.
-pub fn refill(file: &mut impl Read, block: &mut [u8], from: usize, to: usize) -> usize
-    ensures { Refilled from to result block.old block.new }
+// Keeps these bytes at the start of the block and reads on behind them; answers how many bytes then stand there. Those
+// behind are the next of the file, where its bytes are known.
+pub fn refill<F: Read>(file: &mut F, block: &mut [u8], from: usize, to: usize) -> usize
+    ensures refilled { Refilled from to result block.old block.new }
+    ensures bytes { Consumes (F.remaining file.old) (F.remaining file.new)
+        (part_of block.new (length (part_of block.old from to)) result) }
 {
     let kept = move_rest(block, from, to);
     let read = fill(file, &mut block[kept..]);
