@@ -4,7 +4,7 @@ use Rattle.outcomes.specs.Outcome.{Outcome, refused, answer}
 use Rattle.outcomes.specs.Refusals.{refused_by}
 use Rattle.announced.specs.Announced.{raised, violation, after_reading}
 use Rattle.severity.specs.declared.Severity.{Severity}
-use Rattle.severity.specs.declared.Severity.TheVariants.{Within, Soft, Hard}
+use Rattle.severity.specs.declared.Severity.TheVariants.{Soft}
 use Rattle.announced.specs.declared.Progress.{Progress}
 use Rattle.occurrences.specs.declared.Pass.{Pass}
 use Rattle.occurrences.specs.declared.RawNumber.{RawNumber}

@@ -1,5 +1,5 @@
 -- What the values of a packet make of run and announced.
-use Rattle.std.specs.Prelude.{ℕ, ◌≡◌, refl, Bool, true, false, List, [], ◌∷◌, map, eqb, ℤ, pos}
+use Rattle.std.specs.Prelude.{ℕ, ◌≡◌, refl, Bool, true, false, List, [], ◌∷◌, map, ℤ, pos}
 use Rattle.name_bytes.specs.declared.Name.{Name}
 use Rattle.rows.specs.declared.records.OcfRow.{OcfRow}
 use Rattle.outcomes.specs.Outcome.{Outcome, refused, answer, and_then}
