@@ -1,5 +1,5 @@
 -- What the passes found and what was put make the index.
-use mathlib.Core.Path.{◌≡◌, ◌∙◌}
+use mathlib.Core.Path.{◌≡◌}
 use mathlib.Core.List.{List}
 use Prim.Native.Nat.{ℕ, min}
 use native.Mathlib.Omega.{arith}
@@ -14,7 +14,7 @@ use Rattle.passes.specs.Groups.{Chained}
 use Rattle.kept.specs.Stored as kept
 use Rattle.judged.specs.Passes.{column_of, HoldersBy}
 use Rattle.index_columns.specs.Columns.{index_columns}
-use Rattle.indexing.specs.Indexing.{good_marks, IndexedBy}
+use Rattle.indexing.specs.Indexing.{IndexedBy}
 
 module _ (halves bytes cells : List ℕ) (n rows : ℕ) (few : rows ≡ min n most_places)
     (marks : List ℕ) (marked : marks ≡ sets (replicate most_places 0) 0 (tabulate (λ i. flag (eqb (get_or cells i 0) 0)) 0 rows))
