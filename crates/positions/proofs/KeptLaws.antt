@@ -8,7 +8,7 @@ use lib.Seq.{ext_get_or}
 use Rattle.laws.specs.Values.{tabulate}
 use Rattle.laws.proofs.Values.{tabulate_length, tabulate_at, written}
 use Rattle.lines.specs.Lines.{Line}
-use Rattle.verdicts.specs.Entries.{Entry, own, all_rows, carried_at}
+use Rattle.verdicts.specs.Entries.{Entry, own, carried_at}
 use Rattle.verdicts.specs.Places.{IsRow, text_at, rows_before, place}
 use Rattle.verdicts.specs.Positions.{position_by, row_position, position_told, positions}
 use Rattle.verdicts.proofs.EntryLaws.{own_reading}
