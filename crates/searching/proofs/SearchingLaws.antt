@@ -2,13 +2,12 @@
 use mathlib.Core.Path.{◌≡◌, refl, ap, sym, ◌∙◌}
 use mathlib.Core.Bool.{Bool, true, false, cond, not, ◌&&◌}
 use mathlib.Core.List.{List, map}
-use mathlib.Core.Option.{Option, none, some}
+use mathlib.Core.Option.{none, some}
 use Prim.Native.Nat.{ℕ, ◌-◌, ◌<◌}
 use native.Mathlib.Omega.{arith}
 use lib.Dec.{eqb}
 use lib.ListN.{length, get_or, length-map}
 use borrow.Author.Tests.{eqb-true}
-use Rattle.laws.proofs.Cases.{cond_cases, and_left, and_right}
 use Rattle.decoding.specs.Records.{pid_row}
 use Rattle.units.specs.declared.Spid.{Spid}
 use Rattle.key_symbols.specs.declared.FiveNumbers.{FiveNumbers}
@@ -17,7 +16,7 @@ use Rattle.headers.specs.Header.{head_of}
 use Rattle.database.specs.Rows.{Row, Rows}
 use Rattle.database.specs.Arrays.{Database, database, row_at, packet_at, answers}
 use Rattle.five_numbers.specs.Numbers.{five_numbers}
-use Rattle.identification.specs.Identification.{Identity, chosen}
+use Rattle.identification.specs.Identification.{chosen}
 use Rattle.packet_rows.specs.Packets.{numbers_from, packets_by}
 use Rattle.packet_index.specs.declared.Searched.{Searched}
 use Rattle.packet_index.specs.Index.{Packets, is_packet, numbers_at, is_index}
