@@ -1,5 +1,5 @@
 -- Rows that hold a key which a row names, by the columns that are kept of the rows and the cells of their verdicts.
-use Rattle.std.specs.Prelude.{ℕ, ◌≡◌, refl, Bool, true, false, ◌&&◌, ◌||◌, List, [], eqb}
+use Rattle.std.specs.Prelude.{ℕ, ◌≡◌, refl, Bool, false, ◌&&◌, ◌||◌, List, [], eqb}
 use Rattle.manners.specs.Manners.{manner_at}
 use Rattle.kept.specs.Stored.{name1_column, name2_column, code1_column, code2_column}
 use Rattle.key_rows.specs.KeyRows.{in_column, has_key, sound_by}
