@@ -25,7 +25,7 @@ use Rattle.kept.specs.Stored.{key1_column, key2_column}
 use Rattle.judged.specs.Passes.{column_of}
 use Rattle.judged.proofs.Held.{coding}
 use Rattle.database.specs.Rows.{Row}
-use Rattle.database.specs.Arrays.{holder_column, row_at, row_for, keyed_by}
+use Rattle.database.specs.Arrays.{holder_column, row_for, keyed_by}
 use Rattle.database.specs.GoodRows.{rows_in, is_good, good_rows, holds_key, find}
 use Rattle.loading.proofs.ListLaws.{keep_keep, Hit, hit_either, hit_same}
 use Rattle.loading.proofs.RowLaws.{no_row, row_in, length_rows_in}

@@ -30,6 +30,7 @@ use Rattle.loading.proofs.GoodLaws.{good_at, good_own}
 
 module _ (ls : List Symbol) where
   known_of : {ks : List Key} → AllKnown coding ls ks → {k : Key} → Memᴰ k ks → Known coding ls k
+  known_of Rattle.meaning.specs.Kept.none {k = k} x3 = elim x3 [ ]
   known_of (more g w) (Memᴰ.head e) = subst (Known coding ls) (sym e) g
   known_of (more g w) (Memᴰ.tail m) = known_of w m
 

@@ -2,7 +2,7 @@
 use mathlib.Core.Path.{◌≡◌, ap, ◌∙◌}
 use mathlib.Core.Bool.{Bool, true, false, ◌&&◌}
 use mathlib.Core.List.{List}
-use Prim.Native.Nat.{ℕ, ◌+◌, ◌≤◌, ◌<◌, min}
+use Prim.Native.Nat.{ℕ, ◌+◌, ◌≤◌, min}
 use native.Mathlib.Omega.{arith}
 use lib.Dec.{eqb, leb}
 use lib.ListN.{length, get_or, replicate, length-replicate}
@@ -12,7 +12,6 @@ use Rattle.laws.proofs.Cases.{and_left, and_right}
 use Rattle.laws.proofs.Values.{written_at}
 use Rattle.arrays.specs.Room.{most_places}
 use Rattle.symbols.specs.Arrays.{all_words, all_links}
-use Rattle.verdicts.specs.Verdicts.{verdicts}
 use Rattle.kept.specs.Stored as kept
 use Rattle.kept.specs.FirstPass.{Arrays, arrays}
 use Rattle.kept.specs.Keeping.{has_places, KeepsRows}

@@ -1,8 +1,8 @@
 -- The row that the columns give for a number is the good VALID Y pid row of that number.
-use mathlib.Core.Path.{◌≡◌, refl, ap, sym, subst, ◌∙◌}
-use mathlib.Core.Bool.{Bool, true, false, cond, not, ◌&&◌}
+use mathlib.Core.Path.{◌≡◌, refl, ap, sym, ◌∙◌}
+use mathlib.Core.Bool.{Bool, true, false, cond, ◌&&◌}
 use mathlib.Core.List.{List}
-use mathlib.Core.Option.{Option, none, some}
+use mathlib.Core.Option.{none, some}
 use Prim.Native.Nat.{ℕ, zero, suc, ◌-◌, ◌<◌}
 use native.Mathlib.Omega.{arith}
 use lib.Dec.{eqb}
@@ -10,7 +10,7 @@ use lib.ListN.{length}
 use borrow.Author.Tests.{eq-eqb, ne_eqb, eqb-true}
 use Rattle.laws.specs.Lists.{keep}
 use Rattle.laws.proofs.At.{keep_none, keep_one}
-use Rattle.laws.proofs.Cases.{bool_cases, and_left, and_right, and_both, false_of, false≢true}
+use Rattle.laws.proofs.Cases.{and_left, and_right, and_both, false_of, false≢true}
 use Rattle.decoding.specs.Records.{pid_row}
 use Rattle.verdicts.specs.Key.{Key}
 use Rattle.verdicts.specs.Entries.{all_rows}
@@ -24,7 +24,6 @@ use Rattle.database.specs.Arrays.{database, holder_column, row_at, keyed_by, pac
 use Rattle.database.specs.GoodRows.{rows_in, is_good, good_rows, holds_key, find}
 use Rattle.database.proofs.OwnerLaws.{packet_holds, holds_packet}
 use Rattle.loading.proofs.RowLaws.{no_row, row_in, row_there, length_rows_in}
-use Rattle.loading.proofs.GoodLaws.{good_at}
 use Rattle.loading.proofs.HolderLaws.{first_of, find_good, hit, only, held}
 use Rattle.loading.proofs.IndexedRows.{IndexedRows, row_is, row_holds}
 

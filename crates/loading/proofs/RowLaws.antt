@@ -4,14 +4,14 @@ use mathlib.Core.List.{List, [], ◌∷◌}
 use Prim.Native.Nat.{ℕ, zero, suc, ◌+◌, ◌-◌, ◌<◌}
 use native.Mathlib.Omega.{arith}
 use native.Mathlib.Nat.{le_of_suc-le-suc, not-suc-le-zero}
-use lib.ListN.{length, get_or, take, drop, length-append, get_or-append}
+use lib.ListN.{length, get_or, take, length-append, get_or-append}
 use lib.Seq.{get_or-append-add}
 use Rattle.lines.specs.Lines.{Line, lines_of, line_from}
 use Rattle.schemas.specs.declared.Table.{Table}
 use Rattle.verdicts.specs.Entries.{carried, all_rows}
 use Rattle.verdicts.specs.Places.{text_at, no_line, rows_before}
 use Rattle.verdicts.proofs.EntryLaws.{length_rows}
-use Rattle.kept.specs.FirstPass.{table_line, Situated}
+use Rattle.kept.specs.FirstPass.{Situated}
 use Rattle.kept.proofs.SituationLaws.{line_below, start_below, line_there}
 use Rattle.database.specs.Rows.{Row}
 use Rattle.database.specs.GoodRows.{rows_of, rows_from, rows_in}
