@@ -1,6 +1,5 @@
 -- One law for each return: the number of a row.
 use mathlib.Core.Path.{◌≡◌}
-use mathlib.Core.Bool.{cond, ◌&&◌}
 use Prim.Native.Nat.{ℕ, ◌+◌, ◌-◌, ◌≤◌, ◌<◌}
 use borrow.Author.Tests.{lt-ltb, le-ltb, le-leb, lt-leb}
 use Rattle.cells.specs.declared.TableCells.{TableCells}
