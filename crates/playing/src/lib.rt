@@ -10,7 +10,7 @@ ghost use Rattle.playing.specs.Plays.{fresh_state, capped_sum, Plays};
 use archives::{Framed, packet_at};
 use limit_state::state::LimitState;
 use lines::columns::part;
-use showing::lines::Line;
+use showing::packet_lines::Line;
 use showing::say::say_progress;
 use showing::stretches::{Showing, Stretch, show};
 use stepping::step::step_in;

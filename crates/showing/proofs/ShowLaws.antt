@@ -1,19 +1,18 @@
 -- A packet's line, and the stretch that it ends or makes longer.
 use Prim.Native.Nat.{ℕ}
-use mathlib.Core.Path.{◌≡◌, refl, sym, ◌∙◌}
+use mathlib.Core.Path.{◌≡◌, ◌∙◌}
 use mathlib.Core.Bool.{Bool, true, false}
 use mathlib.Core.List.{List}
 use lib.Dec.{leb}
 use borrow.Author.Tests.{eq-eqb, ne_eqb}
 use Rattle.outcomes.specs.Refusals.{refusal_number, refusal_place}
 use Rattle.outcomes.specs.declared.Refusal.{Refusal}
-use Rattle.accepting.specs.declared.step.Answer.{Answer}
 use Rattle.accepting.specs.declared.step.Answer.TheVariants.{Taken, Refused}
 use Rattle.accepting.specs.declared.step.Stepped.{Stepped}
 use Rattle.showing.specs.Count.{sequence_count_in}
 use Rattle.showing.specs.Lines.{refusal_in, place_shown, printed_line}
 use Rattle.showing.specs.Stretches.{joins, extended, shown}
-use Rattle.showing.specs.declared.lines.Line.{Line}
+use Rattle.showing.specs.declared.packet_lines.Line.{Line}
 use Rattle.showing.specs.declared.stretches.Stretch.{Stretch}
 use Rattle.showing.specs.declared.stretches.Showing.{Showing}
 use Rattle.showing.specs.declared.stretches.Showing.TheVariants.{Each, Runs, Last}

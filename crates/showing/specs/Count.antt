@@ -1,5 +1,5 @@
 -- The sequence count in a packet's line.
-use Rattle.std.specs.Prelude.{ℕ, ◌≡◌, refl, List, [], ◌∷◌, ℤ, pos, negsuc}
+use Rattle.std.specs.Prelude.{ℕ, ◌≡◌, refl, List, [], ◌∷◌, pos, negsuc}
 use Rattle.laws.specs.Said.{Said, value, refused, free}
 use Rattle.fields.specs.Bits.{bit_at, number_at}
 use Rattle.fields.specs.Place.{bit_inside, inside}

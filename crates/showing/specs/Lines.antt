@@ -6,7 +6,7 @@ use Rattle.limit_state.specs.declared.state.LimitState.{LimitState}
 use Rattle.accepting.specs.declared.step.Answer.{Answer}
 use Rattle.accepting.specs.declared.step.Answer.TheVariants.{Taken, Refused}
 use Rattle.accepting.specs.declared.step.Stepped.{Stepped}
-use Rattle.showing.specs.declared.lines.Line.{Line}
+use Rattle.showing.specs.declared.packet_lines.Line.{Line}
 
 -- 01's number and place of a refusal, 0 of a packet that is taken
 unfoldable pub refusal_in : Answer → ℕ

@@ -5,7 +5,7 @@ use Rattle.showing.specs.Count.{sequence_count_in}
 use Rattle.showing.specs.Lines.{printed_line}
 use Rattle.showing.specs.declared.stretches.Showing.{Showing}
 use Rattle.showing.specs.declared.stretches.Showing.TheVariants.{Each, Runs, Last}
-use Rattle.showing.specs.declared.lines.Line.{Line}
+use Rattle.showing.specs.declared.packet_lines.Line.{Line}
 use Rattle.showing.specs.declared.stretches.Stretch.{Stretch}
 
 -- the next packet has the same answer: refused with the same number and place,

@@ -1,5 +1,5 @@
 // The lines of a replay.
-use crate::lines::Line;
+use crate::packet_lines::Line;
 use files::errors::say_error;
 use limit_state::state::LimitState;
 use std::io::ErrorKind;

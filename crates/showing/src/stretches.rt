@@ -2,7 +2,7 @@
 ghost use Rattle.std.specs.Prelude.{◌≡◌};
 ghost use Rattle.showing.specs.Stretches.{extended, shown, joins as joinsTo};
 
-use crate::lines::{Line, count_of, line_of};
+use crate::packet_lines::{Line, count_of, line_of};
 use crate::say::{say_line, say_stretch};
 use accepting::step::Stepped;
 
