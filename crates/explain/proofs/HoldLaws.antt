@@ -1,8 +1,8 @@
 -- Of rows that are kept: a row holds a key just where its columns have the key's id.
 use mathlib.Core.Path.{◌≡◌, refl, ap, ap₂, sym, ◌∙◌}
-use mathlib.Core.Bool.{Bool, true, false, not, cond, ◌&&◌, ◌||◌, or-false}
+use mathlib.Core.Bool.{Bool, false, not, ◌&&◌, ◌||◌, or-false}
 use mathlib.Core.List.{List, [], ◌∷◌, map}
-use Prim.Native.Nat.{ℕ, ◌+◌, ◌≤◌, ◌<◌}
+use Prim.Native.Nat.{ℕ, ◌<◌}
 use native.Mathlib.Omega.{arith}
 use lib.Dec.{eqb}
 use lib.ListN.{length, get_or, drop}
@@ -15,7 +15,7 @@ use Rattle.symbols.specs.Symbols.{no_id}
 use Rattle.symbols.specs.Arrays.{symbols}
 use Rattle.verdicts.specs.Key.{Key, same_key}
 use Rattle.verdicts.specs.Entries.{Entry, own, facts}
-use Rattle.verdicts.specs.Steps.{twin, holds, belongs, rivals}
+use Rattle.verdicts.specs.Steps.{holds, belongs, rivals}
 use Rattle.meaning.specs.Kept.{key_id, Known, first_id, AllKnown, none, more, AtMostTwo, zero_keys, one_key, two_keys, no_entry, kept_entry, KeptRow}
 use Rattle.meaning.proofs.KeyLaws.{first_is, id_first, belongs_id}
 use Rattle.kept.specs.Stored.{key1_column, key2_column, group_column}
@@ -28,6 +28,7 @@ use Rattle.key_rows.specs.KeyRows.{in_column, has_key, shares_by}
 one_of_two : (k : Key) (ks : List Key) → AtMostTwo ks → any (same_key k) ks ≡ (first_is k ks || first_is k (drop 1 ks))
 one_of_two k [] zero_keys = refl
 one_of_two k (l ∷ []) one_key = refl
+one_of_two k (l ∷ (m ∷ (_ ∷ _))) x7 = elim x7 [ ]
 one_of_two k (l ∷ m ∷ []) (two_keys z) = ap (λ (t : Bool). same_key k l || t) (or-false (same_key k m))
 
 -- a row holds the first of some keys
@@ -38,6 +39,7 @@ first_held o (k ∷ ks) = holds o k
 first_or_second : (o : Entry) (ks : List Key) → AtMostTwo ks → any (holds o) ks ≡ (first_held o ks || first_held o (drop 1 ks))
 first_or_second o [] zero_keys = refl
 first_or_second o (k ∷ []) one_key = refl
+first_or_second o (k ∷ (l ∷ (_ ∷ _))) x7 = elim x7 [ ]
 first_or_second o (k ∷ l ∷ []) (two_keys z) = ap (λ (t : Bool). holds o k || t) (or-false (holds o l))
 
 module _ (rows : List Entry) (words links : List ℕ) (count : ℕ) (halves bytes : List ℕ) (h : Held rows words links count halves bytes) where

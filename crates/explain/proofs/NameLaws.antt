@@ -1,8 +1,8 @@
 -- Of rows that are kept: a row names another just where it has the id of a key that the other holds.
 use mathlib.Core.Path.{◌≡◌, refl, ap, ap₂, sym, ◌∙◌}
-use mathlib.Core.Bool.{Bool, true, false, not, cond, ◌&&◌, ◌||◌, and-false, or-false}
+use mathlib.Core.Bool.{Bool, true, false, ◌&&◌, ◌||◌, and-false, or-false}
 use mathlib.Core.List.{List, [], ◌∷◌}
-use Prim.Native.Nat.{ℕ, ◌+◌, ◌≤◌, ◌<◌}
+use Prim.Native.Nat.{ℕ, ◌<◌}
 use native.Mathlib.Omega.{arith}
 use lib.Dec.{eqb}
 use lib.ListN.{length, drop}
@@ -18,7 +18,7 @@ use Rattle.verdicts.specs.Entries.{Entry, facts}
 use Rattle.verdicts.specs.Steps.{holds, names_at}
 use Rattle.verdicts.specs.Verdicts.{follows}
 use Rattle.key_symbols.specs.Keyed.{symbol_of}
-use Rattle.manners.specs.Manners.{Manner, manner_of, manner_at, code_of}
+use Rattle.manners.specs.Manners.{Manner, manner_of, manner_at}
 use Rattle.keys.specs.Held.{named_of, keys_of}
 use Rattle.keys.proofs.Fitting.{Listed, NamesFit}
 use Rattle.meaning.specs.Kept.{Known, kept_entry}

@@ -1,11 +1,10 @@
 -- Of rows that are kept and judged: the rows that a verdict points to are those that it speaks of.
-use mathlib.Core.Path.{◌≡◌, refl, ap, ap₂, sym, ◌∙◌}
-use mathlib.Core.Bool.{Bool, true, false, not, cond, ◌&&◌, ◌||◌, or-false}
+use mathlib.Core.Path.{◌≡◌, refl, ap, sym, ◌∙◌}
+use mathlib.Core.Bool.{Bool, ◌&&◌, or-false}
 use mathlib.Core.List.{List, [], ◌∷◌, map}
-use Prim.Native.Nat.{ℕ, ◌+◌, ◌/◌, ◌%◌, ◌≤◌, ◌<◌}
+use Prim.Native.Nat.{ℕ, ◌<◌}
 use native.Mathlib.Omega.{arith}
-use lib.Dec.{eqb}
-use lib.ListN.{length, get_or, drop}
+use lib.ListN.{length, get_or}
 use Rattle.laws.specs.Lists.{any}
 use Rattle.laws.specs.Prefix.{all_from}
 use Rattle.laws.proofs.Places.{keep_all, all_same}
@@ -13,16 +12,16 @@ use Rattle.symbols.specs.declared.Symbol.{Symbol}
 use Rattle.symbols.specs.Arrays.{symbols}
 use Rattle.verdicts.specs.Key.{Key}
 use Rattle.verdicts.specs.Facts.{Count}
-use Rattle.verdicts.specs.Entries.{Entry, own, facts}
+use Rattle.verdicts.specs.Entries.{Entry, facts}
 use Rattle.verdicts.specs.Steps.{belongs, counts}
 use Rattle.verdicts.specs.Verdicts.{sound, verdict}
 use Rattle.keys.specs.Held.{count_of, keys_of}
 use Rattle.keys.proofs.Fitting.{CountsFit}
 use Rattle.meaning.specs.Kept.{key_id, Known, AllKnown, none, more, no_entry, kept_entry}
-use Rattle.kept.specs.Stored.{own_column, key1_column, group_column, count_column}
+use Rattle.kept.specs.Stored.{key1_column, count_column}
 use Rattle.judged.proofs.Held.{coding, Held, column_at_lem}
 use Rattle.judged.proofs.KeptLaws.{own_kept}
-use Rattle.causes.specs.Causes.{counted, speaks_of, causes}
+use Rattle.causes.specs.Causes.{speaks_of, causes}
 use Rattle.causes.proofs.SoundCells.{sound_cell}
 use Rattle.key_rows.specs.KeyRows.{in_column, sound_by, counted_by}
 use Rattle.named_rows.specs.NamedRows.{follower_by}
