@@ -1,5 +1,5 @@
 -- The packets of bytes, asked one after the other.
-use Rattle.std.proofs.Common.{◌≡◌, ℕ, ◌≤◌, List, [], ◌∷◌, length, drop, sym, refl, ap, ◌∙◌, arith}
+use Rattle.std.proofs.Common.{◌≡◌, ℕ, ◌≤◌, List, ◌∷◌, length, drop, sym, refl, ap, ◌∙◌, arith}
 use Rattle.lines.specs.Columns.{part_of}
 use Rattle.archives.specs.Packets.{packets_in, left_in}
 use Rattle.archives.specs.Framing.{framed_at}
