@@ -8,7 +8,6 @@ use Rattle.outcomes.specs.Values as values
 use Rattle.verdicts.specs.Answer as import
 use Rattle.identification.specs.Identification.{Identity}
 use Rattle.readings.specs.Readings.{Reading}
-use Rattle.texts.specs.Texts.{Text}
 use Rattle.engineering.specs.Engineering.{Engineered, value, double, text}
 use Rattle.limit_state.specs.declared.state.LimitState.{LimitState}
 use Rattle.telling.specs.Words.{word, flag_number}
