@@ -4,17 +4,17 @@ use mathlib.Core.Path.{◌≡◌, refl, ap, sym, subst, ◌∙◌}
 use mathlib.Core.Bool.{Bool, true, false, not, cond, ◌&&◌, ◌||◌}
 use mathlib.Core.List.{List, [], ◌∷◌, ◌++◌, append-nil}
 use mathlib.Core.Logic.{◌⊎◌, inl, inr}
-use Prim.Native.Nat.{ℕ, zero, suc, ◌+◌, ◌/◌, ◌≤◌, ◌<◌}
+use Prim.Native.Nat.{ℕ, zero, suc, ◌+◌, ◌≤◌, ◌<◌}
 use native.Mathlib.Omega.{arith}
 use lib.Dec.{eqb, ltb}
 use lib.ListN.{get_or}
-use borrow.Author.Tests.{eqb-true, eqb-false, eq-eqb}
+use borrow.Author.Tests.{eqb-true, eq-eqb}
 use Rattle.laws.specs.Prefix.{all_from, flag, count_with}
 use Rattle.laws.proofs.Cases.{bool_cases, or_left, or_right}
 use Rattle.laws.proofs.Count.{count_or, count_some, count_within}
 use Rattle.pointing.specs.declared.Cause.{Cause}
 use Rattle.pointing.specs.declared.Cause.TheVariants.{Row, NoMore}
-use Rattle.pointing.specs.Pointing.{points_to, first_of}
+use Rattle.pointing.specs.Pointing.{points_to}
 use Rattle.row_order.specs.RowOrder.{turn_of, in_turn, first_cause, is_in, on_a_row, way_to, told_before, times_in, Leads, here, on, AllAfter}
 use Rattle.row_order.proofs.TurnLaws.{turn_cases}
 use Rattle.row_order.proofs.TellLaws.{first_below, in_append}

@@ -3,7 +3,7 @@ use mathlib.Core.Path.{◌≡◌, refl, ap, ap₂, sym, subst, ◌∙◌}
 use mathlib.Core.Bool.{Bool, true, false, not, cond, ◌&&◌, ◌||◌}
 use mathlib.Core.List.{List, [], ◌∷◌, ◌++◌}
 use mathlib.Core.Logic.{◌⊎◌, inl, inr}
-use Prim.Native.Nat.{ℕ, zero, suc, ◌+◌, ◌/◌, ◌≤◌, ◌<◌}
+use Prim.Native.Nat.{ℕ, zero, suc, ◌+◌, ◌≤◌, ◌<◌}
 use native.Mathlib.Omega.{arith}
 use lib.Dec.{eqb, ltb}
 use lib.ListN.{get_or}
@@ -12,7 +12,7 @@ use Rattle.laws.specs.Prefix.{all_from, flag}
 use Rattle.laws.proofs.Cases.{bool_cases, and_false}
 use Rattle.pointing.specs.declared.Cause.{Cause}
 use Rattle.pointing.specs.declared.Cause.TheVariants.{Row, NoMore}
-use Rattle.pointing.specs.Pointing.{points_to, first_of}
+use Rattle.pointing.specs.Pointing.{points_to}
 use Rattle.row_order.specs.RowOrder.{turn_of, in_turn, first_cause, is_in, on_a_row, way_to, told_before, order_of, times_in}
 use Rattle.row_order.proofs.TurnLaws.{turn_cases}
 use Rattle.row_order.proofs.TellLaws.{first_below}
