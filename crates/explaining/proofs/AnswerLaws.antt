@@ -1,8 +1,8 @@
 -- The answer by the columns is the answer of the tables.
-use mathlib.Core.Path.{◌≡◌, refl, ap, ap₂, sym, ◌∙◌}
-use mathlib.Core.Bool.{Bool, true, false, cond, ◌&&◌}
+use mathlib.Core.Path.{◌≡◌, ap, ap₂, sym, ◌∙◌}
+use mathlib.Core.Bool.{true, false}
 use mathlib.Core.List.{List, map}
-use Prim.Native.Nat.{ℕ, ◌+◌, ◌-◌, ◌≤◌, ◌<◌}
+use Prim.Native.Nat.{ℕ, ◌-◌, ◌≤◌, ◌<◌}
 use native.Mathlib.Omega.{arith}
 use lib.ListN.{length, get_or}
 use lib.Seq.{sets}
@@ -32,7 +32,7 @@ use Rattle.explain.specs.Explained.{Explains}
 use Rattle.explain.proofs.TableLaws as tables
 use Rattle.explaining.specs.declared.Explanation.{Explanation}
 use Rattle.explaining.specs.declared.Explanation.TheVariants.{Verdict, NoRow}
-use Rattle.explaining.specs.Explaining.{Answer, refused, no_row, explained, said_explanation, cause_places, by_size, answer_of, places_after}
+use Rattle.explaining.specs.Explaining.{refused, no_row, explained, said_explanation, cause_places, answer_of, places_after}
 use Rattle.explaining.specs.ByColumns.{pointed, answered_at, places_at, ExplainsBy}
 
 -- THE LAW OF PLACES: the rows there are the causes
