@@ -1,0 +1,9 @@
+-- One row after the other.
+use Rattle.std.proofs.Common.{◌-◌, ◌≤◌}
+use Rattle.leaning.proofs.leans.say_first.Given as goal
+
+abbrev pub invariant-loop-k : goal.invariant-loop-k
+invariant-loop-k g l = l.k ≤ 5
+
+abbrev pub decreases-loop-k : goal.decreases-loop-k
+decreases-loop-k g l = 5 - l.k
