@@ -1,10 +1,7 @@
 -- What is surveyed over a database that was loaded is surveyed over the tables.
 use Rattle.std.proofs.Common.{◌≡◌, ℕ, true, false, List, subst}
-use Rattle.outcomes.specs.declared.Refusal.{Refusal}
 use Rattle.tables.specs.Parts.{tables_in}
-use Rattle.tables.specs.Sizes.{sizes_of, refused_by}
 use Rattle.database.specs.Rows.{Rows}
-use Rattle.database.specs.GoodRows.{of_tables}
 use Rattle.database.specs.Arrays.{database, answers}
 use Rattle.loading.specs.Loaded.{Lent}
 use Rattle.full_loading.specs.FullLoads.{FullLoads}
