@@ -7,7 +7,6 @@ use lib.ListN.{length, drop}
 use Rattle.lines.specs.Columns.{part_of}
 use Rattle.archives.specs.Packets.{packets_in, left_in}
 use Rattle.archives.specs.Framing.{framed_at}
-use Rattle.archives.specs.declared.Framed.{Framed}
 use Rattle.archives.specs.declared.Framed.TheVariants.{Whole, Cut}
 use Rattle.archives.proofs.PacketLaws.{packets_none, left_none}
 use Rattle.archives.proofs.FrameLaws.{cut_says, next_packets, next_left, next_within}
