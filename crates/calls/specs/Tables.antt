@@ -1,5 +1,5 @@
 -- A call with tables.
-use Rattle.std.specs.Prelude.{◌≡◌, refl, List, [], ℕ}
+use Rattle.std.specs.Prelude.{◌≡◌, refl, List, ℕ}
 use Rattle.outcomes.specs.Outcome.{Outcome, refused, answer}
 use Rattle.tables.specs.Sizes.{Sized, fit, refused_by, sizes_of}
 use Rattle.database.specs.Rows.{Rows}
