@@ -1,9 +1,9 @@
 -- The places of identification, of readings and of engineering values are small, by rows that are in their ranges.
 use mathlib.Core.Path.{◌≡◌, refl, ap, subst}
-use mathlib.Core.Bool.{Bool, not, ◌&&◌, ◌||◌}
+use mathlib.Core.Bool.{not, ◌&&◌, ◌||◌}
 use mathlib.Core.List.{List}
 use mathlib.Core.Option.{Option, none, some}
-use Prim.Native.Nat.{ℕ, ◌+◌, ◌^◌, ◌≤◌, ◌<◌, ◌*◌, ◌/◌}
+use Prim.Native.Nat.{ℕ, ◌+◌, ◌^◌, ◌≤◌, ◌<◌, ◌*◌}
 use native.Mathlib.Nat.{mul-le-mul, div-le_self}
 use native.Mathlib.Omega.{arith}
 use lib.Dec.{eqb, ltb}
@@ -14,7 +14,6 @@ use borrow.Author.Tests.{ltb-true}
 use Rattle.laws.specs.Said.{Said, value, refused as refused_with, free}
 use Rattle.laws.proofs.Cases.{cond_cases}
 use Rattle.name_bytes.specs.declared.Name.{Name}
-use Rattle.name_bytes.specs.declared.CurveName.{CurveName}
 use Rattle.fields.specs.Field.{unsigned_at}
 use Rattle.widths.specs.Width.{width_of}
 use Rattle.decoding.specs.Records.{pic_row, plf_row}
@@ -28,7 +27,7 @@ use Rattle.rows.specs.declared.records.PcfRow.{PcfRow}
 use Rattle.rows.specs.declared.letters.Category.{Category}
 use Rattle.rows.specs.declared.letters.Category.TheVariants as category
 use Rattle.headers.specs.Header.{version, type_bit, length_field, flagged, head_of}
-use Rattle.verdicts.specs.Key.{location, parameter, identification}
+use Rattle.verdicts.specs.Key.{location, parameter}
 use Rattle.key_symbols.specs.declared.FiveNumbers.{FiveNumbers}
 use Rattle.outcomes.specs.Outcome.{Outcome, answer, and_then}
 use Rattle.outcomes.specs.Values.{Value}

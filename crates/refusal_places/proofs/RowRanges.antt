@@ -1,7 +1,7 @@
 -- The numbers of good plf and pic rows are in the ranges that 01 prints.
 use mathlib.Core.Path.{◌≡◌, refl, sym, ap, subst, ◌∙◌}
 use mathlib.Core.Logic.{⊎_elim}
-use mathlib.Core.Bool.{true, false}
+use mathlib.Core.Bool.{true}
 use mathlib.Core.List.{List, []}
 use mathlib.Core.Option.{some}
 use Prim.Native.Nat.{ℕ, ◌^◌, ◌≤◌, ◌<◌}
@@ -31,7 +31,7 @@ use Rattle.verdicts.specs.Key.{identification, location}
 use Rattle.verdicts.proofs.OwnerLaws.{owners_of}
 use Rattle.database.specs.Rows.{Row, Rows}
 use Rattle.database.specs.GoodRows.{of_tables}
-use Rattle.refusal_places.proofs.GoodRows.{HasLine, owner_line}
+use Rattle.refusal_places.proofs.GoodRows.{owner_line}
 
 -- A column
 
