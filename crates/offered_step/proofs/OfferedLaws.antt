@@ -6,7 +6,6 @@ use Prim.Native.Nat.{ℕ}
 use Rattle.units.specs.declared.TableNumber.{TableNumber}
 use Rattle.outcomes.specs.Outcome.{Outcome, refused}
 use Rattle.outcomes.specs.Refusals.{refusal_number, refusal_place, refused_by}
-use Rattle.outcomes.specs.declared.Refusal.{Refusal}
 use Rattle.outcomes.specs.declared.Refusal.TheVariants.{TableTooLong, TooManyRows, NoState}
 use Rattle.tables.specs.Sizes.{Sized, said_sizes, sizes_of}
 use Rattle.tables.specs.declared.Sizes.{Sizes}
@@ -15,8 +14,6 @@ use Rattle.limit_state.specs.declared.state.LimitState.{LimitState}
 use Rattle.offered.specs.Offered.{said_offered}
 use Rattle.offered.specs.declared.Offered.{Offered}
 use Rattle.offered.specs.declared.Offered.TheVariants as offered
-use Rattle.accepting.specs.Answer.{said_step}
-use Rattle.accepting.specs.declared.step.Answer.TheVariants as answer
 use Rattle.calls.specs.Tables.{after_sizes, asking}
 use Rattle.calls.specs.Calls.{limit_step_of}
 use Rattle.offered_step.specs.OfferedStep.{no_state, limit_step_from}
