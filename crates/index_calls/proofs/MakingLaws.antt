@@ -1,10 +1,9 @@
 -- What is made, in the words of the call.
 use mathlib.Core.Path.{◌≡◌, refl, ap, ◌∙◌}
-use mathlib.Core.Bool.{Bool, true, false, cond}
-use mathlib.Core.List.{List, ◌++◌}
+use mathlib.Core.List.{List}
 use Prim.Native.Nat.{ℕ}
 use lib.Dec.{ltb}
-use lib.ListN.{length, drop}
+use lib.ListN.{length}
 use Rattle.laws.proofs.Cases.{cond_cases₂}
 use Rattle.outcomes.specs.Outcome.{Outcome, refused, answer, and_then}
 use Rattle.outcomes.specs.Refusals.{refused_by}
