@@ -70,7 +70,7 @@ module _ (rows : Rows) (r : PcfRow) (raw : ℤ) where
       go : (f : Found) (given : Bool) → polynomial_for rows r.curtx ≡ f → r.curtx.given ≡ given → Numbered numbers (engineered rows r raw)
       go (found.Is p) given n g = rw (polynomial_answered rows r p c n raw)
       go found.Nothing true n g =
-          rw (along_curve c g n)
+          subst (Numbered numbers) (sym (along_curve c g n))
           (one_then numbers (along (curve_of rows r.curtx.name) raw) as_value
           (along_numbers numbers n30 n31 (curve_of rows r.curtx.name) raw) (λ z _. refl))
       go found.Nothing false n g = rw (as_read c g)

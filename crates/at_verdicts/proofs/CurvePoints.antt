@@ -19,7 +19,7 @@ use Rattle.column_checks.specs.Schema.{Column, ColumnKind, a_number, natural! }
 use Rattle.schemas.specs.Tables.{schema, caf}
 use Rattle.column_checks.specs.ColumnReasons.{kind_reason, column_reason}
 use Rattle.schemas.proofs.Meaning.{Absent, Given, column_fine}
-use Rattle.decoding.specs.Records.{column, caf_row, cap_row}
+use Rattle.decoding.specs.Records.{caf_row, cap_row}
 use Rattle.rows.specs.Values.{natural_or}
 use Rattle.rows.specs.declared.records.CapRow.{CapRow}
 use Rattle.formed.specs.Formed.{formed}

@@ -8,7 +8,6 @@ use native.Mathlib.Omega.{arith}
 use borrow.Author.Tests.{eq-eqb, eqb-true}
 use Rattle.laws.proofs.Cases.{false≢true}
 use Rattle.name_bytes.specs.declared.CurveName.{CurveName}
-use Rattle.schemas.specs.declared.Table.{Table}
 use Rattle.schemas.specs.declared.Table.TheVariants.{Caf, Mcf}
 use Rattle.verdicts.specs.Key.{curve}
 use Rattle.verdicts.specs.Entries.{carried_at}

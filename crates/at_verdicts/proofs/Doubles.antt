@@ -30,7 +30,7 @@ use Rattle.polynomial_curves.specs.declared.Found.TheVariants as found
 use Rattle.polynomial_curves.proofs.FiniteLaws.{curve_texts}
 use Rattle.curve_values.specs.Scale.{scale_of, on_scale}
 use Rattle.texts.specs.Texts.{text_for}
-use Rattle.engineering.specs.Engineering.{Engineered, value, double, as_value, as_text, by_polynomial, numeric_value, by_category, engineered}
+use Rattle.engineering.specs.Engineering.{Engineered, double, as_value, as_text, by_polynomial, numeric_value, by_category, engineered}
 use Rattle.parameters.specs.Located.{needed}
 use Rattle.extraction.specs.Extraction.{extract_by}
 use Rattle.extraction.specs.Engineering.{engineered_from, engineer_by}

@@ -24,6 +24,7 @@ use Rattle.at_verdicts.proofs.GoodRows.{entry_of, GoodRow, good_row, row_good}
 
 find_some : (passes : Row → Bool) (rows : List Row) {row : Row} → Memᴰ row rows → passes row ≡ true → (q : Row) × (find passes rows ≡ some q)
 unfolding find
+find_some passes mathlib.Core.List.[] {row = row} m t = elim m [ ]
 find_some passes (x ∷ rows) {row} m t = by (passes x) refl m (λ m'. find_some passes rows m' t)
   where
     by : (b : Bool) → passes x ≡ b → Memᴰ row (x ∷ rows) → (Memᴰ row rows → (q : Row) × (find passes rows ≡ some q))

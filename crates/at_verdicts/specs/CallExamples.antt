@@ -1,7 +1,7 @@
 -- Refusals 26 to 32 of an extraction and of an engineering call come up: what is said of each holds of small rows.
 use Rattle.std.specs.Prelude.{◌≡◌, refl, true, pos, negsuc}
 use mathlib.Core.List.Memᴰ
-use mathlib.Core.List.{List, [], ◌∷◌, Memᴰ}
+use mathlib.Core.List.{[], ◌∷◌, Memᴰ}
 use Rattle.std.proofs.Common.{arith}
 use Rattle.std.specs.Int.Signed.{lt_z}
 use Rattle.laws.specs.Text.{ascii}
