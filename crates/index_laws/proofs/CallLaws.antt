@@ -1,15 +1,14 @@
 -- The calls with an index at the tables.
-use mathlib.Core.Path.{◌≡◌, refl, ap, sym, subst, ◌∙◌}
+use mathlib.Core.Path.{◌≡◌, refl, sym, subst, ◌∙◌}
 use mathlib.Core.Logic.{◌↔◌}
-use mathlib.Core.Bool.{Bool, true, false, cond, ◌&&◌}
+use mathlib.Core.Bool.{Bool, true, false}
 use mathlib.Core.List.{List, map}
-use Prim.Native.Nat.{ℕ, zero, suc, ◌+◌, ◌≤◌, ◌<◌}
+use Prim.Native.Nat.{ℕ, zero, suc, ◌≤◌}
 use native.Mathlib.Omega.{arith}
-use lib.Dec.{eqb, ltb}
 use lib.ListN.{length, length-map}
 use borrow.Author.Tests.{eqb-true}
 use Rattle.laws.specs.Prefix.{count_with}
-use Rattle.laws.proofs.Cases.{bool_cases, cond_cases, and_right, false≢true}
+use Rattle.laws.proofs.Cases.{bool_cases, cond_cases, and_right}
 use Rattle.headers.specs.Header.{head_of}
 use Rattle.headers.specs.declared.Head.{Head}
 use Rattle.verdicts.specs.Answer.{most_rows}
@@ -22,14 +21,14 @@ use Rattle.database.specs.GoodRows.{of_tables}
 use Rattle.calls.specs.Tables.{after_sizes, asking}
 use Rattle.calls.specs.Calls.{identify_of}
 use Rattle.five_numbers.specs.Numbers.{five_numbers}
-use Rattle.identification.specs.Identification.{Identity, identify_by}
+use Rattle.identification.specs.Identification.{identify_by}
 use Rattle.packet_rows.specs.Packets.{packets_by}
 use Rattle.packet_index.specs.Index.{Packets, is_packet, numbers_at, every, rising, is_index}
 use Rattle.packet_index.specs.Making.{index_of}
 use Rattle.packet_index.proofs.SearchLaws.{never_over_11}
 use Rattle.packet_index.proofs.CountLaws.{index_by_count}
 use Rattle.searching.specs.Search.{Compared, compared_by, search_by}
-use Rattle.index_calls.specs.IndexCalls.{search_of, where_room, made_of}
+use Rattle.index_calls.specs.IndexCalls.{search_of}
 use Rattle.index_laws.proofs.TableLaws.{search_identifies, tables_index}
 
 -- 02, P4: "The answer, 25 included, equals 01's", also where the tables are refused

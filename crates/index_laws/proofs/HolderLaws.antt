@@ -3,19 +3,18 @@ use mathlib.Core.Path.{◌≡◌, refl, ap, sym, ◌∙◌}
 use mathlib.Core.Bool.{Bool, true, false, ◌&&◌}
 use mathlib.Core.List.Memᴰ
 use mathlib.Core.List.{List, [], ◌∷◌, Memᴰ}
-use mathlib.Core.Option.{Option, none, some}
+use mathlib.Core.Option.{Option, some}
 use Prim.Native.Nat.{ℕ, ◌-◌, ◌≤◌, ◌<◌}
 use native.Mathlib.Omega.{arith}
 use lib.Dec.{eqb, ltb}
-use lib.ListN.{length, get_or, get_or-eq_default}
+use lib.ListN.{length, get_or-eq_default}
 use borrow.Author.Tests.{eq-eqb, eqb-true, ltb-true, ltb-false}
 use Rattle.laws.proofs.Cases.{bool_cases, cond_cases, and_left, and_right, and_both, false≢true}
 use Rattle.laws.proofs.Tests.{keep_mem}
 use Rattle.lines.specs.Lines.{lines_of}
 use Rattle.decoding.specs.Records.{pid_row}
-use Rattle.verdicts.specs.Key.{Key, same_key}
-use Rattle.verdicts.specs.Facts.{facts_of}
-use Rattle.verdicts.specs.Entries.{Entry, carried, facts}
+use Rattle.verdicts.specs.Key.{Key}
+use Rattle.verdicts.specs.Entries.{Entry, carried}
 use Rattle.verdicts.specs.Steps.{holds}
 use Rattle.verdicts.specs.Places.{text_at, entry_at}
 use Rattle.verdicts.specs.Answer.{most_rows, too_many_rows}
@@ -25,7 +24,7 @@ use Rattle.key_symbols.specs.declared.FiveNumbers.{FiveNumbers}
 use Rattle.key_symbols.specs.Bounded.{packet_of}
 use Rattle.database.specs.Rows.{Row}
 use Rattle.database.specs.Packets.{pid_table, numbers_in, is_yes, is_packet_row}
-use Rattle.database.specs.GoodRows.{rows_in, is_good, good_rows, table_of, holds_key, find, among, of_tables}
+use Rattle.database.specs.GoodRows.{rows_in, is_good, good_rows, holds_key, find, among, of_tables}
 use Rattle.database.proofs.RowLaws.{found_passes, in_tables}
 use Rattle.database.proofs.OwnerLaws.{packet_holds, holds_packet}
 use Rattle.at_verdicts.proofs.GoodRows.{entry_of, good_row}

@@ -1,15 +1,14 @@
 -- The index of tables: exactly one, and its search answers what identification does.
 use mathlib.Core.Path.{◌≡◌, refl, ap, sym, ◌∙◌}
-use mathlib.Core.Bool.{Bool, true, false, cond}
+use mathlib.Core.Bool.{Bool, true, cond}
 use mathlib.Core.List.{List, map}
 use mathlib.Core.Option.{Option, none, some}
-use Prim.Native.Nat.{ℕ, ◌≤◌, ◌<◌}
+use Prim.Native.Nat.{ℕ}
 use native.Mathlib.Omega.{arith}
-use lib.ListN.{length, get_or, length-map}
-use Rattle.laws.proofs.Cases.{cond_cases, bool_cases, false≢true}
+use lib.ListN.{get_or}
 use Rattle.headers.specs.Header.{head_of}
 use Rattle.headers.specs.declared.Head.{Head}
-use Rattle.verdicts.specs.Answer.{most_rows, too_many_rows}
+use Rattle.verdicts.specs.Answer.{too_many_rows}
 use Rattle.key_symbols.specs.declared.FiveNumbers.{FiveNumbers}
 use Rattle.key_symbols.specs.Bounded.{packet_of}
 use Rattle.outcomes.specs.Outcome.{Outcome, refused, answer, and_then}
@@ -17,14 +16,14 @@ use Rattle.database.specs.Rows.{Row, Rows}
 use Rattle.database.specs.Packets.{numbers_in}
 use Rattle.database.specs.GoodRows.{of_tables}
 use Rattle.five_numbers.specs.Numbers.{five_numbers}
-use Rattle.identification.specs.Identification.{Identity, chosen, choose_by, identify_headed, identify_by}
+use Rattle.identification.specs.Identification.{chosen, choose_by, identify_headed, identify_by}
 use Rattle.packet_rows.specs.Packets.{numbers_from, packets_by}
-use Rattle.packet_index.specs.Index.{Packets, is_packet, numbers_at, is_index}
+use Rattle.packet_index.specs.Index.{Packets, numbers_at, is_index}
 use Rattle.packet_index.specs.Search.{searched}
 use Rattle.packet_index.specs.Making.{index_of}
 use Rattle.packet_index.proofs.IndexLaws.{packet_some, index_finds, index_misses}
 use Rattle.packet_index.proofs.MakingLaws.{Apart, exactly_one}
-use Rattle.searching.specs.Search.{Compared, entry_row, compared_by, search_by}
+use Rattle.searching.specs.Search.{entry_row, compared_by, search_by}
 use Rattle.index_laws.proofs.HolderLaws.{numbered_tells, numbered_held, held_numbered, number_within}
 
 -- numbers that a number gives are of a row
