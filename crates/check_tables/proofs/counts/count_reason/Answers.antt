@@ -1,4 +1,3 @@
-use Prim.Native.Nat.{◌-◌}
 use native.Mathlib.Omega.{arith}
 use Rattle.check_tables.proofs.CountLaws.{counted_none, counted_one, counted_not, counted_all}
 use Rattle.check_tables.proofs.counts.count_reason.Goals as goal

@@ -1,9 +1,0 @@
--- One argument after the other.
-use Prim.Native.Nat.{◌-◌}
-use Rattle.check_tables.proofs.check_arguments.Given as goal
-
-abbrev pub invariant-loop-k : goal.invariant-loop-k
-invariant-loop-k g l = Unit {0}
-
-abbrev pub decreases-loop-k : goal.decreases-loop-k
-decreases-loop-k g l = l.count - l.k
