@@ -1,5 +1,5 @@
 -- What is delivered of an answer whose place is small.
-use mathlib.Core.Path.{◌≡◌, refl, sym, ap, ap₂, ◌∙◌}
+use mathlib.Core.Path.{◌≡◌, refl, ap, ◌∙◌}
 use mathlib.Core.List.{List}
 use Prim.Native.Nat.{ℕ, ◌^◌, ◌%◌, ◌<◌}
 use native.Mathlib.Omega.{arith}
