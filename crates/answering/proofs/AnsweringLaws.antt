@@ -1,6 +1,7 @@
 -- What is answered to a call, whichever it is.
 use mathlib.Core.Path.{◌≡◌, refl, subst, ◌∙◌}
 use mathlib.Core.List.{List}
+use Rattle.std.specs.Prelude.{Result, Err}
 use Prim.Native.Nat.{ℕ}
 use denote.Enum.Declared.{tag_of}
 use Rattle.outcomes.specs.Outcome.{Outcome}
@@ -8,20 +9,16 @@ use Rattle.outcomes.specs.Refusals.{refused_by}
 use Rattle.outcomes.specs.declared.Refusal.{Refusal}
 use Rattle.database.specs.Rows.{Rows}
 use Rattle.identification.specs.Identification.{Identity, identify_by, said_identified}
-use Rattle.identification.specs.declared.Identified as identity
-use Rattle.identification.specs.declared.Identified.TheVariants as identified
+use Rattle.identification.specs.declared.Identity as identity
 use Rattle.readings.specs.Readings.{Reading, said_reading}
 use Rattle.readings.specs.declared.Reading as reading
-use Rattle.readings.specs.declared.Reading.TheVariants as read
 use Rattle.engineering.specs.Engineering as engineering
 use Rattle.engineering.specs.Engineering.{said_engineered}
 use Rattle.engineering.specs.declared.engineer.Engineered as value
-use Rattle.engineering.specs.declared.engineer.Engineered.TheVariants as engineered
 use Rattle.limit_state.specs.declared.state.LimitState.{LimitState}
 use Rattle.stepping.specs.Step.{step_in}
 use Rattle.accepting.specs.Accepted.{state_after}
 use Rattle.accepting.specs.Answer.{said_step, Answers}
-use Rattle.accepting.specs.declared.step.Answer.TheVariants as step
 use Rattle.accepting.specs.declared.step.Stepped as stepped
 use Rattle.extraction.specs.Extraction.{extract_by}
 use Rattle.extraction.specs.Engineering.{engineer_by}
@@ -40,34 +37,34 @@ of rows = λ A ask. ask rows
 
 -- each call, refused
 module _ (p name : List ℕ) (refusal : Refusal) {call : Call} where
-  pub refuse_identify : call ≡ Identify → Answering (refusing refusal) p name call (Identified (identified.Refused refusal))
+  pub refuse_identify : call ≡ Identify → Answering (refusing refusal) p name call (Identified (Err refusal))
   unfolding Answering said_identified
   refuse_identify e = rw e refl
 
-  pub refuse_extract : (k : ℕ) → call ≡ Extract k → Answering (refusing refusal) p name call (Read (read.Refused refusal))
+  pub refuse_extract : (k : ℕ) → call ≡ Extract k → Answering (refusing refusal) p name call (Read (Err refusal))
   unfolding Answering said_reading
   refuse_extract k e = rw e refl
 
-  pub refuse_engineer : (k : ℕ) → call ≡ Engineer k → Answering (refusing refusal) p name call (Engineered (engineered.Refused refusal))
+  pub refuse_engineer : (k : ℕ) → call ≡ Engineer k → Answering (refusing refusal) p name call (Engineered (Err refusal))
   unfolding Answering said_engineered
   refuse_engineer k e = rw e refl
 
   pub refuse_step : (s : LimitState) → call ≡ LimitStep s
-      → Answering (refusing refusal) p name call (Stepped (record { answer = step.Refused refusal; state = s }))
+      → Answering (refusing refusal) p name call (Stepped (record { answer = Err refusal; state = s }))
   unfolding Answering said_step state_after refused_by
   refuse_step s e = rw e (record { said = refl; after = refl })
 
 -- each call, answered by rows
 module _ (rows : Rows) (p name : List ℕ) {call : Call} where
-  pub answer_identify : call ≡ Identify → (r : identity.Identified) → said_identified r ≡ identify_by rows p → Answering (of rows) p name call (Identified r)
+  pub answer_identify : call ≡ Identify → (r : Result identity.Identity Refusal) → said_identified r ≡ identify_by rows p → Answering (of rows) p name call (Identified r)
   unfolding Answering
   answer_identify e r h = rw e h
 
-  pub answer_extract : (k : ℕ) → call ≡ Extract k → (r : reading.Reading) → said_reading r ≡ extract_by rows p name k → Answering (of rows) p name call (Read r)
+  pub answer_extract : (k : ℕ) → call ≡ Extract k → (r : Result reading.Reading Refusal) → said_reading r ≡ extract_by rows p name k → Answering (of rows) p name call (Read r)
   unfolding Answering
   answer_extract k e r h = rw e h
 
-  pub answer_engineer : (k : ℕ) → call ≡ Engineer k → (r : value.Engineered) → said_engineered r ≡ engineer_by rows p name k
+  pub answer_engineer : (k : ℕ) → call ≡ Engineer k → (r : Result value.Engineered Refusal) → said_engineered r ≡ engineer_by rows p name k
       → Answering (of rows) p name call (Engineered r)
   unfolding Answering
   answer_engineer k e r h = rw e h
@@ -100,17 +97,17 @@ module _ (first second : Asking) (same : (A : Type 0) (ask : Rows → Outcome A)
 
 -- an answer of the call's own kind
 module _ (ask : Asking) (p name : List ℕ) {a : Answered} where
-  pub says_identity : Answering ask p name Identify a → (r : identity.Identified) → a ≡ Identified r
+  pub says_identity : Answering ask p name Identify a → (r : Result identity.Identity Refusal) → a ≡ Identified r
       → said_identified r ≡ ask Identity (λ rows. identify_by rows p)
   unfolding Answering
   says_identity h r e = subst (Answering ask p name Identify) e h
 
-  pub says_reading : (k : ℕ) → Answering ask p name (Extract k) a → (r : reading.Reading) → a ≡ Read r
+  pub says_reading : (k : ℕ) → Answering ask p name (Extract k) a → (r : Result reading.Reading Refusal) → a ≡ Read r
       → said_reading r ≡ ask Reading (λ rows. extract_by rows p name k)
   unfolding Answering
   says_reading k h r e = subst (Answering ask p name (Extract k)) e h
 
-  pub says_engineered : (k : ℕ) → Answering ask p name (Engineer k) a → (r : value.Engineered) → a ≡ Engineered r
+  pub says_engineered : (k : ℕ) → Answering ask p name (Engineer k) a → (r : Result value.Engineered Refusal) → a ≡ Engineered r
       → said_engineered r ≡ ask engineering.Engineered (λ rows. engineer_by rows p name k)
   unfolding Answering
   says_engineered k h r e = subst (Answering ask p name (Engineer k)) e h

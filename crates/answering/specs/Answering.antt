@@ -1,12 +1,11 @@
 -- What is answered to a call, whichever it is.
-use Rattle.std.specs.Prelude.{ℕ, ◌≡◌, refl, List, []}
+use Rattle.std.specs.Prelude.{ℕ, ◌≡◌, refl, List, [], Err}
 use Rattle.outcomes.specs.Outcome.{Outcome, refused}
 use Rattle.outcomes.specs.Refusals.{refusal_number, refusal_place, refused_by}
 use Rattle.outcomes.specs.declared.Refusal.TheVariants.{FieldLeaves}
 use Rattle.database.specs.Rows.{Rows}
 use Rattle.identification.specs.Identification.{Identity, identify_by, said_identified}
 use Rattle.readings.specs.Readings.{Reading, said_reading}
-use Rattle.readings.specs.declared.Reading.TheVariants.{Refused}
 use Rattle.engineering.specs.Engineering as engineering
 use Rattle.engineering.specs.Engineering.{said_engineered}
 use Rattle.limit_state.specs.declared.state.LimitState.{LimitState}
@@ -43,6 +42,6 @@ Answering ask p name (LimitStep s) (Engineered r) = ⊥
 Answering ask p name (LimitStep s) (Stepped r) = Answers s (ask LimitState (λ rows. step_in rows p name s)) r
 
 -- where all is refused with 28 at byte 14, an extraction is
-pub example : Answering (λ _ _. refused 28 14) [] [] (Extract 0) (Read (Refused (FieldLeaves (record { 0 = 14 }))))
+pub example : Answering (λ _ _. refused 28 14) [] [] (Extract 0) (Read (Err (FieldLeaves (record { 0 = 14 }))))
 unfolding Answering said_reading refused_by refusal_number refusal_place
 example = refl

@@ -6,11 +6,11 @@ ghost use Rattle.outcomes.specs.Refusals.{refused_by};
 ghost use Rattle.database.specs.Arrays.{database, answers};
 ghost use Rattle.answering.specs.Answering.{Answering};
 
-use accepting::step::{Answer, Stepped};
+use accepting::step::Stepped;
 use engineering::engineer::Engineered;
 use extraction::engineer::engineer_in;
 use extraction::extract::extract_in;
-use identification::{Identified, identify_in};
+use identification::{Identity, identify_in};
 use limit_state::state::LimitState;
 use outcomes::Refusal;
 use readings::Reading;
@@ -28,9 +28,9 @@ pub enum Call {
 
 #[derive(Clone, Copy)]
 pub enum Answered {
-    Identified(Identified),
-    Read(Reading),
-    Engineered(Engineered),
+    Identified(Result<Identity, Refusal>),
+    Read(Result<Reading, Refusal>),
+    Engineered(Result<Engineered, Refusal>),
     Stepped(Stepped),
 }
 
@@ -39,11 +39,11 @@ pub fn refuse(call: Call, p: &[u8], name: &[u8], refusal: Refusal) -> Answered
     ensures { Answering (λ _ _. refused_by refusal) p.now name.now call result }
 {
     match call {
-        Call::Identify => Answered::Identified(Identified::Refused(refusal)),
-        Call::Extract(_) => Answered::Read(Reading::Refused(refusal)),
-        Call::Engineer(_) => Answered::Engineered(Engineered::Refused(refusal)),
+        Call::Identify => Answered::Identified(Err(refusal)),
+        Call::Extract(_) => Answered::Read(Err(refusal)),
+        Call::Engineer(_) => Answered::Engineered(Err(refusal)),
         Call::LimitStep(state) => Answered::Stepped(Stepped {
-            answer: Answer::Refused(refusal),
+            answer: Err(refusal),
             state,
         }),
     }

@@ -25,10 +25,8 @@ fn put(text: &[u8], to: &mut [u8])
     requires { length text.now ≤ length to.old }
     ensures { to.new ≡ text.now ++ drop (length text.now) to.old }
 {
-    let mut i: usize = 0;
-    while i < text.len() {
+    for i in 0..text.len() {
         to[i] = text[i];
-        i += 1;
     }
 }
 

@@ -8,20 +8,21 @@ ghost use Rattle.applying.specs.Checks as spec;
 ghost use Rattle.applying.specs.Checks.{has_value};
 
 use found_rows::{location_at, pcf_at};
+use outcomes::{Refusal, Value};
 use parameters::locate;
-use raw_values::{RawValue, raw_of};
+use raw_values::raw_of;
 use readings::equals;
 use rows::records::OcpRow;
 use tables::TABLES;
 use units::Spid;
 
 // Whether a raw value is a number and this one.
-fn has_value(raw: RawValue, valpar: i64) -> bool
+fn has_value(raw: Result<Value, Refusal>, valpar: i64) -> bool
     ensures { result ≡ has_value (said_raw raw) valpar }
 {
     match raw {
-        RawValue::Is(value) => equals(value, valpar),
-        RawValue::Refused(refusal) => false,
+        Ok(value) => equals(value, valpar),
+        Err(refusal) => false,
     }
 }
 
@@ -42,10 +43,9 @@ pub fn applies(
         return true;
     }
     let name = row.rlchk.name;
-    let at = locate(words, links, columns, spid, name);
-    if !at.found {
+    let Some(at) = locate(words, links, columns, spid, name) else {
         return false;
-    }
+    };
     let location = location_at(tables, columns, at.plf);
     let pcf = pcf_at(tables, columns, at.pcf);
     has_value(raw_of(p, location, pcf, 0), row.valpar)

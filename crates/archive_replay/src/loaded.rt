@@ -5,7 +5,7 @@ ghost use Rattle.replaying.specs.Replayed.{AtStart, Replayed};
 
 use crate::archive::replay_archive;
 use database::COLUMNS;
-use full_loading::{FullLoading, load_full};
+use full_loading::load_full;
 use outcomes::{Refusal, number_of, place_of};
 use replaying::{Standing, at_start};
 use showing::stretches::Showing;
@@ -36,9 +36,7 @@ pub fn replay_tables(
     let mut links = [0u16; LINKS];
     let mut columns = [0u16; COLUMNS];
     match load_full(tables, &mut words, &mut links, &mut columns) {
-        FullLoading::Done => {
-            replay_archive(rt, tables, &words, &links, &columns, name, file, showing)
-        }
-        FullLoading::Refused(refusal) => refuse(rt, refusal),
+        Ok(()) => { replay_archive(rt, tables, &words, &links, &columns, name, file, showing) }
+        Err(refusal) => refuse(rt, refusal),
     }
 }

@@ -7,19 +7,19 @@ use native.Mathlib.Omega.{arith}
 use lib.ListN.{length, take, drop, get_or, length-drop}
 use lib.Seq.{get_or-drop, drop-drop}
 use borrow.Author.Tests.{le-leb, lt-leb}
+use Rattle.std.specs.Prelude.{Some, None}
 use Rattle.lines.specs.Columns.{part_of}
-use Rattle.archives.specs.declared.Framed.TheVariants.{Whole, Cut}
 use Rattle.archives.specs.Packets.{length_said, is_complete, packets_in, left_in}
 use Rattle.archives.specs.Framing.{framed_at}
 use Rattle.archives.proofs.PacketLaws.{said_least, whole_long, packets_whole, left_whole}
 
 module _ (bytes : List ℕ) (at : ℕ) where
-  beyond : (n : ℕ) → length_said (drop at bytes) ≡ n → length bytes - at < n → Cut ≡ framed_at bytes at
+  beyond : (n : ℕ) → length_said (drop at bytes) ≡ n → length bytes - at < n → None ≡ framed_at bytes at
   unfolding framed_at is_complete
   beyond n e h = rw (lt-leb (length_said (drop at bytes)) (length (drop at bytes)) (simp length-drop (omega arith)))
 
   -- fewer bytes than the shortest packet has
-  pub framed_short : length bytes - at < 7 → Cut ≡ framed_at bytes at
+  pub framed_short : length bytes - at < 7 → None ≡ framed_at bytes at
   framed_short h = beyond (length_said (drop at bytes)) refl (omega (arith, said_least (drop at bytes)))
 
   module _ {a b : ℕ} (high : a ≡ get_or bytes (at + 4) 0) (low : b ≡ get_or bytes (at + 5) 0) where
@@ -27,35 +27,35 @@ module _ (bytes : List ℕ) (at : ℕ) where
     unfolding length_said
     said_here = rw (get_or-drop at bytes 4 0, get_or-drop at bytes 5 0, ← high, ← low)
 
-    pub framed_cut : length bytes - at < a * 256 + b + 7 → Cut ≡ framed_at bytes at
+    pub framed_cut : length bytes - at < a * 256 + b + 7 → None ≡ framed_at bytes at
     framed_cut h = beyond (a * 256 + b + 7) said_here h
 
-    pub framed_whole : a * 256 + b + 7 ≤ length bytes - at → Whole (at + (a * 256 + b + 7)) ≡ framed_at bytes at
+    pub framed_whole : a * 256 + b + 7 ≤ length bytes - at → Some (at + (a * 256 + b + 7)) ≡ framed_at bytes at
     unfolding framed_at is_complete
     framed_whole h =
         rw (le-leb (length_said (drop at bytes)) (length (drop at bytes)) (simp length-drop (omega (arith, said_here))), said_here)
 
 -- What the answer says of the bytes
 
-said_whole : (b : Bool) (n m : ℕ) → cond b (Whole n) Cut ≡ Whole m → (b ≡ true) × (m ≡ n)
+said_whole : (b : Bool) (n m : ℕ) → cond b (Some n) None ≡ Some m → (b ≡ true) × (m ≡ n)
 said_whole true n m e = (refl, cc)
 said_whole false n m e = absurd (let z : ◌≡◌ {A = ℕ} 0 1 = cc in omega arith)
 
-said_cut : (b : Bool) (n : ℕ) → cond b (Whole n) Cut ≡ Cut → b ≡ false
+said_cut : (b : Bool) (n : ℕ) → cond b (Some n) None ≡ None → b ≡ false
 said_cut true n e = absurd (let z : ◌≡◌ {A = ℕ} 0 1 = cc in omega arith)
 said_cut false n e = refl
 
 module _ (bytes : List ℕ) (at : ℕ) where
-  pub whole_says : {end : ℕ} → framed_at bytes at ≡ Whole end → (is_complete (drop at bytes) ≡ true) × (end ≡ at + length_said (drop at bytes))
+  pub whole_says : {end : ℕ} → framed_at bytes at ≡ Some end → (is_complete (drop at bytes) ≡ true) × (end ≡ at + length_said (drop at bytes))
   unfolding framed_at
   whole_says {end} e = said_whole (is_complete (drop at bytes)) (at + length_said (drop at bytes)) end e
 
-  pub cut_says : framed_at bytes at ≡ Cut → is_complete (drop at bytes) ≡ false
+  pub cut_says : framed_at bytes at ≡ None → is_complete (drop at bytes) ≡ false
   unfolding framed_at
   cut_says e = said_cut (is_complete (drop at bytes)) (at + length_said (drop at bytes)) e
 
 -- a whole packet is the next of the packets, and those behind it are the others
-module _ (bytes : List ℕ) (at : ℕ) {end : ℕ} (w : framed_at bytes at ≡ Whole end) where
+module _ (bytes : List ℕ) (at : ℕ) {end : ℕ} (w : framed_at bytes at ≡ Some end) where
   ends : end ≡ at + length_said (drop at bytes)
   ends = (whole_says bytes at w).1
 

@@ -1,8 +1,6 @@
--- Where the packet that starts at a place of bytes ends.
-use Rattle.std.specs.Prelude.{ℕ, ◌+◌, cond, List, drop}
-use Rattle.archives.specs.declared.Framed.{Framed}
-use Rattle.archives.specs.declared.Framed.TheVariants.{Whole, Cut}
+-- Where the packet that starts at a place of bytes ends, if it is there to its end.
+use Rattle.std.specs.Prelude.{ℕ, ◌+◌, cond, List, drop, Option, Some, None}
 use Rattle.archives.specs.Packets.{length_said, is_complete}
 
-unfoldable pub framed_at : List ℕ → ℕ → Framed
-framed_at bytes at = cond (is_complete (drop at bytes)) (Whole (at + length_said (drop at bytes))) Cut
+unfoldable pub framed_at : List ℕ → ℕ → Option ℕ
+framed_at bytes at = cond (is_complete (drop at bytes)) (Some (at + length_said (drop at bytes))) None

@@ -13,35 +13,28 @@ use std::io::Read;
 // A block has room for the longest packet that a length field can tell of, which is 65,542 bytes.
 pub const BLOCK: usize = 131072;
 
-// Where a packet ends, or that it is not there to its end.
-#[derive(Clone, Copy)]
-pub enum Framed {
-    Whole(usize),
-    Cut,
-}
-
 fn wide(byte: u8) -> usize
     ensures { (result ≡ byte) × (result ≤ 255) }
 {
     byte as usize
 }
 
-// The packet that starts at this place.
-pub fn packet_at(bytes: &[u8], at: usize) -> Framed
+// Where the packet ends that starts at this place, if it is there to its end.
+pub fn packet_at(bytes: &[u8], at: usize) -> Option<usize>
     ensures { result ≡ framed_at bytes.now at }
 {
     if bytes.len() <= at {
-        return Framed::Cut;
+        return None;
     }
     let room = bytes.len() - at;
     if room < 7 {
-        return Framed::Cut;
+        return None;
     }
     let length = wide(bytes[at + 4]) * 256 + wide(bytes[at + 5]) + 7;
     if room < length {
-        return Framed::Cut;
+        return None;
     }
-    Framed::Whole(at + length)
+    Some(at + length)
 }
 
 // How many bytes of so many there are from one place to before another.

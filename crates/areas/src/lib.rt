@@ -47,10 +47,8 @@ fn put(space: &mut [u8], at: usize, bytes: &[u8])
     requires { at + length bytes.now ≤ length space.old }
     ensures { space.new ≡ sets space.old at bytes.now }
 {
-    let mut i: usize = 0;
-    while i < bytes.len() {
+    for i in 0..bytes.len() {
         space[at + i] = bytes[i];
-        i += 1;
     }
 }
 
@@ -67,10 +65,8 @@ pub fn clear(ends: &mut [usize], t: usize)
 pub fn clear_all(ends: &mut [usize])
     ensures { ends.new ≡ all_cleared ends.old }
 {
-    let mut t: usize = 0;
-    while t < AREAS {
+    for t in 0..AREAS {
         clear(ends, t);
-        t += 1;
     }
 }
 

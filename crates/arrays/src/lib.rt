@@ -55,9 +55,7 @@ pub fn put_word(words: &mut [u64], i: usize, x: u64)
 pub fn clear_halves(halves: &mut [u16])
     ensures { halves.new ≡ replicate (length halves.old) 0 }
 {
-    let mut i: usize = 0;
-    while i < halves.len() {
+    for i in 0..halves.len() {
         halves[i] = 0;
-        i += 1;
     }
 }

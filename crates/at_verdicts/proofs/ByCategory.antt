@@ -6,6 +6,8 @@ use mathlib.Core.Bool.{Bool, true, false, cond}
 use mathlib.Core.List.Memᴰ
 use mathlib.Core.List.{List, [], ◌∷◌, Memᴰ}
 use mathlib.Core.Option.{Option, none, some}
+use Rattle.std.specs.Prelude.{Some, None}
+use Rattle.std.specs.Prelude as rust
 use Prim.Native.Nat.{ℕ}
 use lib.Dec.{eqb}
 use lib.IntN.{ℤ}
@@ -35,9 +37,8 @@ use Rattle.curve_values.specs.Along.{along}
 use Rattle.curve_values.specs.OffCurve.{is_off_curve}
 use Rattle.curve_values.specs.Scale.{scale_of, on_scale}
 use Rattle.polynomials.specs.Polynomial.{polynomial_at}
+use Rattle.polynomials.specs.declared.Polynomial.{Polynomial}
 use Rattle.polynomial_curves.specs.Polynomials.{polynomial_in, polynomial_for}
-use Rattle.polynomial_curves.specs.declared.Found.{Found}
-use Rattle.polynomial_curves.specs.declared.Found.TheVariants as found
 use Rattle.texts.specs.Texts as ranges
 use Rattle.engineering.specs.Engineering.{Engineered, value, double, as_value, as_text, by_polynomial, numeric_value, by_category, engineered}
 use Rattle.engineering.proofs.EngineeringLaws.{polynomial_answered, polynomial_never_refused}
@@ -52,7 +53,7 @@ use Rattle.at_verdicts.proofs.CurveRefusal.{good_curve, curve_is, curve_30, curv
 -- By category
 
 module _ (rows : Rows) (r : PcfRow) (raw : ℤ) where
-  pub along_curve : r.categ ≡ Numeric → r.curtx.given ≡ true → polynomial_for rows r.curtx ≡ found.Nothing
+  pub along_curve : r.categ ≡ Numeric → r.curtx.given ≡ true → polynomial_for rows r.curtx ≡ None
       → engineered rows r raw ≡ and_then (along (curve_of rows r.curtx.name) raw) as_value
   unfolding engineered by_category numeric_value by_polynomial scale_of on_scale
   along_curve c g n = rw (c, n, g)
@@ -67,13 +68,13 @@ module _ (rows : Rows) (r : PcfRow) (raw : ℤ) where
   unfolding as_value
   numeric_numbers numbers n30 n31 c = go (polynomial_for rows r.curtx) r.curtx.given refl refl
     where
-      go : (f : Found) (given : Bool) → polynomial_for rows r.curtx ≡ f → r.curtx.given ≡ given → Numbered numbers (engineered rows r raw)
-      go (found.Is p) given n g = rw (polynomial_answered rows r p c n raw)
-      go found.Nothing true n g =
+      go : (f : rust.Option Polynomial) (given : Bool) → polynomial_for rows r.curtx ≡ f → r.curtx.given ≡ given → Numbered numbers (engineered rows r raw)
+      go (Some p) given n g = rw (polynomial_answered rows r p c n raw)
+      go None true n g =
           subst (Numbered numbers) (sym (along_curve c g n))
           (one_then numbers (along (curve_of rows r.curtx.name) raw) as_value
           (along_numbers numbers n30 n31 (curve_of rows r.curtx.name) raw) (λ z _. refl))
-      go found.Nothing false n g = rw (as_read c g)
+      go None false n g = rw (as_read c g)
 
   pub by_text : r.categ ≡ Status → engineered rows r raw ≡ and_then (ranges.text_for rows r.curtx.name raw) as_text
   unfolding engineered by_category
@@ -97,11 +98,11 @@ module _ (numbers : List ℕ) (n32 : any (eqb 32) (0 ∷ numbers) ≡ true) wher
 -- What CURTX names. 02, P1: "N parameters may name either"
 
 module _ (rows : Rows) (curtx : OptionalCurve) (row : Row) (there : rows.holder (curve curtx.name) ≡ some row) where
-  pub no_polynomial_lem : is_polynomial row ≡ false → polynomial_for rows curtx ≡ found.Nothing
+  pub no_polynomial_lem : is_polynomial row ≡ false → polynomial_for rows curtx ≡ None
   unfolding polynomial_for polynomial_in
-  no_polynomial_lem f = cond_cases (λ (x : Found). x ≡ found.Nothing) curtx.given (λ _. rw (there, f)) (λ _. refl)
+  no_polynomial_lem f = cond_cases (λ (x : rust.Option Polynomial). x ≡ None) curtx.given (λ _. rw (there, f)) (λ _. refl)
 
-  a_polynomial : curtx.given ≡ true → is_polynomial row ≡ true → polynomial_for rows curtx ≡ found.Is (mcf_row row.bytes).polynomial
+  a_polynomial : curtx.given ≡ true → is_polynomial row ≡ true → polynomial_for rows curtx ≡ Some (mcf_row row.bytes).polynomial
   unfolding polynomial_for polynomial_in
   a_polynomial g t = rw (g, there, t)
 

@@ -5,6 +5,8 @@ use mathlib.Core.Logic.{◌↔◌}
 use mathlib.Core.Bool.{Bool, true, false, not, cond, ◌&&◌}
 use mathlib.Core.List.{List, ◌∷◌}
 use mathlib.Core.Option.{Option, none, some}
+use Rattle.std.specs.Prelude.{Some, None}
+use Rattle.std.specs.Prelude as rust
 use Prim.Native.Nat.{ℕ}
 use native.Mathlib.Omega.{arith}
 use lib.Dec.{eqb, leb}
@@ -22,8 +24,6 @@ use Rattle.curves.specs.declared.line.Point.{Point}
 use Rattle.curves.proofs.LineLaws.{through_second}
 use Rattle.calibration.specs.Nearest.{passes, not_above, below, above}
 use Rattle.calibration.specs.Curve.{point_numbered, through, off_end, from_last, before_first, placed, curve_at}
-use Rattle.calibration.specs.declared.nearest.Found.{Found}
-use Rattle.calibration.specs.declared.nearest.Found.TheVariants.{At, Nothing}
 use Rattle.calibration.specs.declared.nearest.Side.TheVariants.{NotAbove, Below}
 use Rattle.calibration.proofs.OrderLaws.{le_not_lt}
 use Rattle.calibration.proofs.NearestOf.{Nearest, not_above_nearest, below_nearest}
@@ -60,11 +60,11 @@ line_told p q x = by (is_segment p q && is_raw x) (fits (height_at p q x)) refl
     by true false e = record { only = λ _ _. e; there = λ _ _. refl }
     by false b e = off_told (height_at p q x)
 
-through_told : (xs ys : List ℤ) (f g : Found) (x : ℤ) → Told (outcome_of (through xs ys f g x)) (height_by xs ys f g x)
+through_told : (xs ys : List ℤ) (f g : rust.Option ℕ) (x : ℤ) → Told (outcome_of (through xs ys f g x)) (height_by xs ys f g x)
 unfolding through height_by outcome_of
-through_told xs ys (At i) (At j) x = line_told (point_numbered xs ys i) (point_numbered xs ys j) x
-through_told xs ys (At i) Nothing x = off_told (pos 0)
-through_told xs ys Nothing g x = off_told (pos 0)
+through_told xs ys (Some i) (Some j) x = line_told (point_numbered xs ys i) (point_numbered xs ys j) x
+through_told xs ys (Some i) None x = off_told (pos 0)
+through_told xs ys None g x = off_told (pos 0)
 
 end_told : (ends : OffEnds) (l : Said) (height : ℤ) → Told (outcome_of l) height → Told (outcome_of (off_end ends l)) height
 unfolding off_end outcome_of
@@ -77,26 +77,26 @@ module _ (numbers : List ℕ) (n30 : any (eqb 30) (0 ∷ numbers) ≡ true) (n31
   abbrev Curved : Said → Type 0
   Curved l = Numbered numbers (outcome_of l)
 
-  through_numbers : (xs ys : List ℤ) (f g : Found) (x : ℤ) → Curved (through xs ys f g x)
+  through_numbers : (xs ys : List ℤ) (f g : rust.Option ℕ) (x : ℤ) → Curved (through xs ys f g x)
   unfolding through line_at result_of outcome_of
-  through_numbers xs ys (At i) (At j) x =
+  through_numbers xs ys (Some i) (Some j) x =
       cond_cases Curved (is_segment (point_numbered xs ys i) (point_numbered xs ys j) && is_raw x)
       (λ _. cond_cases Curved (fits (height_at (point_numbered xs ys i) (point_numbered xs ys j) x)) (λ _. refl) (λ _. n31)) (λ _. n30)
-  through_numbers xs ys (At i) Nothing x = n30
-  through_numbers xs ys Nothing g x = n30
+  through_numbers xs ys (Some i) None x = n30
+  through_numbers xs ys None g x = n30
 
   end_numbers : (ends : OffEnds) (l : Said) → Curved l → Curved (off_end ends l)
   unfolding off_end outcome_of
   end_numbers Extrapolate l h = h
   end_numbers Refuse l h = n30
 
-  placed_numbers : (ends : OffEnds) (xs ys : List ℤ) (x : ℤ) (low high : Found) → Curved (placed ends xs ys x low high)
+  placed_numbers : (ends : OffEnds) (xs ys : List ℤ) (x : ℤ) (low high : rust.Option ℕ) → Curved (placed ends xs ys x low high)
   unfolding placed from_last before_first outcome_of
-  placed_numbers ends xs ys x (At i) (At j) = through_numbers xs ys (At i) (At j) x
-  placed_numbers ends xs ys x (At i) Nothing =
-      cond_cases Curved (lt_z (get_or xs i (pos 0)) x) (λ _. end_numbers ends _ (through_numbers xs ys (below xs (get_or xs i (pos 0))) (At i) x)) (λ _. refl)
-  placed_numbers ends xs ys x Nothing (At j) = end_numbers ends _ (through_numbers xs ys (At j) (above xs (get_or xs j (pos 0))) x)
-  placed_numbers ends xs ys x Nothing Nothing = n30
+  placed_numbers ends xs ys x (Some i) (Some j) = through_numbers xs ys (Some i) (Some j) x
+  placed_numbers ends xs ys x (Some i) None =
+      cond_cases Curved (lt_z (get_or xs i (pos 0)) x) (λ _. end_numbers ends _ (through_numbers xs ys (below xs (get_or xs i (pos 0))) (Some i) x)) (λ _. refl)
+  placed_numbers ends xs ys x None (Some j) = end_numbers ends _ (through_numbers xs ys (Some j) (above xs (get_or xs j (pos 0))) x)
+  placed_numbers ends xs ys x None None = n30
 
   -- 30 and 31 only
   pub along_numbers : (o : Option Curve) (raw : ℤ) → Numbered numbers (along o raw)
@@ -125,28 +125,28 @@ module _ (c : Curve) (sound : Sound c.xs c.ys) (raw : ℤ) (is : is_raw raw ≡ 
   x i = get_or xs i (pos 0)
 
   -- at the last point the line through it and the one below it is as high as it
-  last_fits : (i : ℕ) → Nearest NotAbove xs raw (length xs) (At i) → lt_z (x i) raw ≡ false → fits (height_by xs ys (below xs (x i)) (At i) raw) ≡ true
+  last_fits : (i : ℕ) → Nearest NotAbove xs raw (length xs) (Some i) → lt_z (x i) raw ≡ false → fits (height_by xs ys (below xs (x i)) (Some i) raw) ≡ true
   unfolding passes height_by is_between point_numbered is_point
   last_fits i a f = by (below xs (x i)) (below_nearest xs (x i))
     where
-      by : (b : Found) → Nearest Below xs (x i) (length xs) b → fits (height_by xs ys b (At i) raw) ≡ true
-      by (At k) n =
+      by : (b : rust.Option ℕ) → Nearest Below xs (x i) (length xs) b → fits (height_by xs ys b (Some i) raw) ≡ true
+      by (Some k) n =
           let at : x i ≡ raw = le_not_lt (x i) raw a.1 f in
           let y = and_right (is_coordinate (x i)) (is_coordinate (get_or ys i (pos 0))) (sound.points i a.0) in
           ap (λ (z : ℤ). fits (height_at (point_numbered xs ys k) (point_numbered xs ys i) z)) (sym at)
           ∙ ap fits (through_second (point_numbered xs ys k) (point_numbered xs ys i) n.1) ∙ coordinate_fits (get_or ys i (pos 0)) y
-      by Nothing n = refl
+      by None n = refl
 
-  placed_told : (ends : OffEnds) (low high : Found) → Nearest NotAbove xs raw (length xs) low
+  placed_told : (ends : OffEnds) (low high : rust.Option ℕ) → Nearest NotAbove xs raw (length xs) low
       → Told (outcome_of (placed ends xs ys raw low high)) (height_placed xs ys low high raw)
   unfolding placed height_placed from_last before_first outcome_of
-  placed_told ends (At i) (At j) a = through_told xs ys (At i) (At j) raw
-  placed_told ends (At i) Nothing a =
-      cond_cases (λ (l : Said). Told (outcome_of l) (height_by xs ys (below xs (x i)) (At i) raw)) (lt_z (x i) raw)
-      (λ _. end_told ends _ _ (through_told xs ys (below xs (x i)) (At i) raw))
+  placed_told ends (Some i) (Some j) a = through_told xs ys (Some i) (Some j) raw
+  placed_told ends (Some i) None a =
+      cond_cases (λ (l : Said). Told (outcome_of l) (height_by xs ys (below xs (x i)) (Some i) raw)) (lt_z (x i) raw)
+      (λ _. end_told ends _ _ (through_told xs ys (below xs (x i)) (Some i) raw))
       (λ f. value_told (get_or ys i (pos 0)) _ (last_fits i a f))
-  placed_told ends Nothing (At j) a = end_told ends _ _ (through_told xs ys (At j) (above xs (x j)) raw)
-  placed_told ends Nothing Nothing a = off_told (pos 0)
+  placed_told ends None (Some j) a = end_told ends _ _ (through_told xs ys (Some j) (above xs (x j)) raw)
+  placed_told ends None None a = off_told (pos 0)
 
   curve_told : Told (along (some c) raw) (height_on c raw)
   unfolding along curve_at height_on

@@ -3,6 +3,8 @@ use mathlib.Core.Path.{◌≡◌, refl, subst}
 use mathlib.Core.Bool.{true, not}
 use mathlib.Core.List.{List}
 use mathlib.Core.Option.{Option, none, some}
+use Rattle.std.specs.Prelude.{Some, None}
+use Rattle.std.specs.Prelude as rust
 use Prim.Native.Nat.{ℕ, ◌^◌, ◌≤◌}
 use native.Mathlib.Omega.{arith}
 use lib.Dec.{T, leb}
@@ -24,9 +26,8 @@ use Rattle.outcomes.specs.Outcome.{Outcome, answer, and_then}
 use Rattle.outcomes.specs.Values.{Value, number, part, bits}
 use Rattle.database.specs.Rows.{Row, Rows}
 use Rattle.database.specs.GoodRows.{of_tables}
+use Rattle.polynomials.specs.declared.Polynomial.{Polynomial}
 use Rattle.polynomial_curves.specs.Polynomials.{polynomial_for}
-use Rattle.polynomial_curves.specs.declared.Found.{Found}
-use Rattle.polynomial_curves.specs.declared.Found.TheVariants as found
 use Rattle.polynomial_curves.proofs.FiniteLaws.{curve_texts}
 use Rattle.curve_values.specs.Scale.{scale_of, on_scale}
 use Rattle.texts.specs.Texts.{text_for}
@@ -56,12 +57,12 @@ module _ (rows : Rows) (r : PcfRow) (raw : ℤ) (is : is_raw raw ≡ true) (x : 
   unfolding engineered by_category numeric_value by_polynomial as_value as_text
   engineered_finite = go r.categ
     where
-      by : (f : Found) → polynomial_for rows r.curtx ≡ f → by_polynomial f raw (and_then (on_scale (scale_of rows r.curtx) raw) as_value) ≡ answer (double x)
+      by : (f : rust.Option Polynomial) → polynomial_for rows r.curtx ≡ f → by_polynomial f raw (and_then (on_scale (scale_of rows r.curtx) raw) as_value) ≡ answer (double x)
           → Under 252 x
-      by (found.Is p) n e =
+      by (Some p) n e =
           let q : polynomial_at p raw ≡ x = cc in
           subst (Under 252) q (value_finite p raw (curve_texts rows r.curtx p n) (raw_size raw is))
-      by found.Nothing n e =
+      by None n e =
           absurd (no_double (on_scale (scale_of rows r.curtx) raw) as_value x (λ z q. (let w : ◌≡◌ {A = ℕ} 0 1 = cc in omega arith)) e)
 
       go : (c : Category) → by_category rows c r.curtx raw ≡ answer (double x) → Under 252 x

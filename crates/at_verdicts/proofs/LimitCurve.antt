@@ -4,6 +4,7 @@ use mathlib.Core.Path.{◌≡◌, refl, sym, ap, subst, ◌∙◌}
 use mathlib.Core.Bool.{Bool, true, false, ◌&&◌, ◌||◌}
 use mathlib.Core.List.{List, [], ◌∷◌, ◌++◌, Memᴰ}
 use mathlib.Core.Option.{some}
+use Rattle.std.specs.Prelude.{None}
 use Prim.Native.Nat.{ℕ}
 use lib.Dec.{eqb}
 use Rattle.laws.specs.Lists.{any}
@@ -28,7 +29,6 @@ use Rattle.database.specs.Rows.{Row}
 use Rattle.database.specs.GoodRows.{table_of, of_tables}
 use Rattle.database.specs.Kinds.{is_polynomial}
 use Rattle.polynomial_curves.specs.Polynomials.{polynomial_for}
-use Rattle.polynomial_curves.specs.declared.Found.TheVariants as found
 use Rattle.at_verdicts.proofs.GoodRows.{entry_of}
 use Rattle.at_verdicts.proofs.NamedRows.{Named, found_good, found_holds, entry_holds, named_row}
 use Rattle.at_verdicts.proofs.ParameterRows.{held_by, ocf_name, ocf_numeric}
@@ -117,7 +117,7 @@ module _ (texts : List (List ℕ)) (name : Name) (ocf row : Row) (e : (of_tables
       (λ g. absurd (false≢true (sym (names_none (pcf_row row.bytes) n.entry g) ∙ n.named)))
 
   -- 02, P1: "a limit with INTER C on a polynomial is reason 11 at column 4"
-  pub c_no_polynomial : (ocf_row ocf.bytes).inter ≡ Engineering → polynomial_for (of_tables texts) (pcf_row row.bytes).curtx ≡ found.Nothing
+  pub c_no_polynomial : (ocf_row ocf.bytes).inter ≡ Engineering → polynomial_for (of_tables texts) (pcf_row row.bytes).curtx ≡ None
   c_no_polynomial c =
       let r : PcfRow = pcf_row row.bytes in
       let key : Key = curve r.curtx.name in

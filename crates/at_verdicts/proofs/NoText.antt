@@ -4,6 +4,8 @@ use mathlib.Core.Logic.{◌↔◌}
 use mathlib.Core.Bool.{Bool, true, false, cond}
 use mathlib.Core.List.{List, [], ◌∷◌, map, Memᴰ}
 use mathlib.Core.Option.{Option, some}
+use Rattle.std.specs.Prelude.{Some, None}
+use Rattle.std.specs.Prelude as rust
 use Prim.Native.Nat.{ℕ, zero, suc, ◌<◌}
 use native.Mathlib.Nat.{le_of_suc-le-suc, not-suc-le-zero}
 use native.Mathlib.Omega.{arith}
@@ -18,8 +20,6 @@ use Rattle.rows.specs.declared.letters.Category.TheVariants.{Numeric, Status, Te
 use Rattle.rows.specs.declared.records.PcfRow.{PcfRow}
 use Rattle.verdicts.specs.Key.{texts}
 use Rattle.calibration.specs.Nearest.{passes, nearer, not_above}
-use Rattle.calibration.specs.declared.nearest.Found.{Found}
-use Rattle.calibration.specs.declared.nearest.Found.TheVariants.{At, Nothing}
 use Rattle.calibration.specs.declared.nearest.Side.TheVariants.{NotAbove}
 use Rattle.calibration.proofs.OrderLaws.{le_not_lt}
 use Rattle.calibration.proofs.NearestOf.{Nearest, not_above_nearest}
@@ -55,7 +55,7 @@ module _ (ranges : List Row) (raw : ℤ) where
   from_at : (i : ℕ) → i < length ranges → get_or (map from_of ranges) i (pos 0) ≡ from_of (get_or ranges i no_row)
   from_at i h = map_at from_of ranges i no_row (pos 0) h
 
-  abbrev IsNearest : Found → Type 0
+  abbrev IsNearest : rust.Option ℕ → Type 0
   IsNearest f = Nearest NotAbove (map from_of ranges) raw (length (map from_of ranges)) f
 
   inside : (i : ℕ) → i < length (map from_of ranges) → i < length ranges
@@ -64,7 +64,7 @@ module _ (ranges : List Row) (raw : ℤ) where
   within : (i : ℕ) → i < length ranges → i < length (map from_of ranges)
   within i h = omega (arith, length-map ranges from_of)
 
-  found_greatest : (i : ℕ) → IsNearest (At i) → GreatestFrom ranges raw (get_or ranges i no_row)
+  found_greatest : (i : ℕ) → IsNearest (Some i) → GreatestFrom ranges raw (get_or ranges i no_row)
   unfolding passes nearer
   found_greatest i n =
       let h = inside i n.0 in
@@ -78,7 +78,7 @@ module _ (ranges : List Row) (raw : ℤ) where
             ap (λ (y : ℤ). lt_z y (from_of other)) (sym (from_at i h)) ∙ ap (lt_z (get_or (map from_of ranges) i (pos 0))) (sym x) ∙ c;
       }
 
-  found_none : IsNearest Nothing → (range : Row) → GreatestFrom ranges raw range → ⊥
+  found_none : IsNearest None → (range : Row) → GreatestFrom ranges raw range → ⊥
   unfolding passes
   found_none n range g =
       let w = mem_at no_row g.among in
@@ -109,10 +109,10 @@ module _ (tables : List (List ℕ)) (name : CurveName) (raw : ℤ) where
   abbrev Below : Type 0
   Below = (range : Row) → GreatestFrom ranges raw range → lt_z (to_of range) raw ≡ true
 
-  no_text : (f : Found) → IsNearest ranges raw f → text_in (found_in ranges f) raw ≡ refused 32 0 → Below
+  no_text : (f : rust.Option ℕ) → IsNearest ranges raw f → text_in (found_in ranges f) raw ≡ refused 32 0 → Below
   unfolding found_in to_of
-  no_text Nothing n e range g = absurd (found_none ranges raw n range g)
-  no_text (At i) n e range g =
+  no_text None n e range g = absurd (found_none ranges raw n range g)
+  no_text (Some i) n e range g =
       let h = inside ranges raw i n.0 in
       let row : Row = get_or ranges i no_row in
       let f = found_greatest ranges raw i n in
@@ -120,10 +120,10 @@ module _ (tables : List (List ℕ)) (name : CurveName) (raw : ℤ) where
       ap (λ (bytes : List ℕ). lt_z (txp_row bytes).to raw) (sym same)
       ∙ to_below row raw (ap (λ (o : Option Row). text_in o raw) (sym (there_is ranges i no_row h)) ∙ e)
 
-  text_none : (f : Found) → IsNearest ranges raw f → Below → text_in (found_in ranges f) raw ≡ refused 32 0
+  text_none : (f : rust.Option ℕ) → IsNearest ranges raw f → Below → text_in (found_in ranges f) raw ≡ refused 32 0
   unfolding found_in text_in
-  text_none Nothing n b = refl
-  text_none (At i) n b =
+  text_none None n b = refl
+  text_none (Some i) n b =
       let h = inside ranges raw i n.0 in
       ap (λ (o : Option Row). text_in o raw) (there_is ranges i no_row h)
       ∙ below_to (get_or ranges i no_row) raw (b (get_or ranges i no_row) (found_greatest ranges raw i n))
@@ -131,7 +131,7 @@ module _ (tables : List (List ℕ)) (name : CurveName) (raw : ℤ) where
   text_32 : (text_for (of_tables tables) name raw ≡ refused 32 0) ↔ Below
   unfolding text_for
   text_32 =
-      let f : Found = not_above (map from_of ranges) raw in
+      let f : rust.Option ℕ = not_above (map from_of ranges) raw in
       let n = not_above_nearest (map from_of ranges) raw in
       (no_text f n, text_none f n)
 

@@ -4,6 +4,7 @@ use mathlib.Core.Path.{◌≡◌, refl, sym, ap, ◌∙◌}
 use mathlib.Core.Logic.{◌↔◌}
 use mathlib.Core.Bool.{Bool, true, false, cond}
 use mathlib.Core.List.{List, [], map}
+use Rattle.std.specs.Prelude.{None}
 use Prim.Native.Nat.{ℕ, ◌<◌}
 use native.Mathlib.Omega.{arith}
 use lib.IntN.{ℤ}
@@ -24,7 +25,6 @@ use Rattle.raw_values.specs.RawValues.{raw_of}
 use Rattle.parameters.specs.Located.{by_lines}
 use Rattle.curve_values.specs.Scale.{scale_of, on_scale}
 use Rattle.polynomial_curves.specs.Polynomials.{polynomial_for}
-use Rattle.polynomial_curves.specs.declared.Found.TheVariants as found
 use Rattle.engineering.specs.Engineering.{engineered}
 use Rattle.limit_state.specs.declared.state.LimitState.{LimitState}
 use Rattle.occurrences.specs.Values.{occurrences_from, raws_of, is_refusal, unless_refused, values_on, scale_under, values_of}
@@ -107,7 +107,7 @@ module _ (texts : List (List ℕ)) (p name : List ℕ) (s : LimitState) (t : Tak
 
   module _ (c : (ocf_row t.ocf.bytes).inter ≡ Engineering) (zs : List ℤ) (each : Each (raw_of p place kind) 0 place.nbocc zs)
       (n : ℕ) (so : ℤ → Type 0) (exactly : (raw : ℤ) → is_raw raw ≡ true → (engineered (of_tables texts) kind raw ≡ refused n 0) ↔ so raw) where
-    no_polynomial : polynomial_for (of_tables texts) kind.curtx ≡ found.Nothing
+    no_polynomial : polynomial_for (of_tables texts) kind.curtx ≡ None
     no_polynomial = c_no_polynomial texts (name_of name) t.ocf t.at.pcf t.has_limits t.at.described c
 
     made_is : (z : ℤ) → made z ≡ on_scale (scale_of (of_tables texts) kind.curtx) z

@@ -4,6 +4,7 @@ use mathlib.Core.Logic.{◌↔◌}
 use mathlib.Core.Bool.{Bool, true, false, cond, ◌||◌}
 use mathlib.Core.List.{List, [], ◌∷◌, map}
 use mathlib.Core.Option.{none, some}
+use Rattle.std.specs.Prelude.{None}
 use Prim.Native.Nat.{ℕ}
 use native.Mathlib.Omega.{arith}
 use lib.IntN.{ℤ}
@@ -24,7 +25,6 @@ use Rattle.database.specs.Rows.{Rows}
 use Rattle.curve_values.specs.Along.{outcome_of, along}
 use Rattle.curve_values.specs.Scale.{Scale, as_read, on_curve, scale_of, on_scale}
 use Rattle.polynomial_curves.specs.Polynomials.{polynomial_for}
-use Rattle.polynomial_curves.specs.declared.Found.TheVariants as found
 use Rattle.engineering.specs.Engineering.{value as engineeredValue, as_value, by_polynomial, numeric_value, by_category, engineered}
 use Rattle.occurrences.specs.Values.{integer_in, is_refusal, answered, unless_refused, scale_under}
 use Rattle.at_verdicts.proofs.NumberLaws.{then_refused, first_only}
@@ -84,7 +84,7 @@ scale_refused n scale z e =
     w.1 ∙ ap (λ (place : ℕ). refused n place) (scale_place scale z n w.0 w.1)
 
 -- of a parameter of CATEG N without a polynomial it is that of the engineering value
-module _ (rows : Rows) (r : PcfRow) (numeric : r.categ ≡ Numeric) (none : polynomial_for rows r.curtx ≡ found.Nothing) (z : ℤ) where
+module _ (rows : Rows) (r : PcfRow) (numeric : r.categ ≡ Numeric) (none : polynomial_for rows r.curtx ≡ None) (z : ℤ) where
   numeric_is : engineered rows r z ≡ and_then (on_scale (scale_of rows r.curtx) z) as_value
   unfolding engineered by_category numeric_value by_polynomial
   numeric_is = rw (numeric, none)

@@ -34,11 +34,9 @@ pub fn next_rows(sound: &[u8], codes: &[u8], found: &[u16], next: &mut [u16; PLA
     ensures { next.new ≡ sets next.old 0
         (tabulate (λ i. next_of sound.now (get_or codes.now i 0) (get_or found.now i no_row)) 0 n) }
 {
-    let mut i: usize = 0;
-    while i < n {
+    for i in 0..n {
         let row = next_of(sound, byte_at(codes, i), row_at(found, i));
         put_half(next, i, row);
-        i += 1;
     }
 }
 
@@ -73,8 +71,7 @@ pub fn base_rows(
         (tabulate (λ i. base_of (get_or own.now i 0) (get_or sound.now i 0) (get_or counts.now i 0)
         (get_or circles.now i 0)) 0 n) }
 {
-    let mut i: usize = 0;
-    while i < n {
+    for i in 0..n {
         let cell = base_of(
             half_at(own, i),
             byte_at(sound, i),
@@ -82,6 +79,5 @@ pub fn base_rows(
             byte_at(circles, i),
         );
         put_half(base, i, cell);
-        i += 1;
     }
 }

@@ -17,8 +17,7 @@ use Rattle.curves.specs.declared.line.Point.{Point}
 use Rattle.curves.proofs.LineLaws.{through_first, line_is}
 use Rattle.calibration.specs.Nearest.{passes, nearer, not_above, above}
 use Rattle.calibration.specs.Curve.{point_numbered, through, placed, curve_at}
-use Rattle.calibration.specs.declared.nearest.Found.{Found}
-use Rattle.calibration.specs.declared.nearest.Found.TheVariants.{At, Nothing}
+use Rattle.std.specs.Prelude.{Option, Some, None}
 use Rattle.calibration.specs.declared.nearest.Side.TheVariants.{NotAbove, Above}
 use Rattle.calibration.proofs.OrderLaws.{lt_irrefl, le_refl, le_not_lt}
 use Rattle.calibration.proofs.NearestOf.{Nearest, not_above_nearest, above_nearest}
@@ -49,18 +48,18 @@ from_point p q h k l =
 -- a curve of sound points, no two of them with one X
 module _ (xs ys : List ℤ) (sound : (i : ℕ) → i < length xs → is_point (point_numbered xs ys i) ≡ true)
     (apart : (i j : ℕ) → i < length xs → j < length xs → get_or xs i (pos 0) ≡ get_or xs j (pos 0) → i ≡ j) (k : ℕ) (h : k < length xs) where
-  itself : not_above xs (get_or xs k (pos 0)) ≡ At k
+  itself : not_above xs (get_or xs k (pos 0)) ≡ Some k
   unfolding passes nearer
   itself = by (not_above xs (get_or xs k (pos 0))) (not_above_nearest xs (get_or xs k (pos 0)))
     where
-      by : (f : Found) → Nearest NotAbove xs (get_or xs k (pos 0)) (length xs) f → f ≡ At k
-      by (At i) g = ap At (apart i k g.0 h (le_not_lt (get_or xs i (pos 0)) (get_or xs k (pos 0)) g.1 (g.2 k h (le_refl (get_or xs k (pos 0))))))
-      by Nothing g = absurd (g k h (le_refl (get_or xs k (pos 0))))
+      by : (f : Option ℕ) → Nearest NotAbove xs (get_or xs k (pos 0)) (length xs) f → f ≡ Some k
+      by (Some i) g = ap Some (apart i k g.0 h (le_not_lt (get_or xs i (pos 0)) (get_or xs k (pos 0)) g.1 (g.2 k h (le_refl (get_or xs k (pos 0))))))
+      by None g = absurd (g k h (le_refl (get_or xs k (pos 0))))
 
   pub at_point_lem : (ends : OffEnds) → curve_at ends xs ys (get_or xs k (pos 0)) ≡ value (get_or ys k (pos 0))
   unfolding curve_at placed passes through point_numbered
   at_point_lem ends = rw itself (by (above xs (get_or xs k (pos 0))) (above_nearest xs (get_or xs k (pos 0))))
     where
-      by : (f : Found) → Nearest Above xs (get_or xs k (pos 0)) (length xs) f → placed ends xs ys (get_or xs k (pos 0)) (At k) f ≡ value (get_or ys k (pos 0))
-      by (At j) g = from_point (point_numbered xs ys k) (point_numbered xs ys j) (sound k h) (sound j g.0) g.1
-      by Nothing g = sym (at_last xs ys (get_or xs k (pos 0)) ends k (lt_irrefl (get_or xs k (pos 0))))
+      by : (f : Option ℕ) → Nearest Above xs (get_or xs k (pos 0)) (length xs) f → placed ends xs ys (get_or xs k (pos 0)) (Some k) f ≡ value (get_or ys k (pos 0))
+      by (Some j) g = from_point (point_numbered xs ys k) (point_numbered xs ys j) (sound k h) (sound j g.0) g.1
+      by None g = sym (at_last xs ys (get_or xs k (pos 0)) ends k (lt_irrefl (get_or xs k (pos 0))))

@@ -10,19 +10,18 @@ use lib.IntN.{ℤ, pos}
 use lib.ListN.{length, get_or}
 use Rattle.laws.proofs.Cases.{cond_cases, false≢true, false_of}
 use Rattle.calibration.specs.Nearest.{passes, nearer, closer, better, nearest_of, not_above, below, above}
-use Rattle.calibration.specs.declared.nearest.Found.{Found}
-use Rattle.calibration.specs.declared.nearest.Found.TheVariants.{At, Nothing}
+use Rattle.std.specs.Prelude.{Option, Some, None}
 use Rattle.calibration.specs.declared.nearest.Side.{Side}
 use Rattle.calibration.specs.declared.nearest.Side.TheVariants.{NotAbove, Below, Above}
 use Rattle.calibration.proofs.OrderLaws.{nearer_trans, nearer_irrefl}
 
 -- of the first n elements, the one at i is on this side of v, and none on this side is nearer; or none is on this side
-abbrev pub Nearest : Side → List ℤ → ℤ → ℕ → Found → Type 0
-Nearest side xs v n (At i) =
+abbrev pub Nearest : Side → List ℤ → ℤ → ℕ → Option ℕ → Type 0
+Nearest side xs v n (Some i) =
     (i < n)
     × (passes side v (get_or xs i (pos 0)) ≡ true)
     × ((k : ℕ) → k < n → passes side v (get_or xs k (pos 0)) ≡ true → nearer side (get_or xs k (pos 0)) (get_or xs i (pos 0)) ≡ false)
-Nearest side xs v n Nothing = (k : ℕ) → k < n → passes side v (get_or xs k (pos 0)) ≡ true → ⊥
+Nearest side xs v n None = (k : ℕ) → k < n → passes side v (get_or xs k (pos 0)) ≡ true → ⊥
 
 -- a claim of the first n and of n, of the first n + 1
 more : {n : ℕ} (P : ℕ → Type 0) → ((k : ℕ) → k < n → P k) → P n → (k : ℕ) → k < suc n → P k
@@ -34,15 +33,15 @@ more {n} P f p k h = by (ℕ_discrete k n)
 
 module _ (side : Side) (xs : List ℤ) (v : ℤ) (n : ℕ) where
   -- an element on the other side
-  off : (b : Found) → Nearest side xs v n b → passes side v (get_or xs n (pos 0)) ≡ false → Nearest side xs v (suc n) b
-  off (At i) g h = (omega (arith, g.0), g.1, more _ g.2 (λ l. absurd (false≢true (sym h ∙ l))))
-  off Nothing g h = more _ g (λ l. absurd (false≢true (sym h ∙ l)))
+  off : (b : Option ℕ) → Nearest side xs v n b → passes side v (get_or xs n (pos 0)) ≡ false → Nearest side xs v (suc n) b
+  off (Some i) g h = (omega (arith, g.0), g.1, more _ g.2 (λ l. absurd (false≢true (sym h ∙ l))))
+  off None g h = more _ g (λ l. absurd (false≢true (sym h ∙ l)))
 
   -- an element on this side
-  on : (b : Found) → Nearest side xs v n b → passes side v (get_or xs n (pos 0)) ≡ true → Nearest side xs v (suc n) (closer side xs b n)
+  on : (b : Option ℕ) → Nearest side xs v n b → passes side v (get_or xs n (pos 0)) ≡ true → Nearest side xs v (suc n) (closer side xs b n)
   unfolding closer
-  on Nothing g h = (omega arith, h, more _ (λ k l m. absurd (g k l m)) (λ _. nearer_irrefl side (get_or xs n (pos 0))))
-  on (At i) g h =
+  on None g h = (omega arith, h, more _ (λ k l m. absurd (g k l m)) (λ _. nearer_irrefl side (get_or xs n (pos 0))))
+  on (Some i) g h =
       cond_cases (Nearest side xs v (suc n)) (nearer side (get_or xs n (pos 0)) (get_or xs i (pos 0)))
       (λ e. (
         omega arith,

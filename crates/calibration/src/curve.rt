@@ -1,17 +1,16 @@
 // The value of a curve, whose points stand in any order: the X of each in one array, and its Y in another.
 ghost use Rattle.std.specs.Prelude.{◌≡◌};
-ghost use Rattle.curves.specs.Line.{said_on_line};
-ghost use Rattle.calibration.specs.Curve.{point_numbered, through, off_end, from_last, before_first, curve_at, said_curve};
+ghost use Rattle.calibration.specs.Curve.{of_line, point_numbered, through, off_end, from_last, before_first, curve_at, said_curve};
 
 use crate::ints::item;
-use crate::nearest::{Found, above, below, not_above};
+use crate::nearest::{above, below, not_above};
 use curves::ints::less;
-use curves::line::{OnLine, Point, on_line};
+use curves::line::{LineError, Point, on_line};
 use rows::letters::OffEnds;
 
-#[derive(Clone, Copy)]
-pub enum CurveValue {
-    Is(i64),
+// Why a curve has no value.
+#[derive(Clone, Copy, PartialEq, Eq)]
+pub enum CurveError {
     // The raw value is off the ends of an F curve, or of one without two points.
     OffCurve,
     // The result is outside -2,147,483,648 to 2,147,483,647.
@@ -20,13 +19,14 @@ pub enum CurveValue {
     NoLine,
 }
 
-fn of_line(line: OnLine) -> CurveValue
-    ensures { said_curve result ≡ said_on_line line }
-{
-    match line {
-        OnLine::Is(y) => CurveValue::Is(y),
-        OnLine::Beyond => CurveValue::Beyond,
-        OnLine::NoLine => CurveValue::NoLine,
+impl From<LineError> for CurveError {
+    ghost from_gives = { λ line e. e ≡ of_line line };
+
+    fn from(line: LineError) -> CurveError {
+        match line {
+            LineError::Beyond => CurveError::Beyond,
+            LineError::NoLine => CurveError::NoLine,
+        }
     }
 }
 
@@ -41,61 +41,75 @@ fn point(xs: &[i64], ys: &[i64], i: usize) -> Point
 }
 
 // The line through two points at x, where there are two.
-fn line_through(xs: &[i64], ys: &[i64], from: Found, to: Found, x: i64) -> CurveValue
+fn line_through(
+    xs: &[i64],
+    ys: &[i64],
+    from: Option<usize>,
+    to: Option<usize>,
+    x: i64,
+) -> Result<i64, CurveError>
     ensures { said_curve result ≡ through xs.now ys.now from to x }
 {
-    let Found::At(i) = from else {
-        return CurveValue::OffCurve;
+    let Some(i) = from else {
+        return Err(CurveError::OffCurve);
     };
-    let Found::At(j) = to else {
-        return CurveValue::OffCurve;
+    let Some(j) = to else {
+        return Err(CurveError::OffCurve);
     };
-    of_line(on_line(point(xs, ys, i), point(xs, ys, j), x))
+    let y = on_line(point(xs, ys, i), point(xs, ys, j), x)?;
+    Ok(y)
 }
 
 // Off an end: P goes on along the line through two points.
-fn off_end(xs: &[i64], ys: &[i64], ends: OffEnds, from: Found, to: Found, x: i64) -> CurveValue
+fn off_end(
+    xs: &[i64],
+    ys: &[i64],
+    ends: OffEnds,
+    from: Option<usize>,
+    to: Option<usize>,
+    x: i64,
+) -> Result<i64, CurveError>
     ensures { said_curve result ≡ off_end ends (through xs.now ys.now from to x) }
 {
     match ends {
         OffEnds::Extrapolate => line_through(xs, ys, from, to, x),
-        OffEnds::Refuse => CurveValue::OffCurve,
+        OffEnds::Refuse => Err(CurveError::OffCurve),
     }
 }
 
 // At the last point, i, or past it.
-fn from_last(xs: &[i64], ys: &[i64], ends: OffEnds, i: usize, x: i64) -> CurveValue
+fn from_last(xs: &[i64], ys: &[i64], ends: OffEnds, i: usize, x: i64) -> Result<i64, CurveError>
     ensures { said_curve result ≡ from_last ends xs.now ys.now i x }
 {
     let last = item(xs, i);
     if less(last, x) {
-        return off_end(xs, ys, ends, below(xs, last), Found::At(i), x);
+        return off_end(xs, ys, ends, below(xs, last), Some(i), x);
     }
-    CurveValue::Is(item(ys, i))
+    Ok(item(ys, i))
 }
 
 // Before the first point, j.
-fn before_first(xs: &[i64], ys: &[i64], ends: OffEnds, j: usize, x: i64) -> CurveValue
+fn before_first(xs: &[i64], ys: &[i64], ends: OffEnds, j: usize, x: i64) -> Result<i64, CurveError>
     ensures { said_curve result ≡ before_first ends xs.now ys.now j x }
 {
     let next = above(xs, item(xs, j));
-    off_end(xs, ys, ends, Found::At(j), next, x)
+    off_end(xs, ys, ends, Some(j), next, x)
 }
 
 // The curve's value at the raw value x.
-pub fn curve_at(xs: &[i64], ys: &[i64], ends: OffEnds, x: i64) -> CurveValue
+pub fn curve_at(xs: &[i64], ys: &[i64], ends: OffEnds, x: i64) -> Result<i64, CurveError>
     ensures { said_curve result ≡ curve_at ends xs.now ys.now x }
 {
     let low = not_above(xs, x);
     let high = above(xs, x);
     match low {
-        Found::At(i) => match high {
-            Found::At(j) => line_through(xs, ys, Found::At(i), Found::At(j), x),
-            Found::Nothing => from_last(xs, ys, ends, i, x),
+        Some(i) => match high {
+            Some(j) => line_through(xs, ys, Some(i), Some(j), x),
+            None => from_last(xs, ys, ends, i, x),
         },
-        Found::Nothing => match high {
-            Found::At(j) => before_first(xs, ys, ends, j, x),
-            Found::Nothing => CurveValue::OffCurve,
+        None => match high {
+            Some(j) => before_first(xs, ys, ends, j, x),
+            None => Err(CurveError::OffCurve),
         },
     }
 }

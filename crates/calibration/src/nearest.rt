@@ -5,13 +5,6 @@ ghost use Rattle.calibration.specs.Nearest.{passes, nearer, better, nearest_of, 
 use crate::ints::{at_most, item};
 use curves::ints::less;
 
-// Where one is, if there is one.
-#[derive(Clone, Copy)]
-pub enum Found {
-    At(usize),
-    Nothing,
-}
-
 // The side of a value on which the nearest is looked for.
 #[derive(Clone, Copy)]
 pub enum Side {
@@ -43,7 +36,7 @@ fn is_nearer(side: Side, x: i64, y: i64) -> bool
 }
 
 // The nearest so far, with the element n looked at too.
-fn choose(xs: &[i64], side: Side, v: i64, best: Found, n: usize) -> Found
+fn choose(xs: &[i64], side: Side, v: i64, best: Option<usize>, n: usize) -> Option<usize>
     ensures { result ≡ better side xs.now v best n }
 {
     let x = item(xs, n);
@@ -51,46 +44,44 @@ fn choose(xs: &[i64], side: Side, v: i64, best: Found, n: usize) -> Found
         return best;
     }
     match best {
-        Found::Nothing => Found::At(n),
-        Found::At(i) => {
+        None => Some(n),
+        Some(i) => {
             if is_nearer(side, x, item(xs, i)) {
-                Found::At(n)
+                Some(n)
             } else {
-                Found::At(i)
+                Some(i)
             }
         }
     }
 }
 
-// The place of the nearest to v on one side.
-fn nearest(xs: &[i64], side: Side, v: i64) -> Found
+// The place of the nearest to v on one side, where there is one.
+fn nearest(xs: &[i64], side: Side, v: i64) -> Option<usize>
     ensures { result ≡ nearest_of side xs.now v (length xs.now) }
 {
-    let mut best = Found::Nothing;
-    let mut n = 0;
-    while n < xs.len() {
+    let mut best = None;
+    for n in 0..xs.len() {
         best = choose(xs, side, v, best, n);
-        n += 1;
     }
     best
 }
 
 // The greatest that is not above v.
-pub fn not_above(xs: &[i64], v: i64) -> Found
+pub fn not_above(xs: &[i64], v: i64) -> Option<usize>
     ensures { result ≡ not_above xs.now v }
 {
     nearest(xs, Side::NotAbove, v)
 }
 
 // The greatest that is below v.
-pub fn below(xs: &[i64], v: i64) -> Found
+pub fn below(xs: &[i64], v: i64) -> Option<usize>
     ensures { result ≡ below xs.now v }
 {
     nearest(xs, Side::Below, v)
 }
 
 // The least that is above v.
-pub fn above(xs: &[i64], v: i64) -> Found
+pub fn above(xs: &[i64], v: i64) -> Option<usize>
     ensures { result ≡ above xs.now v }
 {
     nearest(xs, Side::Above, v)

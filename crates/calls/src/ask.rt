@@ -6,7 +6,7 @@ ghost use Rattle.calls.specs.Tables.{asking};
 
 use answering::{Answered, Call, answer_in, refuse};
 use database::COLUMNS;
-use full_loading::{FullLoading, load_full};
+use full_loading::load_full;
 use kept::{LINKS, WORDS};
 use tables::TABLES;
 
@@ -34,7 +34,7 @@ pub(crate) fn ask(tables: [&[u8]; TABLES], p: &[u8], name: &[u8], call: Call) ->
     let mut links = [0u16; LINKS];
     let mut columns = [0u16; COLUMNS];
     match load_full(tables, &mut words, &mut links, &mut columns) {
-        FullLoading::Done => answer_full(tables, &words, &links, &columns, p, name, call),
-        FullLoading::Refused(refusal) => refuse(call, p, name, refusal),
+        Ok(()) => answer_full(tables, &words, &links, &columns, p, name, call),
+        Err(refusal) => refuse(call, p, name, refusal),
     }
 }

@@ -10,11 +10,16 @@ use outcomes::Refusal;
 use tables::TABLES;
 
 // An answer of another kind never comes.
-pub fn engineer(tables: [&[u8]; TABLES], p: &[u8], name: &[u8], occurrence: usize) -> Engineered
+pub fn engineer(
+    tables: [&[u8]; TABLES],
+    p: &[u8],
+    name: &[u8],
+    occurrence: usize,
+) -> Result<Engineered, Refusal>
     ensures { said_engineered result ≡ engineer_of (map (λ x. x.now) tables.entry) p.now name.now occurrence }
 {
     match ask(tables, p, name, Call::Engineer(occurrence)) {
         Answered::Engineered(engineered) => engineered,
-        _ => Engineered::Refused(Refusal::NoPidRow),
+        _ => Err(Refusal::NoPidRow),
     }
 }

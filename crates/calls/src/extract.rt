@@ -10,11 +10,16 @@ use readings::Reading;
 use tables::TABLES;
 
 // An answer of another kind never comes.
-pub fn extract(tables: [&[u8]; TABLES], p: &[u8], name: &[u8], occurrence: usize) -> Reading
+pub fn extract(
+    tables: [&[u8]; TABLES],
+    p: &[u8],
+    name: &[u8],
+    occurrence: usize,
+) -> Result<Reading, Refusal>
     ensures { said_reading result ≡ extract_of (map (λ x. x.now) tables.entry) p.now name.now occurrence }
 {
     match ask(tables, p, name, Call::Extract(occurrence)) {
         Answered::Read(reading) => reading,
-        _ => Reading::Refused(Refusal::NoPidRow),
+        _ => Err(Refusal::NoPidRow),
     }
 }

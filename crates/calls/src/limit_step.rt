@@ -4,7 +4,7 @@ ghost use Rattle.accepting.specs.Answer.{Answers};
 ghost use Rattle.calls.specs.Calls.{limit_step_of};
 
 use crate::ask::ask;
-use accepting::step::{Answer, Stepped};
+use accepting::step::Stepped;
 use answering::{Answered, Call};
 use limit_state::state::LimitState;
 use outcomes::Refusal;
@@ -17,7 +17,7 @@ pub fn limit_step(tables: [&[u8]; TABLES], p: &[u8], name: &[u8], state: LimitSt
     match ask(tables, p, name, Call::LimitStep(state)) {
         Answered::Stepped(stepped) => stepped,
         _ => Stepped {
-            answer: Answer::Refused(Refusal::NoPidRow),
+            answer: Err(Refusal::NoPidRow),
             state,
         },
     }

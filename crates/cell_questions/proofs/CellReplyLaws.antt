@@ -12,7 +12,7 @@ use Rattle.laws.proofs.Cases.{bool_cases}
 use Rattle.lines.specs.Columns.{columns_of, part_of}
 use Rattle.verdicts.specs.Entries.{table_count}
 use Rattle.verdicts.specs.Answer.{Imported, room_in, import_of, cells_after, positions_after, most_cells}
-use Rattle.scripts.specs.declared.operands.Natural.TheVariants as natural
+use Rattle.std.specs.Prelude as rust
 use Rattle.scripts.proofs.NumeralLaws.{most_is}
 use Rattle.scripts.specs.Words.{upto, setting_of}
 use Rattle.answers.specs.declared.answer.Answer.{Answer}
@@ -24,38 +24,38 @@ use Rattle.cell_questions.specs.CellReplies.{blank_cells, import_verdict, cells_
 use Rattle.cell_questions.specs.CellReplies.{left_verdict, only_left, row_verdict, only_table, row_reply}
 
 module _ (texts : List (List ℕ)) (cells positions text line : List ℕ) where
-  pub import_lent_lem : (room more : ℕ) → cells_lent text ≡ natural.Is room → positions_lent text ≡ natural.Is more
+  pub import_lent_lem : (room more : ℕ) → cells_lent text ≡ rust.Some room → positions_lent text ≡ rust.Some more
       → import_verdict texts (take room cells) (take more positions) line ≡ import_in texts cells positions text line
   unfolding import_in import_lent
   import_lent_lem room more e f = rw (e, f)
 
-  pub cells_unread : cells_lent text ≡ natural.Unread → Unread ≡ import_in texts cells positions text line
+  pub cells_unread : cells_lent text ≡ rust.None → Unread ≡ import_in texts cells positions text line
   unfolding import_in import_lent
   cells_unread e = rw e
 
-  pub positions_unread : (room : ℕ) → cells_lent text ≡ natural.Is room → positions_lent text ≡ natural.Unread
+  pub positions_unread : (room : ℕ) → cells_lent text ≡ rust.Some room → positions_lent text ≡ rust.None
       → Unread ≡ import_in texts cells positions text line
   unfolding import_in import_lent
   positions_unread room e f = rw (e, f)
 
 -- no more are lent than there are
 
-pub cells_fit : (text : List ℕ) (n : ℕ) → cells_lent text ≡ natural.Is n → n ≤ most_cells
+pub cells_fit : (text : List ℕ) (n : ℕ) → cells_lent text ≡ rust.Some n → n ≤ most_cells
 unfolding cells_lent
 cells_fit text n e =
     bool_cases (eqb (length text) 0)
-    (λ t. let h : natural.Is most_cells ≡ natural.Is n = rw t at e in
+    (λ t. let h : rust.Some most_cells ≡ rust.Some n = rw t at e in
     let i : most_cells ≡ n = cc in omega arith)
     (λ f. most_is most_cells n _ (rw f at e))
 
-pub positions_fit : (text : List ℕ) (n : ℕ) → positions_lent text ≡ natural.Is n → n ≤ most_cells
+pub positions_fit : (text : List ℕ) (n : ℕ) → positions_lent text ≡ rust.Some n → n ≤ most_cells
 unfolding positions_lent
 positions_fit text n e =
     bool_cases (eqb (length (columns_of text)) 1)
     (λ t. cells_fit text n (rw t at e))
     (λ f. bool_cases (eqb (length (columns_of text)) 2)
     (λ t. most_is most_cells n _ (rw (f, t) at e))
-    (λ g. let h : natural.Unread ≡ natural.Is n = rw (f, g) at e in
+    (λ g. let h : rust.None ≡ rust.Some n = rw (f, g) at e in
     let z : ◌≡◌ {A = ℕ} 0 1 = cc in absurd (omega arith)))
 
 -- A table's only row

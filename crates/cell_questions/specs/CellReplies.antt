@@ -5,8 +5,7 @@ use Rattle.numbers.specs.Number.{number_of, answer_of, meaning, spelt, after, di
 use Rattle.lines.specs.Columns.{columns_of, columns_from, column_at}
 use Rattle.verdicts.specs.Answer.{Imported, room_in, import_of, cells_after, positions_after, most_cells}
 use Rattle.verdicts.specs.Entries.{table_count}
-use Rattle.scripts.specs.declared.operands.Natural.{Natural}
-use Rattle.scripts.specs.declared.operands.Natural.TheVariants as natural
+use Rattle.std.specs.Prelude as rust
 use Rattle.scripts.specs.Words.{upto, setting_of}
 use Rattle.scripts.specs.Numerals.{natural_in, natural_of, at_most}
 use Rattle.answers.specs.declared.answer.Answer.{Answer}
@@ -30,20 +29,20 @@ import_verdict texts cells positions line =
     left_verdict texts cells positions line (import_of texts (room_in cells positions)) (imported_answer (import_of texts (room_in cells positions)))
 
 -- CELLS: how many cells are lent, all where it isn't said
-unfoldable pub cells_lent : (text : List ℕ) → Natural
-cells_lent text = cond (eqb (length text) 0) (natural.Is most_cells) (at_most most_cells (natural_in (column_at (columns_of text) 0)))
+unfoldable pub cells_lent : (text : List ℕ) → rust.Option ℕ
+cells_lent text = cond (eqb (length text) 0) (rust.Some most_cells) (at_most most_cells (natural_in (column_at (columns_of text) 0)))
 
 -- CELLS|POSITIONS: how many positions are lent, as many as cells where it isn't said
-unfoldable pub positions_lent : (text : List ℕ) → Natural
+unfoldable pub positions_lent : (text : List ℕ) → rust.Option ℕ
 positions_lent text =
     cond (eqb (length (columns_of text)) 1) (cells_lent text)
-    (cond (eqb (length (columns_of text)) 2) (at_most most_cells (natural_in (column_at (columns_of text) 1))) natural.Unread)
+    (cond (eqb (length (columns_of text)) 2) (at_most most_cells (natural_in (column_at (columns_of text) 1))) rust.None)
 
 -- into the first of these cells and positions
-unfoldable pub import_lent : List (List ℕ) → (cells positions line : List ℕ) → (room more : Natural) → Verdict
-import_lent texts cells positions line (natural.Is room) (natural.Is more) = import_verdict texts (take room cells) (take more positions) line
-import_lent texts cells positions line (natural.Is room) natural.Unread = Unread
-import_lent texts cells positions line natural.Unread more = Unread
+unfoldable pub import_lent : List (List ℕ) → (cells positions line : List ℕ) → (room more : rust.Option ℕ) → Verdict
+import_lent texts cells positions line (rust.Some room) (rust.Some more) = import_verdict texts (take room cells) (take more positions) line
+import_lent texts cells positions line (rust.Some room) rust.None = Unread
+import_lent texts cells positions line rust.None more = Unread
 
 -- into as many as the text says
 unfoldable pub import_in : List (List ℕ) → (cells positions text line : List ℕ) → Verdict
@@ -76,11 +75,11 @@ row_reply text line =
 
 -- how many are lent, a number of cells that isn't one, and the tables of a row of pic
 pub record Examples (line : List ℕ) : Type 0 where
-  pub all : positions_lent [] ≡ natural.Is most_cells
-  pub alike : positions_lent (ascii "5") ≡ natural.Is 5
-  pub fewer : positions_lent (ascii "5\t4") ≡ natural.Is 4
-  pub too_many : positions_lent (ascii "1\t11265") ≡ natural.Unread
-  pub no_positions : positions_lent (ascii "1\t") ≡ natural.Unread
+  pub all : positions_lent [] ≡ rust.Some most_cells
+  pub alike : positions_lent (ascii "5") ≡ rust.Some 5
+  pub fewer : positions_lent (ascii "5\t4") ≡ rust.Some 4
+  pub too_many : positions_lent (ascii "1\t11265") ≡ rust.None
+  pub no_positions : positions_lent (ascii "1\t") ≡ rust.None
   pub no_cells : import_reply [] (ascii "x") line ≡ Unread
   pub pic : take 3 (only_table 1 (ascii "A")) ≡ [] ∷ ascii "A" ∷ [] ∷ []
 

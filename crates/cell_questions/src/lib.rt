@@ -9,7 +9,7 @@ use comparing::compare::{Verdict, compare};
 use import::import;
 use lines::columns::part;
 use replies::import_replies::{say_imported, say_only};
-use scripts::operands::{Natural, column_count, natural_at};
+use scripts::operands::{column_count, natural_at};
 use scripts::verb::{find_byte, setting_of};
 use tables::{MOST_CELLS, TABLES, table_at};
 
@@ -65,17 +65,17 @@ fn import_part(
 }
 
 // How many cells are lent: all where it isn't said.
-fn cells_lent(text: &[u8]) -> Natural
+fn cells_lent(text: &[u8]) -> Option<u64>
     ensures { result ≡ cells_lent text.now }
 {
     if text.len() == 0 {
-        return Natural::Is(MOST_CELLS as u64);
+        return Some(MOST_CELLS as u64);
     }
     natural_at(MOST_CELLS as u64, text, 0)
 }
 
 // How many positions are lent: as many as cells where it isn't said.
-fn positions_lent(text: &[u8]) -> Natural
+fn positions_lent(text: &[u8]) -> Option<u64>
     ensures { result ≡ positions_lent text.now }
 {
     let count = column_count(text);
@@ -85,7 +85,7 @@ fn positions_lent(text: &[u8]) -> Natural
     if count == 2 {
         return natural_at(MOST_CELLS as u64, text, 1);
     }
-    Natural::Unread
+    None
 }
 
 fn import_lent(
@@ -100,10 +100,10 @@ fn import_lent(
 ) -> Verdict
     ensures { result ≡ import_in (map (λ x. x.now) tables.entry) cells.old positions.old text.now line.now }
 {
-    let Natural::Is(room) = cells_lent(text) else {
+    let Some(room) = cells_lent(text) else {
         return Verdict::Unread;
     };
-    let Natural::Is(more) = positions_lent(text) else {
+    let Some(more) = positions_lent(text) else {
         return Verdict::Unread;
     };
     import_part(

@@ -8,6 +8,7 @@ use native.Mathlib.Numerals.{add-one}
 use lib.Dec.{eqb, ltb, leb}
 use lib.ListN.{length}
 use borrow.Author.Tests.{ltb-true, leb-true, eqb-true, lt-ltb, le-leb}
+use Rattle.std.specs.Prelude.{Some, None}
 use Rattle.laws.proofs.Cases.{and_left, and_right, and_both, and_false, false_of}
 use Rattle.lines.specs.Lines.{lines_of}
 use Rattle.verdicts.specs.Answer.{refused, taken, too_long, too_many_rows, zeros, import_of, most_rows}
@@ -18,9 +19,10 @@ use Rattle.verdicts.specs.Positions.{position_told}
 use Rattle.verdicts.specs.Imports.{Lent, room_of, Takes, imported}
 use Rattle.verdicts.proofs.EntryLaws.{rows_before_next}
 use Rattle.verdicts.proofs.CellLaws.{imported_at, imported_position}
-use Rattle.tables.specs.Sizes.{fit, refused_by, sizes_of}
+use Rattle.tables.specs.Sizes.{fit, refused_by, size_refusal, sizes_of}
+use Rattle.tables.specs.declared.SizeError.{SizeError}
+use Rattle.tables.specs.declared.SizeError.TheVariants.{TooLong, TooManyRows}
 use Rattle.tables.proofs.SizeLaws.{few}
-use Rattle.cells.specs.declared.Cell.TheVariants.{At, NoCell}
 use Rattle.cells.specs.declared.TableCells.{TableCells}
 use Rattle.cells.specs.Cells.{is_fit, have_cells, is_table, is_row, cell_of, no_cells, cells_of, cell_in, verdict_in}
 
@@ -33,18 +35,18 @@ off a b e = rw e
 -- Among a table's cells
 
 module _ (cells : TableCells) (r : ℕ) where
-  pub in_none : (0 < r → r ≤ cells.end - cells.start → ⊥) → NoCell ≡ cell_in cells r
+  pub in_none : (0 < r → r ≤ cells.end - cells.start → ⊥) → None ≡ cell_in cells r
   unfolding cell_in
   in_none h =
       let room = cells.end - cells.start in
       let no : (ltb 0 r && leb r room) ≡ false = false_of (ltb 0 r && leb r room)
       (λ e. h (ltb-true 0 r (and_left (ltb 0 r) (leb r room) e)) (leb-true r room (and_right (ltb 0 r) (leb r room) e)))
       in
-      sym (off (At (cells.start + (r - 1))) NoCell no)
+      sym (off (Some (cells.start + (r - 1))) None no)
 
-  pub in_some : 0 < r → r ≤ cells.end - cells.start → At (cells.start + (r - 1)) ≡ cell_in cells r
+  pub in_some : 0 < r → r ≤ cells.end - cells.start → Some (cells.start + (r - 1)) ≡ cell_in cells r
   unfolding cell_in
-  in_some h k = sym (on (At (cells.start + (r - 1))) NoCell (and_both (lt-ltb 0 r h) (le-leb r (cells.end - cells.start) k)))
+  in_some h k = sym (on (Some (cells.start + (r - 1))) None (and_both (lt-ltb 0 r h) (le-leb r (cells.end - cells.start) k)))
 
 -- The cells of a table
 
@@ -71,9 +73,10 @@ module _ (texts : List (List ℕ)) (n : ℕ) where
       let none : (have_cells texts && is_table n) ≡ false = rw e (and_false (have_cells texts)) in
       sym (off (record { start = rows_before texts (n - 1); end = rows_before texts n }) no_cells none)
 
-  pub refused_cells : {number place : ℕ} → sizes_of texts ≡ refused_by number place → no_cells ≡ cells_of texts n
+  pub refused_cells : (error : SizeError) → sizes_of texts ≡ size_refusal error → no_cells ≡ cells_of texts n
   unfolding cells_of have_cells
-  refused_cells e = rw e
+  refused_cells (TooLong table) e = rw e
+  refused_cells (TooManyRows table) e = rw e
 
   pub fitting_cells : (cells : TableCells) → sizes_of texts ≡ fit → 0 < n → n ≤ table_count
       → cells.start ≡ rows_before texts (n - 1) → cells.end ≡ rows_before texts (suc (n - 1)) → cells ≡ cells_of texts n
@@ -123,15 +126,15 @@ module _ (texts : List (List ℕ)) (n r : ℕ) where
   unfolding cell_of cells_of is_row cell_in place
   cell_is = go (have_cells texts) (is_table n) refl
     where
-      none : cell_in no_cells r ≡ NoCell
+      none : cell_in no_cells r ≡ None
       none = sym (in_none no_cells r (λ h k. omega arith))
 
       go : (a b : Bool) → is_table n ≡ b
           → cell_in (cond (a && b) (record { start = rows_before texts (n - 1); end = rows_before texts n }) no_cells) r
-          ≡ cond (a && (b && (ltb 0 r && leb r (length (lines_of (text_at texts (n - 1))))))) (At (rows_before texts (n - 1) + (r - 1))) NoCell
+          ≡ cond (a && (b && (ltb 0 r && leb r (length (lines_of (text_at texts (n - 1))))))) (Some (rows_before texts (n - 1) + (r - 1))) None
       go false b e = none
       go true false e = none
-      go true true e = ap (λ (k : ℕ). cond (ltb 0 r && leb r k) (At (rows_before texts (n - 1) + (r - 1))) NoCell) (own_rows e)
+      go true true e = ap (λ (k : ℕ). cond (ltb 0 r && leb r k) (Some (rows_before texts (n - 1) + (r - 1))) None) (own_rows e)
 
   -- `is_row` is `IsRow` as a test
   pub is_row_lem : is_row texts n r ≡ true → IsRow texts (n - 1) r
@@ -167,9 +170,9 @@ module _ (texts : List (List ℕ)) (lent : Lent) (takes : Takes texts lent) wher
 
   module _ (n r : ℕ) (h : 0 < n) (is : IsRow texts (n - 1) r) where
     -- where an import takes the tables, each row has its cell
-    pub has_cell : cell_of texts n r ≡ At (place texts (n - 1) r)
+    pub has_cell : cell_of texts n r ≡ Some (place texts (n - 1) r)
     unfolding cell_of
-    has_cell = on (At (place texts (n - 1) r)) NoCell (and_both taken_fits (row_is texts n r h is))
+    has_cell = on (Some (place texts (n - 1) r)) None (and_both taken_fits (row_is texts n r h is))
 
     -- and its verdict stands in it
     pub says_verdict : verdict_in (imported texts lent).cells (cell_of texts n r) ≡ verdict_at texts (n - 1) r

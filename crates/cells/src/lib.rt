@@ -8,15 +8,8 @@ ghost use Rattle.tables.specs.Sizes.{fit, sizes_of};
 ghost use Rattle.verdicts.specs.Places.{rows_before};
 ghost use Rattle.cells.specs.Cells.{cell_in, cell_of, cells_of, no_cells, verdict_in};
 
-use tables::{Sizes, TABLES, check_sizes, row_count, table_at};
+use tables::{TABLES, check_sizes, row_count, table_at};
 use units::{RowNumber, TableNumber};
-
-// The place of a row's cell, from 0; or there is none.
-#[derive(Clone, Copy)]
-pub enum Cell {
-    At(usize),
-    NoCell,
-}
 
 // Where the cells of a table's rows start, and where they end: one past the last.
 #[derive(Clone, Copy)]
@@ -67,50 +60,49 @@ pub fn table_cells(tables: [&[u8]; TABLES], table: TableNumber) -> TableCells
         return none();
     }
     match check_sizes(tables) {
-        Sizes::Fit => fitting(tables, n - 1),
-        Sizes::TooLong(_) => none(),
-        Sizes::TooManyRows(_) => none(),
+        Ok(()) => fitting(tables, n - 1),
+        Err(_) => none(),
     }
 }
 
-// The cell of a row of the table whose cells these are.
-pub fn cell_in(cells: TableCells, row: RowNumber) -> Cell
+// The place of a row's cell, from 0, among the cells of its table.
+pub fn cell_in(cells: TableCells, row: RowNumber) -> Option<usize>
     ensures { result ≡ cell_in cells row.0 }
 {
     let start = cells.start;
     let end = cells.end;
     let r = row.0;
     if r == 0 {
-        return Cell::NoCell;
+        return None;
     }
     if end <= start {
-        return Cell::NoCell;
+        return None;
     }
     if end - start < r {
-        return Cell::NoCell;
+        return None;
     }
     let at = start + (r - 1);
-    Cell::At(at)
+    Some(at)
 }
 
 // The cell of a row by the numbers of its table and its own. For many rows of a table `table_cells` is asked once.
-pub fn cell_of(tables: [&[u8]; TABLES], table: TableNumber, row: RowNumber) -> Cell
+pub fn cell_of(tables: [&[u8]; TABLES], table: TableNumber, row: RowNumber) -> Option<usize>
     ensures { result ≡ cell_of (map (λ x. x.now) tables.entry) table.0 row.0 }
 {
     cell_in(table_cells(tables, table), row)
 }
 
 // The verdict that stands in a cell; 0 where there is no cell.
-pub fn verdict_in(cells: &[u16], cell: Cell) -> u16
+pub fn verdict_in(cells: &[u16], cell: Option<usize>) -> u16
     ensures { result ≡ verdict_in cells.now cell }
 {
     match cell {
-        Cell::At(at) => {
+        Some(at) => {
             if at < cells.len() {
                 return cells[at];
             }
             0
         }
-        Cell::NoCell => 0,
+        None => 0,
     }
 }

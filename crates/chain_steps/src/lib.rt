@@ -56,10 +56,8 @@ pub fn put_flag(marks: &mut [u8], i: usize, test: bool)
 pub fn mark_zeros(cells: &[u16], zeros: &mut [u8], n: usize)
     ensures { zeros.new ≡ sets zeros.old 0 (tabulate (λ i. flag (eqb (get_or cells.now i 0) 0)) 0 n) }
 {
-    let mut i: usize = 0;
-    while i < n {
+    for i in 0..n {
         let cell = half_at(cells, i);
         put_flag(zeros, i, cell == 0);
-        i += 1;
     }
 }

@@ -32,10 +32,8 @@ pub fn mark_circles(next: &[u16], circles: &mut [u8], n: usize)
 {
     // Rows past these are remembered nowhere, and their chains followed anew each time.
     let mut ended = [0u8; PLACES];
-    let mut i: usize = 0;
-    while i < n {
+    for i in 0..n {
         let back = comes_back(next, &mut ended, n, i);
         put_flag(circles, i, back);
-        i += 1;
     }
 }

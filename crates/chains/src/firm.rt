@@ -80,10 +80,8 @@ pub fn mark_firm(next: &[u16], firm: &[u8], chains: &mut [u8], within: usize, n:
         (tabulate (λ i. flag (firm_from next.now firm.now within i)) 0 n) }
 {
     let mut depths = [0u16; PLACES];
-    let mut i: usize = 0;
-    while i < n {
+    for i in 0..n {
         let all = is_firm(next, firm, &mut depths, within, i);
         put_flag(chains, i, all);
-        i += 1;
     }
 }

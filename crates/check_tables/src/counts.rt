@@ -48,10 +48,8 @@ fn say_reason_count(rt: &impl Print, reason: u16, count: usize) {
 
 // A line for each reason.
 fn say_reasons(rt: &impl Print, cells: &[u16], n: usize) {
-    let mut reason: u16 = 1;
-    while reason < 15 {
+    for reason in 1..15 {
         say_reason_count(rt, reason, count_reason(cells, n, reason));
-        reason += 1;
     }
 }
 

@@ -8,12 +8,12 @@ use counts::say_counts;
 use directories::{SPACE, directory_error, load_directory, tables_in};
 use files::arguments::{LONGEST, count, say_argument};
 use judged::judge_kept;
-use kept::{BYTES, HALVES, Keeping, LINKS, WORDS, keep};
+use kept::{BYTES, HALVES, KeepError, LINKS, WORDS, keep};
 use leaning::say_row;
 use row_order::{order_rows, row_in};
 use std::env::Env;
 use std::rt::Files;
-use tables::TABLES;
+use tables::{SizeError, TABLES};
 use words::refusals::say_refused;
 use words::say::words;
 
@@ -49,10 +49,8 @@ fn say_rows(
     order: &[usize],
     count: usize,
 ) {
-    let mut k: usize = 0;
-    while k < count {
+    for k in 0..count {
         say_row(rt, tables, halves, bytes, cells, n, row_in(order, k));
-        k += 1;
     }
 }
 
@@ -94,10 +92,10 @@ fn check_by(
     bytes: &mut [u8; BYTES],
 ) {
     match keep(tables, symbols, links, halves, bytes) {
-        Keeping::Done(rows, _) => judge_rows(rt, tables, halves, bytes, rows),
-        Keeping::TooLong(table) => say_refused(rt, 1, table.0),
-        Keeping::TooManyRows(table) => say_refused(rt, 2, table.0),
-        Keeping::NoRoom => say_refused(rt, 3, 0),
+        Ok(kept) => judge_rows(rt, tables, halves, bytes, kept.rows),
+        Err(KeepError::Sizes(SizeError::TooLong(table))) => say_refused(rt, 1, table.0),
+        Err(KeepError::Sizes(SizeError::TooManyRows(table))) => say_refused(rt, 2, table.0),
+        Err(KeepError::NoRoom) => say_refused(rt, 3, 0),
     }
 }
 

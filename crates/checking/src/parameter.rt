@@ -1,6 +1,7 @@
 // A parameter in a packet, checked.
 ghost use Rattle.std.specs.Prelude.{◌≡◌, map, length};
 ghost use Rattle.outcomes.specs.Outcome.{and_then, answer};
+ghost use Rattle.outcomes.specs.Refusals.{said};
 ghost use Rattle.database.specs.Arrays.{database, answers};
 ghost use Rattle.curve_values.specs.Scale.{scale_in};
 ghost use Rattle.severity.specs.Checks.{checks_in};
@@ -8,7 +9,6 @@ ghost use Rattle.occurrences.specs.Values.{scale_under, values_of};
 ghost use Rattle.occurrences.specs.Progress.{progress_by, checked_of};
 ghost use Rattle.checking.specs.Places.{rows_at};
 ghost use Rattle.checking.specs.Manner.{MannerOf};
-ghost use Rattle.occurrences.specs.Pass.{said_checked};
 
 use crate::checks::gather_checks;
 use announced::Progress;
@@ -17,7 +17,8 @@ use database::MOST_MEMBERS;
 use found_rows::{location_at, pcf_at};
 use located_readings::validity;
 use name_bytes::Name;
-use occurrences::{Checked, Manner, check_occurrences};
+use occurrences::{Manner, check_occurrences};
+use outcomes::Refusal;
 use parameters::Places;
 use rows::letters::LimitValue;
 use rows::records::{OcfRow, OptionalCurve, PcfRow};
@@ -97,8 +98,8 @@ fn check_by(
     lows: &[i64],
     highs: &[i64],
     levels: &[u8],
-) -> Checked
-    ensures { said_checked result
+) -> Result<Progress, Refusal>
+    ensures { said result
         ≡ and_then (values_of (answers (database (map (λ x. x.now) tables.entry) words.now links.now columns.now))
         p.now subject.spid.0 subject.limits (rows_at (map (λ x. x.now) tables.entry) columns.now subject.at)) (λ values.
         answer (progress_by (checks_in lows.now highs.now levels.now) subject.limits.nbchck progress values)) }
@@ -123,8 +124,8 @@ pub fn check_parameter(
     p: &[u8],
     subject: Subject,
     start: Progress,
-) -> Checked
-    ensures { said_checked result ≡ checked_of (answers (database (map (λ x. x.now) tables.entry) words.now links.now columns.now))
+) -> Result<Progress, Refusal>
+    ensures { said result ≡ checked_of (answers (database (map (λ x. x.now) tables.entry) words.now links.now columns.now))
         p.now subject.spid.0 subject.name subject.limits start (rows_at (map (λ x. x.now) tables.entry) columns.now subject.at) }
 {
     let mut lows = [0i64; MOST_MEMBERS];

@@ -31,12 +31,10 @@ fn is_among(b: u8, start: usize, end: usize) -> bool
     requires { (start ≤ end) × (end ≤ 29) }
     ensures { result ≡ is_in b (slice start end all_letters) }
 {
-    let mut i = start;
-    while i < end {
+    for i in start..end {
         if LETTERS[i] == b {
             return true;
         }
-        i += 1;
     }
     false
 }

@@ -6,7 +6,7 @@ ghost use Rattle.column_checks.specs.ColumnReasons.{number_reason};
 ghost use Rattle.column_checks.specs.ColumnKinds.{lowests, highests};
 
 use number_positions::no_digits;
-use numbers::{Number, read_number};
+use numbers::{NumberError, read_number};
 
 // The kinds of columns of a number, by their range: from 1 on, and below the letters' first.
 pub const TO_255: u8 = 1;
@@ -51,7 +51,7 @@ fn range_reason(text: &[u8], lowest: i64, highest: i64) -> u8
     ensures { result ≡ number_reason lowest highest (no_digits text.now) (number_of text.now) }
 {
     match read_number(text) {
-        Number::Value(v) => {
+        Ok(v) => {
             if lowest <= v {
                 if v <= highest {
                     return 0;
@@ -60,13 +60,13 @@ fn range_reason(text: &[u8], lowest: i64, highest: i64) -> u8
             }
             7
         }
-        Number::NotNumber => {
+        Err(NumberError::NotNumber) => {
             if no_digits(text) {
                 return 6;
             }
             13
         }
-        Number::Beyond => 7,
+        Err(NumberError::Beyond) => 7,
     }
 }
 

@@ -12,9 +12,10 @@ use rows::letters::{Category, CheckType, Format, LimitCoding};
 use rows::records::{
     CafRow, IdentificationField, OcfRow, OcpRow, PcfRow, PicRow, PlfRow, TxfRow, TxpRow,
 };
-use widths::{Width, width_of};
+use widths::width_of;
 
 // A field that is used, and has no bit.
+#[tactic(auto, unfolding(crate::specs::Contradictions::no_width))]
 fn no_width(field: IdentificationField) -> bool
     ensures { result ≡ no_width field }
 {
@@ -24,6 +25,7 @@ fn no_width(field: IdentificationField) -> bool
     }
 }
 
+#[tactic(auto, unfolding(crate::specs::Contradictions::pic_contradiction))]
 pub fn pic_contradiction(row: PicRow) -> u8
     ensures { result ≡ pic_contradiction row }
 {
@@ -38,6 +40,7 @@ pub fn pic_contradiction(row: PicRow) -> u8
     0
 }
 
+#[tactic(auto, unfolding(crate::specs::Contradictions::plf_contradiction))]
 pub fn plf_contradiction(row: PlfRow) -> u8
     ensures { result ≡ plf_contradiction row }
 {
@@ -52,10 +55,7 @@ pub fn plf_contradiction(row: PlfRow) -> u8
 fn has_no_width(ptc: u32, pfc: u32) -> bool
     ensures { result ≡ is_refused (width_of ptc pfc) }
 {
-    match width_of(ptc, pfc) {
-        Width::Bits(_) => false,
-        Width::Refused => true,
-    }
+    width_of(ptc, pfc).is_none()
 }
 
 // Whether a type code is that of a whole number: 1 to 4.
@@ -68,6 +68,7 @@ pub fn is_whole(ptc: u32) -> bool
     false
 }
 
+#[tactic(auto, unfolding(crate::specs::Contradictions::category_clash))]
 fn category_clash(categ: Category, ptc: u32) -> bool
     ensures { result ≡ category_clash categ ptc }
 {
@@ -78,6 +79,7 @@ fn category_clash(categ: Category, ptc: u32) -> bool
     }
 }
 
+#[tactic(auto, unfolding(crate::specs::Contradictions::curve_clash))]
 fn curve_clash(categ: Category, given: bool, ptc: u32) -> bool
     ensures { result ≡ curve_clash categ given ptc }
 {
@@ -109,6 +111,7 @@ pub fn pcf_contradiction(row: PcfRow) -> u8
     0
 }
 
+#[tactic(auto, unfolding(crate::specs::Contradictions::is_real))]
 fn is_real(format: Format) -> bool
     ensures { result ≡ is_real format }
 {
@@ -119,6 +122,7 @@ fn is_real(format: Format) -> bool
     }
 }
 
+#[tactic(auto, unfolding(crate::specs::Contradictions::caf_contradiction))]
 pub fn caf_contradiction(row: CafRow) -> u8
     ensures { result ≡ caf_contradiction row }
 {
@@ -133,6 +137,7 @@ pub fn caf_contradiction(row: CafRow) -> u8
     0
 }
 
+#[tactic(auto, unfolding(crate::specs::Contradictions::txf_contradiction))]
 pub fn txf_contradiction(row: TxfRow) -> u8
     ensures { result ≡ txf_contradiction row }
 {
@@ -152,6 +157,7 @@ pub fn txp_contradiction(row: TxpRow) -> u8
     0
 }
 
+#[tactic(auto, unfolding(crate::specs::Contradictions::is_carried_coding))]
 fn is_carried_coding(coding: LimitCoding) -> bool
     ensures { result ≡ is_carried_coding coding }
 {
@@ -162,6 +168,7 @@ fn is_carried_coding(coding: LimitCoding) -> bool
     }
 }
 
+#[tactic(auto, unfolding(crate::specs::Contradictions::ocf_contradiction))]
 pub fn ocf_contradiction(row: OcfRow) -> u8
     ensures { result ≡ ocf_contradiction row }
 {
@@ -172,6 +179,7 @@ pub fn ocf_contradiction(row: OcfRow) -> u8
     5
 }
 
+#[tactic(auto, unfolding(crate::specs::Contradictions::is_carried_check))]
 fn is_carried_check(check: CheckType) -> bool
     ensures { result ≡ is_carried_check check }
 {

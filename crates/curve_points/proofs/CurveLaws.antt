@@ -3,12 +3,14 @@ use mathlib.Core.Path.{◌≡◌, ap, sym, ◌∙◌}
 use mathlib.Core.Bool.{Bool, true, false}
 use mathlib.Core.List.{List, [], map}
 use mathlib.Core.Option.{some}
+use Rattle.std.specs.Prelude.{Option, Some, None}
 use Prim.Native.Nat.{ℕ, ◌-◌, ◌≤◌}
 use lib.IntN.{ℤ}
 use lib.ListN.{length}
 use lib.Seq.{sets}
 use Rattle.name_bytes.specs.declared.CurveName.{CurveName}
 use Rattle.decoding.specs.Records.{caf_row, cap_row}
+use Rattle.rows.specs.declared.letters.OffEnds.{OffEnds}
 use Rattle.rows.specs.declared.records.CafRow.{CafRow}
 use Rattle.rows.specs.declared.records.CapRow.{CapRow}
 use Rattle.symbols.specs.declared.Symbol.{Symbol}
@@ -22,15 +24,13 @@ use Rattle.database.proofs.FindLaws.{holder_none, holder_some}
 use Rattle.database.proofs.KindLaws.{kind_is}
 use Rattle.curve_points.specs.Curves.{curve_ends, xvals_of, yvals_of, curve_of}
 use Rattle.curve_points.specs.Points.{curve_in, points_of}
-use Rattle.curve_points.specs.declared.Ends.{Ends}
-use Rattle.curve_points.specs.declared.Ends.TheVariants.{Are, NoCurve}
 use Rattle.database.proofs.GatherLaws.{front_filled}
 
 -- the row that holds the curve's key
 module _ (texts : List (List ℕ)) (words links columns : List ℕ) (name : CurveName) {s : Symbol}
     (k : (s ≡ symbol_of (curve name)) × (key_fits (curve name) ≡ true))
     {at : ℕ} (e : at ≡ keyed words links columns holder_column s) where
-  pub ends_none : at ≡ 0 → NoCurve ≡ curve_ends ((answers (database texts words links columns)).holder (curve name))
+  pub ends_none : at ≡ 0 → None ≡ curve_ends ((answers (database texts words links columns)).holder (curve name))
   unfolding curve_ends
   ends_none z = sym (ap curve_ends (holder_none texts words links columns (curve name) s k.0 k.1 at e z))
 
@@ -42,15 +42,15 @@ module _ (texts : List (List ℕ)) (words links columns : List ℕ) (name : Curv
     holder : (answers (database texts words links columns)).holder (curve name) ≡ some row
     holder = holder_some texts words links columns (curve name) s k.0 k.1 at e z
 
-    pub ends_polynomial : kind ≡ true → NoCurve ≡ curve_ends ((answers (database texts words links columns)).holder (curve name))
+    pub ends_polynomial : kind ≡ true → None ≡ curve_ends ((answers (database texts words links columns)).holder (curve name))
     unfolding curve_ends
     ends_polynomial t = sym (ap curve_ends holder ∙ rw (kind_is texts columns (at - 1) is t))
 
     pub ends_some : kind ≡ false → {read : CafRow} → read ≡ caf_row row.bytes
-        → Are read.inter ≡ curve_ends ((answers (database texts words links columns)).holder (curve name))
+        → Some read.inter ≡ curve_ends ((answers (database texts words links columns)).holder (curve name))
     unfolding curve_ends
     ends_some f r =
-        ap (λ (read : CafRow). Are read.inter) r ∙ sym (ap curve_ends holder ∙ rw (kind_is texts columns (at - 1) is f))
+        ap (λ (read : CafRow). Some read.inter) r ∙ sym (ap curve_ends holder ∙ rw (kind_is texts columns (at - 1) is f))
 
 -- a point's row, read
 module _ (row : Row) {point : CapRow} (e : point ≡ cap_row row.bytes) where
@@ -63,7 +63,7 @@ module _ (row : Row) {point : CapRow} (e : point ≡ cap_row row.bytes) where
   yvals_are = ap (λ (p : CapRow). p.yvals) e
 
 -- the points that were gathered
-pub points_are : (rows : Rows) (name : CurveName) {ends : Ends} {n : ℕ} → ends ≡ curve_ends (rows.holder (curve name)) → n ≡ length (rows.members (curve name))
+pub points_are : (rows : Rows) (name : CurveName) {ends : Option OffEnds} {n : ℕ} → ends ≡ curve_ends (rows.holder (curve name)) → n ≡ length (rows.members (curve name))
     → record { ends = ends; count = n } ≡ points_of rows name
 unfolding points_of
 points_are rows name e n = rw (e, n)

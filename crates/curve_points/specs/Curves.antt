@@ -1,5 +1,6 @@
 -- A curve by its rows.
-use Rattle.std.specs.Prelude.{◌≡◌, refl, cond, List, [], ◌∷◌, ◌++◌, map, ℕ, ℤ, pos, negsuc}
+use Rattle.std.specs.Prelude.{◌≡◌, refl, cond, List, [], ◌∷◌, ◌++◌, map, ℕ, ℤ, pos, negsuc, Some, None}
+use Rattle.std.specs.Prelude as rust
 use Rattle.std.proofs.Math.Option.{Option, none, some}
 use Rattle.laws.specs.Text.{ascii}
 use Rattle.name_bytes.specs.Names.{curve_name_of, same_bytes}
@@ -15,8 +16,6 @@ use Rattle.verdicts.specs.Facts.{caf_facts, cap_facts, facts_of}
 use Rattle.database.specs.Rows.{Row, Rows}
 use Rattle.database.specs.GoodRows.{holds_key, is_in_group, find, among}
 use Rattle.database.specs.Kinds.{is_polynomial}
-use Rattle.curve_points.specs.declared.Ends.{Ends}
-use Rattle.curve_points.specs.declared.Ends.TheVariants.{Are, NoCurve}
 
 -- what it does off its ends, and the X and the Y of its points, in any order
 pub record Curve : Type 0 where
@@ -25,9 +24,9 @@ pub record Curve : Type 0 where
   pub ys : List ℤ
 
 -- 01: "CAF_INTER governs"; a polynomial has no points, and no ends
-unfoldable pub curve_ends : Option Row → Ends
-curve_ends none = NoCurve
-curve_ends (some row) = cond (is_polynomial row) NoCurve (Are (caf_row row.bytes).inter)
+unfoldable pub curve_ends : Option Row → rust.Option OffEnds
+curve_ends none = None
+curve_ends (some row) = cond (is_polynomial row) None (Some (caf_row row.bytes).inter)
 
 unfoldable pub xvals_of : Row → ℤ
 xvals_of row = (cap_row row.bytes).xvals
@@ -35,9 +34,9 @@ xvals_of row = (cap_row row.bytes).xvals
 unfoldable pub yvals_of : Row → ℤ
 yvals_of row = (cap_row row.bytes).yvals
 
-unfoldable pub curve_by : Ends → (xs ys : List ℤ) → Option Curve
-curve_by NoCurve xs ys = none
-curve_by (Are ends) xs ys = some (record { ends = ends; xs = xs; ys = ys })
+unfoldable pub curve_by : rust.Option OffEnds → (xs ys : List ℤ) → Option Curve
+curve_by None xs ys = none
+curve_by (Some ends) xs ys = some (record { ends = ends; xs = xs; ys = ys })
 
 -- 01: "NCURVE counts cap rows": these are its points
 unfoldable pub curve_of : Rows → CurveName → Option Curve
@@ -61,7 +60,7 @@ pub record Examples : Type 0 where
   pub by_default : curve_of (of_two []) (curve_name_of (ascii "C")) ≡ some (record { ends = Refuse; xs = pos 0 ∷ pos 10 ∷ []; ys = pos 0 ∷ negsuc 4 ∷ [] })
   pub other : curve_of (of_two []) (curve_name_of (ascii "D")) ≡ none
   -- a row of mcf
-  pub polynomial : curve_ends (some (record { table = 10; number = 1; start = 0; bytes = ascii "C" })) ≡ NoCurve
+  pub polynomial : curve_ends (some (record { table = 10; number = 1; start = 0; bytes = ascii "C" })) ≡ None
 
 pub examples : Examples
 unfolding

@@ -15,41 +15,33 @@ use name_bytes::CurveName;
 use rows::letters::OffEnds;
 use tables::TABLES;
 
-// What a curve does off its ends, where there is such a curve.
-#[derive(Clone, Copy)]
-pub enum Ends {
-    Are(OffEnds),
-    NoCurve,
-}
-
-// A curve whose points are the first of two lent arrays, X and Y.
+// A curve whose points are the first of two lent arrays, X and Y. Without ends there is no such curve.
 #[derive(Clone, Copy)]
 pub struct Points {
-    pub ends: Ends,
+    pub ends: Option<OffEnds>,
     pub count: usize,
 }
 
-// By the row of this name in caf. A polynomial of this name has none.
+// What a curve does off its ends, by the row of this name in caf. A polynomial of this name has none.
 pub fn curve_ends(
     tables: [&[u8]; TABLES],
     words: &[u64],
     links: &[u16],
     columns: &[u16],
     name: CurveName,
-) -> Ends
+) -> Option<OffEnds>
     ensures { result ≡ curve_ends ((answers (database (map (λ x. x.now) tables.entry) words.now links.now columns.now)
         ).holder (key.curve name)) }
 {
     let at = holder_of(words, links, columns, curve_key(name));
     if at == 0 {
-        return Ends::NoCurve;
+        return None;
     }
     if is_polynomial(columns, at - 1) {
-        return Ends::NoCurve;
+        return None;
     }
     let row = caf_at(tables, columns, at - 1);
-    let inter = row.inter;
-    Ends::Are(inter)
+    Some(row.inter)
 }
 
 // XVALS and YVALS of the rows at these places.
@@ -66,15 +58,13 @@ fn fill_points(
     ensures ys_after { ys.new ≡ sets ys.old 0
         (map (λ i. yvals_of (row_at (map (λ x. x.now) tables.entry) columns.now i)) places.now) }
 {
-    let mut i: usize = 0;
-    while i < places.len() {
+    for i in 0..places.len() {
         let place = places[i];
         let row = cap_at(tables, columns, place);
         let x = row.xvals;
         let y = row.yvals;
         xs[i] = x;
         ys[i] = y;
-        i += 1;
     }
 }
 

@@ -4,6 +4,7 @@ use mathlib.Core.Path.{◌≡◌, refl, sym, ap, ◌∙◌}
 use mathlib.Core.Bool.{Bool, true, false, not, cond, ◌&&◌}
 use mathlib.Core.List.{List}
 use mathlib.Core.Option.{some}
+use Rattle.std.specs.Prelude.{Option, Some, None}
 use Prim.Native.Nat.{ℕ, zero, suc, ◌≤◌, ◌<◌}
 use native.Mathlib.Omega.{arith}
 use lib.IntN.{ℤ, pos}
@@ -20,8 +21,6 @@ use Rattle.curves.specs.declared.line.Point.{Point}
 use Rattle.curves.proofs.LineLaws.{line_is}
 use Rattle.calibration.specs.Nearest.{passes, nearer, not_above, below, above}
 use Rattle.calibration.specs.Curve.{point_numbered, through, off_end, from_last, before_first, placed, curve_at}
-use Rattle.calibration.specs.declared.nearest.Found.{Found}
-use Rattle.calibration.specs.declared.nearest.Found.TheVariants.{At, Nothing}
 use Rattle.calibration.specs.declared.nearest.Side.TheVariants.{NotAbove, Below, Above}
 use Rattle.calibration.proofs.OrderLaws.{le_not_lt}
 use Rattle.calibration.proofs.NearestOf.{Nearest, not_above_nearest, below_nearest, above_nearest}
@@ -88,14 +87,14 @@ module _ (xs ys : List ℤ) (sound : Sound xs ys) (raw : ℤ) (is : is_raw raw �
   off_end_lem Extrapolate l t k = k
 
   -- between two neighbours
-  between : (ends : OffEnds) (i j : ℕ) → Nearest NotAbove xs raw (length xs) (At i) → Nearest Above xs raw (length xs) (At j)
-      → Exactly (outcome_of (through xs ys (At i) (At j) raw)) (is_f ends && is_off xs raw)
+  between : (ends : OffEnds) (i j : ℕ) → Nearest NotAbove xs raw (length xs) (Some i) → Nearest Above xs raw (length xs) (Some j)
+      → Exactly (outcome_of (through xs ys (Some i) (Some j) raw)) (is_f ends && is_off xs raw)
   unfolding through passes
   between ends i j a b =
       line i j a.0 b.0 (le_lt (x i) raw (x j) a.1 b.1) (rw (on i j a.0 a.1 b.0 (lt_le raw (x j) b.1)) (and_false (is_f ends)))
 
   -- the last point
-  module _ (i : ℕ) (a : Nearest NotAbove xs raw (length xs) (At i)) (b : Nearest Above xs raw (length xs) Nothing) where
+  module _ (i : ℕ) (a : Nearest NotAbove xs raw (length xs) (Some i)) (b : Nearest Above xs raw (length xs) None) where
     up_to : (k : ℕ) → k < length xs → le_z (x k) raw ≡ true
     unfolding passes
     up_to k h = not_lt raw (x k) (false_of (lt_z raw (x k)) (b k h))
@@ -116,20 +115,20 @@ module _ (xs ys : List ℤ) (sound : Sound xs ys) (raw : ℤ) (is : is_raw raw �
         bool_cases (lt_z (x o.0) (x i)) (λ t. t)
         (λ f. absurd (o.2 (sym (le_not_lt (x i) (x o.0) (not_lt (x o.0) (x i) f) (a.2 o.0 o.1 (up_to o.0 o.1))))))
 
-    before_last : (f : Found) → Nearest Below xs (x i) (length xs) f → Exactly (outcome_of (through xs ys f (At i) raw)) false
+    before_last : (f : Option ℕ) → Nearest Below xs (x i) (length xs) f → Exactly (outcome_of (through xs ys f (Some i) raw)) false
     unfolding through passes
-    before_last (At k) n = line k i n.0 a.0 n.1 refl
-    before_last Nothing n = let o = other i a.0 in absurd (n o.0 o.1 (lower o))
+    before_last (Some k) n = line k i n.0 a.0 n.1 refl
+    before_last None n = let o = other i a.0 in absurd (n o.0 o.1 (lower o))
 
     last : (ends : OffEnds) → Exactly (outcome_of (from_last ends xs ys i raw)) (is_f ends && is_off xs raw)
     unfolding from_last outcome_of passes
     last ends =
         cond_cases (λ (l : Said). Exactly (outcome_of l) (is_f ends && is_off xs raw)) (lt_z (x i) raw)
-        (λ t. off_end_lem ends (through xs ys (below xs (x i)) (At i) raw) (off_last t) (before_last (below xs (x i)) (below_nearest xs (x i))))
+        (λ t. off_end_lem ends (through xs ys (below xs (x i)) (Some i) raw) (off_last t) (before_last (below xs (x i)) (below_nearest xs (x i))))
         (λ f. value_never (get_or ys i (pos 0)) (rw (on i i a.0 a.1 a.0 (not_lt (x i) raw f)) (and_false (is_f ends))))
 
   -- the first point
-  module _ (j : ℕ) (a : Nearest NotAbove xs raw (length xs) Nothing) (b : Nearest Above xs raw (length xs) (At j)) where
+  module _ (j : ℕ) (a : Nearest NotAbove xs raw (length xs) None) (b : Nearest Above xs raw (length xs) (Some j)) where
     from : (k : ℕ) → k < length xs → lt_z raw (x k) ≡ true
     unfolding passes
     from k h = not_le (x k) raw (false_of (le_z (x k) raw) (a k h))
@@ -144,22 +143,22 @@ module _ (xs ys : List ℤ) (sound : Sound xs ys) (raw : ℤ) (is : is_raw raw �
         bool_cases (lt_z (x j) (x o.0)) (λ t. t)
         (λ f. absurd (o.2 (le_not_lt (x o.0) (x j) (not_lt (x j) (x o.0) f) (b.2 o.0 o.1 (from o.0 o.1)))))
 
-    after_first : (f : Found) → Nearest Above xs (x j) (length xs) f → Exactly (outcome_of (through xs ys (At j) f raw)) false
+    after_first : (f : Option ℕ) → Nearest Above xs (x j) (length xs) f → Exactly (outcome_of (through xs ys (Some j) f raw)) false
     unfolding through passes
-    after_first (At k) n = line j k b.0 n.0 n.1 refl
-    after_first Nothing n = let o = other j b.0 in absurd (n o.0 o.1 (higher o))
+    after_first (Some k) n = line j k b.0 n.0 n.1 refl
+    after_first None n = let o = other j b.0 in absurd (n o.0 o.1 (higher o))
 
     first : (ends : OffEnds) → Exactly (outcome_of (before_first ends xs ys j raw)) (is_f ends && is_off xs raw)
     unfolding before_first
-    first ends = off_end_lem ends (through xs ys (At j) (above xs (x j)) raw) off_first (after_first (above xs (x j)) (above_nearest xs (x j)))
+    first ends = off_end_lem ends (through xs ys (Some j) (above xs (x j)) raw) off_first (after_first (above xs (x j)) (above_nearest xs (x j)))
 
-  everywhere : (ends : OffEnds) (low high : Found) → Nearest NotAbove xs raw (length xs) low → Nearest Above xs raw (length xs) high
+  everywhere : (ends : OffEnds) (low high : Option ℕ) → Nearest NotAbove xs raw (length xs) low → Nearest Above xs raw (length xs) high
       → Exactly (outcome_of (placed ends xs ys raw low high)) (is_f ends && is_off xs raw)
   unfolding placed passes
-  everywhere ends (At i) (At j) a b = between ends i j a b
-  everywhere ends (At i) Nothing a b = last i a b ends
-  everywhere ends Nothing (At j) a b = first j a b ends
-  everywhere ends Nothing Nothing a b =
+  everywhere ends (Some i) (Some j) a b = between ends i j a b
+  everywhere ends (Some i) None a b = last i a b ends
+  everywhere ends None (Some j) a b = first j a b ends
+  everywhere ends None None a b =
       let h : 0 < length xs = omega (arith, sound.two) in absurd (b 0 h (not_le (x 0) raw (false_of (le_z (x 0) raw) (a 0 h))))
 
 -- 01: "30 … raw value off an F curve"

@@ -1,5 +1,5 @@
 -- The value along a curve.
-use Rattle.std.specs.Prelude.{◌≡◌, refl, List, [], ℕ, ℤ, pos, negsuc}
+use Rattle.std.specs.Prelude.{◌≡◌, refl, List, [], ℕ, ℤ, pos, negsuc, Err}
 use Rattle.std.proofs.Math.Option.{Option, none, some}
 use Rattle.laws.specs.Said.{Said, value, refused as refused_with, free}
 use Rattle.laws.specs.Text.{ascii}
@@ -15,13 +15,11 @@ use Rattle.calibration.specs.Curve.{point_numbered, through, off_end, from_last,
 use Rattle.verdicts.specs.Key.{key_words, same_key}
 use Rattle.verdicts.specs.Facts.{caf_facts, cap_facts, facts_of}
 use Rattle.outcomes.specs.Outcome.{Outcome, answer, refused}
-use Rattle.outcomes.specs.Refusals.{refusal_number as numberOfRefusal, refusal_place, refused_by}
+use Rattle.outcomes.specs.Refusals.{refusal_number as numberOfRefusal, refusal_place, refused_by, said}
 use Rattle.outcomes.specs.declared.Refusal.TheVariants.{OutOfRange}
 use Rattle.database.specs.GoodRows.{holds_key, is_in_group, find, among}
 use Rattle.database.specs.Kinds.{is_polynomial}
 use Rattle.curve_points.specs.Curves.{Curve, curve_ends, xvals_of, yvals_of, curve_by, curve_of, of_two}
-use Rattle.curve_values.specs.declared.along.CurveResult.{CurveResult}
-use Rattle.curve_values.specs.declared.along.CurveResult.TheVariants.{Is, Refused}
 
 -- two points that make no line, which no good rows are, are as no curve
 unfoldable pub outcome_of : Said → Outcome ℤ
@@ -35,11 +33,6 @@ unfoldable pub along : Option Curve → ℤ → Outcome ℤ
 along none raw = refused 30 0
 along (some c) raw = outcome_of (curve_at c.ends c.xs c.ys raw)
 
--- 01's number and value of each case
-unfoldable pub said_result : CurveResult → Outcome ℤ
-said_result (Is v) = answer v
-said_result (Refused refusal) = refused_by refusal
-
 -- a curve C through (0,0) and (10,-5), with this INTER
 abbrev along_at : (inter : List ℕ) → (name : List ℕ) → ℤ → Outcome ℤ
 along_at inter name raw = along (curve_of (of_two inter) (curve_name_of name)) raw
@@ -51,11 +44,11 @@ pub record Examples : Type 0 where
   pub past_f : along_at (ascii "F") (ascii "C") (pos 20) ≡ refused 30 0
   pub past_default : along_at [] (ascii "C") (pos 20) ≡ refused 30 0
   pub other : along_at (ascii "P") (ascii "D") (pos 3) ≡ refused 30 0
-  pub range : said_result (Refused OutOfRange) ≡ refused 31 0
+  pub range : said {A = ℤ} (Err OutOfRange) ≡ refused 31 0
 
 pub examples : Examples
 unfolding
-    along outcome_of said_result refused_by numberOfRefusal refusal_place
+    along outcome_of said refused_by numberOfRefusal refusal_place
     curve_of curve_by curve_ends is_polynomial xvals_of yvals_of among find holds_key is_in_group facts_of caf_facts cap_facts same_key key_words same_bytes curve_name_of
     caf_row cap_row column columns_of columns_from off_ends_of letter_of integer_or integer_from number_of meaning spelt after digit_on digit_of
     curve_at placed from_last before_first off_end through point_numbered not_above below above nearest_of better closer nearer passes

@@ -1,28 +1,21 @@
 // The value along a curve.
-ghost use Rattle.std.specs.Prelude.{◌≡◌, take};
+ghost use Rattle.std.specs.Prelude.{◌≡◌, take, Err};
 ghost use Rattle.calibration.specs.Curve as calibration;
 ghost use Rattle.curve_points.specs.Points.{curve_in};
-ghost use Rattle.curve_values.specs.Along.{outcome_of, along, said_result};
+ghost use Rattle.outcomes.specs.Refusals.{said, refused_by};
+ghost use Rattle.curve_values.specs.Along.{outcome_of, along};
 
-use calibration::curve::{CurveValue, curve_at};
-use curve_points::{Ends, Points};
+use calibration::curve::{CurveError, curve_at};
+use curve_points::Points;
 use outcomes::Refusal;
 
-// What a raw value gives along a curve.
-#[derive(Clone, Copy)]
-pub enum CurveResult {
-    Is(i64),
-    Refused(Refusal),
-}
-
-fn result_of(value: CurveValue) -> CurveResult
-    ensures { said_result result ≡ outcome_of (calibration.said_curve value) }
+fn refusal_of(error: CurveError) -> Refusal
+    ensures { refused_by result ≡ outcome_of (calibration.said_curve (Err error)) }
 {
-    match value {
-        CurveValue::Is(y) => CurveResult::Is(y),
-        CurveValue::OffCurve => CurveResult::Refused(Refusal::OffCurve),
-        CurveValue::Beyond => CurveResult::Refused(Refusal::OutOfRange),
-        CurveValue::NoLine => CurveResult::Refused(Refusal::OffCurve),
+    match error {
+        CurveError::OffCurve => Refusal::OffCurve,
+        CurveError::Beyond => Refusal::OutOfRange,
+        CurveError::NoLine => Refusal::OffCurve,
     }
 }
 
@@ -37,13 +30,14 @@ fn front(numbers: &[i64], count: usize) -> &[i64]
 }
 
 // By the points that `gather_points` gathered.
-pub fn value_along(points: Points, xs: &[i64], ys: &[i64], raw: i64) -> CurveResult
-    ensures { said_result result ≡ along (curve_in points xs.now ys.now) raw }
+pub fn value_along(points: Points, xs: &[i64], ys: &[i64], raw: i64) -> Result<i64, Refusal>
+    ensures { said result ≡ along (curve_in points xs.now ys.now) raw }
 {
-    let count = points.count;
-    let ends = points.ends;
-    match ends {
-        Ends::Are(off) => result_of(curve_at(front(xs, count), front(ys, count), off, raw)),
-        Ends::NoCurve => CurveResult::Refused(Refusal::OffCurve),
+    let Some(ends) = points.ends else {
+        return Err(Refusal::OffCurve);
+    };
+    match curve_at(front(xs, points.count), front(ys, points.count), ends, raw) {
+        Ok(y) => Ok(y),
+        Err(error) => Err(refusal_of(error)),
     }
 }

@@ -3,12 +3,13 @@ ghost use Rattle.std.specs.Prelude.{◌≡◌, map};
 ghost use Rattle.std.proofs.lemmas.List.Edits.{sets};
 ghost use Rattle.database.specs.Arrays.{database, answers};
 ghost use Rattle.curve_points.specs.Curves.{xvals_of, yvals_of};
-ghost use Rattle.curve_values.specs.Along.{said_result};
+ghost use Rattle.outcomes.specs.Refusals.{said};
 ghost use Rattle.curve_values.specs.Scale.{scale_of, point_rows, on_scale, scale_in, scale_by};
 
-use crate::along::{CurveResult, value_along};
+use crate::along::value_along;
 use curve_points::{Points, gather_points};
 use database::MOST_MEMBERS;
+use outcomes::Refusal;
 use rows::records::OptionalCurve;
 use tables::TABLES;
 
@@ -20,11 +21,11 @@ pub enum Scale {
 }
 
 // By the points that `gather_scale` gathered.
-pub fn value_on(scale: Scale, xs: &[i64], ys: &[i64], raw: i64) -> CurveResult
-    ensures { said_result result ≡ on_scale (scale_in scale xs.now ys.now) raw }
+pub fn value_on(scale: Scale, xs: &[i64], ys: &[i64], raw: i64) -> Result<i64, Refusal>
+    ensures { said result ≡ on_scale (scale_in scale xs.now ys.now) raw }
 {
     match scale {
-        Scale::AsRead => CurveResult::Is(raw),
+        Scale::AsRead => Ok(raw),
         Scale::Along(points) => value_along(points, xs, ys, raw),
     }
 }
@@ -61,8 +62,8 @@ pub fn scale_value(
     columns: &[u16],
     curtx: OptionalCurve,
     raw: i64,
-) -> CurveResult
-    ensures { said_result result
+) -> Result<i64, Refusal>
+    ensures { said result
         ≡ on_scale (scale_of (answers (database (map (λ x. x.now) tables.entry) words.now links.now columns.now)) curtx) raw }
 {
     let mut xs = [0i64; MOST_MEMBERS];

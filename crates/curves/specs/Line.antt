@@ -1,11 +1,11 @@
 -- The straight line through two points of a curve.
-use Rattle.std.specs.Prelude.{◌≡◌, refl, Bool, cond, ◌&&◌, ℤ, pos, negsuc, nat_abs, ◌+ℤ◌, ◌-ℤ◌, ◌*ℤ◌}
+use Rattle.std.specs.Prelude.{◌≡◌, refl, Bool, cond, ◌&&◌, ℤ, pos, negsuc, nat_abs, ◌+ℤ◌, ◌-ℤ◌, ◌*ℤ◌, Result, Ok, Err}
 use Rattle.std.specs.Int.Signed.{le_z, lt_z}
 use Rattle.laws.specs.Said.{Said, value, refused, free}
 use Rattle.curves.specs.Floor.{floor_div}
 use Rattle.curves.specs.declared.line.Point.{Point}
-use Rattle.curves.specs.declared.line.OnLine.{OnLine}
-use Rattle.curves.specs.declared.line.OnLine.TheVariants.{Is, Beyond, NoLine}
+use Rattle.curves.specs.declared.line.LineError.{LineError}
+use Rattle.curves.specs.declared.line.LineError.TheVariants.{Beyond, NoLine}
 
 -- z is from low to high
 unfoldable pub is_between : ℤ → ℤ → ℤ → Bool
@@ -39,10 +39,10 @@ result_of y = cond (is_between (negsuc 2147483647) (pos 2147483647) y) (value y)
 unfoldable pub line_at : Point → Point → ℤ → Said
 line_at p q x = cond (is_segment p q && is_raw x) (result_of (height_at p q x)) free
 
-unfoldable pub said_on_line : OnLine → Said
-said_on_line (Is y) = value y
-said_on_line Beyond = refused 31
-said_on_line NoLine = free
+unfoldable pub said_on_line : Result ℤ LineError → Said
+said_on_line (Ok y) = value y
+said_on_line (Err Beyond) = refused 31
+said_on_line (Err NoLine) = free
 
 -- through (0,1) and (2,0): 1 gives 1/2, so 0, and 3 gives -1/2, so -1; the other way round is no line
 halves : (

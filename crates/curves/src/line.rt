@@ -12,9 +12,8 @@ pub struct Point {
     pub y: i64,
 }
 
-#[derive(Clone, Copy)]
-pub enum OnLine {
-    Is(i64),
+#[derive(Clone, Copy, PartialEq, Eq)]
+pub enum LineError {
     // The result is outside -2,147,483,648 to 2,147,483,647.
     Beyond,
     // No curve has these points in this order, or no parameter this raw value.
@@ -49,33 +48,33 @@ fn is_segment(from: Point, to: Point) -> bool
 }
 
 // The result y, where it is in the range of an answer.
-fn answer(y: i64) -> OnLine
+fn answer(y: i64) -> Result<i64, LineError>
     ensures { said_on_line result ≡ result_of y }
 {
     if lies_within(-2147483648, 2147483647, y) {
-        return OnLine::Is(y);
+        return Ok(y);
     }
-    OnLine::Beyond
+    Err(LineError::Beyond)
 }
 
 // The result n above y. A larger n is out of the range whatever y is.
-fn above(y: i64, n: u64) -> OnLine
+fn above(y: i64, n: u64) -> Result<i64, LineError>
     requires { nat_abs y ≤ 2 ^ 30 }
     ensures { said_on_line result ≡ result_of (y +ℤ pos n) }
 {
     if 0x1_0000_0000 <= n {
-        return OnLine::Beyond;
+        return Err(LineError::Beyond);
     }
     answer(plus(y, of_nat(n)))
 }
 
 // The result n below y.
-fn below(y: i64, n: u64) -> OnLine
+fn below(y: i64, n: u64) -> Result<i64, LineError>
     requires { nat_abs y ≤ 2 ^ 30 }
     ensures { said_on_line result ≡ result_of (y -ℤ pos n) }
 {
     if 0x1_0000_0000 <= n {
-        return OnLine::Beyond;
+        return Err(LineError::Beyond);
     }
     answer(minus(y, of_nat(n)))
 }
@@ -89,7 +88,7 @@ fn product(rise: u64, over: u64) -> u64
 }
 
 // The result y + rise * over / run. What is taken from y is rounded up, so that the result is rounded down.
-fn climbed(y: i64, rise: i64, over: i64, run: u64) -> OnLine
+fn climbed(y: i64, rise: i64, over: i64, run: u64) -> Result<i64, LineError>
     requires { (nat_abs y ≤ 2 ^ 30) × (nat_abs rise ≤ 2 ^ 31) × (nat_abs over ≤ 2 ^ 32 + 2 ^ 30) × (0 < run) × (run ≤ 2 ^ 31) }
     ensures { said_on_line result ≡ result_of (y +ℤ floor_div (rise *ℤ over) run) }
 {
@@ -102,7 +101,7 @@ fn climbed(y: i64, rise: i64, over: i64, run: u64) -> OnLine
     above(y, m / run)
 }
 
-fn drawn(from: Point, to: Point, x: i64) -> OnLine
+fn drawn(from: Point, to: Point, x: i64) -> Result<i64, LineError>
     requires { (is_segment from to ≡ true) × (is_raw x ≡ true) }
     ensures { said_on_line result ≡ result_of (height_at from to x) }
 {
@@ -113,14 +112,14 @@ fn drawn(from: Point, to: Point, x: i64) -> OnLine
 }
 
 // The line through two points at x, which may lie between them or off either end.
-pub fn on_line(from: Point, to: Point, x: i64) -> OnLine
+pub fn on_line(from: Point, to: Point, x: i64) -> Result<i64, LineError>
     ensures { said_on_line result ≡ line_at from to x }
 {
     if !is_segment(from, to) {
-        return OnLine::NoLine;
+        return Err(LineError::NoLine);
     }
     if !lies_within(-2147483648, 4294967295, x) {
-        return OnLine::NoLine;
+        return Err(LineError::NoLine);
     }
     drawn(from, to, x)
 }

@@ -12,10 +12,7 @@ use rows::at::{
     coefficient_at, curve_at, identification_at, integer_at, letter_at, name_at, natural_at,
     optional_apid_at, optional_curve_at, optional_name_at,
 };
-use rows::letters::{
-    category_of, check_type_of, format_of, limit_coding_of, limit_value_of, nature_of, off_ends_of,
-    valid_of,
-};
+use rows::letters::{Category, CheckType, Format, LimitCoding, LimitValue, Nature, OffEnds, Valid};
 use rows::records::{
     CafRow, CapRow, McfRow, OcfRow, OcpRow, PcfRow, PicRow, PidRow, PlfRow, TxfRow, TxpRow,
 };
@@ -31,7 +28,7 @@ pub fn pid_row(line: &[u8], ends: &[usize]) -> PidRow
         pi1: natural_at(line, ends, 3, 0),
         pi2: natural_at(line, ends, 4, 0),
         spid: Spid(natural_at(line, ends, 5, 0)),
-        valid: valid_of(letter_at(line, ends, 12)),
+        valid: Valid::from(letter_at(line, ends, 12)),
     }
 }
 
@@ -68,8 +65,8 @@ pub fn pcf_row(line: &[u8], ends: &[usize]) -> PcfRow
         ptc: natural_at(line, ends, 4, 0),
         pfc: natural_at(line, ends, 5, 0),
         valid: optional_name_at(line, ends, 7),
-        categ: category_of(letter_at(line, ends, 9)),
-        natur: nature_of(letter_at(line, ends, 10)),
+        categ: Category::from(letter_at(line, ends, 9)),
+        natur: Nature::from(letter_at(line, ends, 10)),
         curtx: optional_curve_at(line, ends, 11),
         valpar: integer_at(line, ends, 17, 1),
     }
@@ -80,10 +77,10 @@ pub fn caf_row(line: &[u8], ends: &[usize]) -> CafRow
 {
     CafRow {
         numbr: curve_at(line, ends, 0),
-        engfmt: format_of(letter_at(line, ends, 2)),
-        rawfmt: format_of(letter_at(line, ends, 3)),
+        engfmt: Format::from(letter_at(line, ends, 2)),
+        rawfmt: Format::from(letter_at(line, ends, 3)),
         ncurve: natural_at(line, ends, 6, 0),
-        inter: off_ends_of(letter_at(line, ends, 7)),
+        inter: OffEnds::from(letter_at(line, ends, 7)),
     }
 }
 
@@ -102,7 +99,7 @@ pub fn txf_row(line: &[u8], ends: &[usize]) -> TxfRow
 {
     TxfRow {
         numbr: curve_at(line, ends, 0),
-        rawfmt: format_of(letter_at(line, ends, 2)),
+        rawfmt: Format::from(letter_at(line, ends, 2)),
         nalias: natural_at(line, ends, 3, 0),
     }
 }
@@ -137,8 +134,8 @@ pub fn ocf_row(line: &[u8], ends: &[usize]) -> OcfRow
         name: name_at(line, ends, 0),
         nbchck: natural_at(line, ends, 1, 0),
         nbool: natural_at(line, ends, 2, 0),
-        inter: limit_value_of(letter_at(line, ends, 3)),
-        codin: limit_coding_of(letter_at(line, ends, 4)),
+        inter: LimitValue::from(letter_at(line, ends, 3)),
+        codin: LimitCoding::from(letter_at(line, ends, 4)),
     }
 }
 
@@ -148,7 +145,7 @@ pub fn ocp_row(line: &[u8], ends: &[usize]) -> OcpRow
     OcpRow {
         name: name_at(line, ends, 0),
         pos: natural_at(line, ends, 1, 0),
-        check: check_type_of(letter_at(line, ends, 2)),
+        check: CheckType::from(letter_at(line, ends, 2)),
         lvalu: integer_at(line, ends, 3, 0),
         hvalu: integer_at(line, ends, 4, 0),
         rlchk: optional_name_at(line, ends, 5),

@@ -5,10 +5,9 @@ use lib.Seq.{set_at}
 use Rattle.laws.proofs.Cases.{cond_cases}
 use Rattle.verdicts.specs.Entries.{table_count}
 use Rattle.tables.specs.Parts.{part_size, table_in}
-use Rattle.files.specs.declared.source.Got.{Got}
-use Rattle.files.specs.declared.source.Got.TheVariants.{Bytes, Missing, Failed}
+use Rattle.std.specs.Prelude.{Some, None, Ok, Err}
 use Rattle.directories.specs.declared.Loaded.{Loaded}
-use Rattle.files.specs.Reads.{Within}
+use Rattle.files.specs.Reads.{Got, Within}
 use Rattle.directories.specs.Space.{end_of, EndsInParts, has_part, TableLoaded, end_by, ends_after, is_read}
 use Rattle.directories.specs.Space.{ends_by, all_read, loaded_by, answer_for, SamePart, LoadedInto}
 use Rattle.directories.proofs.SpaceLaws.{beside}
@@ -61,12 +60,12 @@ module _ (t : ℕ) (gots : List Got) (count : length gots ≡ t) (below : t < ta
       ∙ append_assoc (ends_by 0 gots) (end_by t g ∷ []) (replicate (table_count - (t + 1)) 0))
 
   ends_next : (g : Got) → ends_after t g ends ≡ ends_by 0 (gots ++ g ∷ []) ++ replicate (table_count - (t + 1)) 0
-  ends_next (Bytes n) =
+  ends_next (Ok (Some n)) =
       let l : length (ends_by 0 gots) ≡ t = ends_length 0 gots ∙ count in
       ap (λ (s : List ℕ). set s t (end_of t n)) one_left
-      ∙ set_at (ends_by 0 gots) 0 (replicate (table_count - (t + 1)) 0) (end_of t n) t l ∙ joined (Bytes n)
-  ends_next Missing = one_left ∙ joined Missing
-  ends_next (Failed e) = one_left ∙ joined (Failed e)
+      ∙ set_at (ends_by 0 gots) 0 (replicate (table_count - (t + 1)) 0) (end_of t n) t l ∙ joined (Ok (Some n))
+  ends_next (Ok None) = one_left ∙ joined (Ok None)
+  ends_next (Err e) = one_left ∙ joined (Err e)
 
 -- The turns of the loop
 
@@ -77,8 +76,8 @@ pub record LoadedSo (t : ℕ) (ends : List ℕ) (whole : Bool) (before after : L
   pub sofar : ends ≡ ends_by 0 answers ++ replicate (table_count - t) 0
   pub all : whole ≡ all_read answers
   pub within : (u : ℕ) → Within (answer_for answers u) part_size
-  pub room : (u : ℕ) → has_part before u ≡ false → answer_for answers u ≡ Missing
-  pub untouched : (u : ℕ) → answer_for answers u ≡ Missing → SamePart before after u
+  pub room : (u : ℕ) → has_part before u ≡ false → answer_for answers u ≡ Ok None
+  pub untouched : (u : ℕ) → answer_for answers u ≡ Ok None → SamePart before after u
 
 pub so_none : (space : List ℕ) → LoadedSo 0 (replicate table_count 0) true space space
 unfolding ends_by all_read
@@ -102,16 +101,16 @@ module _ {t : ℕ} {ends : List ℕ} {whole : Bool} {before mid : List ℕ} (so 
         all = w ∙ ap₂ (λ (a b : Bool). a && b) so.all l.told ∙ all_snoc gots g;
         within = λ u. snoc_answer (λ x. Within x part_size) gots g u (λ _. l.into.within) (λ _. so.within u);
         room =
-            λ u no. snoc_answer (λ x. x ≡ Missing) gots g u
+            λ u no. snoc_answer (λ x. x ≡ Ok None) gots g u
             (λ e. l.into.room (same_room t mid before size ∙ ap (has_part before) (sym (e ∙ so.count)) ∙ no)) (λ _. so.room u no);
         untouched =
-            λ u. snoc_answer (λ x. x ≡ Missing → SamePart before after u) gots g u
+            λ u. snoc_answer (λ x. x ≡ Ok None → SamePart before after u) gots g u
             (λ e m k h. ap (λ (s : List ℕ). get_or s (u * part_size + k) 0) (l.into.missing m) ∙ so.untouched u (past u e) k h)
             (λ d m k h. beside t l.into u (λ e. d (e ∙ sym so.count)) k h ∙ so.untouched u m k h);
       }
     where
-      past : (u : ℕ) → u ≡ length so.answers → answer_for so.answers u ≡ Missing
-      past u e = get_or-eq_default so.answers Missing {n = u} (omega arith)
+      past : (u : ℕ) → u ≡ length so.answers → answer_for so.answers u ≡ Ok None
+      past u e = get_or-eq_default so.answers (Ok None) {n = u} (omega arith)
 
 same_loaded : {a b : List ℕ} {x y : Bool} → a ≡ b → x ≡ y → ◌≡◌ {A = Loaded} (record { ends = a; whole = x }) (record { ends = b; whole = y })
 same_loaded p q = rw (p, q)
@@ -144,9 +143,9 @@ end_in t count =
     (λ _. inl refl)
 
 by_in : (t : ℕ) (g : Got) → In t (end_by t g)
-by_in t (Bytes n) = end_in t n
-by_in t Missing = inl refl
-by_in t (Failed e) = inl refl
+by_in t (Ok (Some n)) = end_in t n
+by_in t (Ok None) = inl refl
+by_in t (Err e) = inl refl
 
 end_there : (t count : ℕ) → t < table_count → count ≤ part_size → end_of t count ≡ t * part_size + count
 unfolding end_of
@@ -168,7 +167,7 @@ module _ {loaded : Loaded} {before after : List ℕ} (l : LoadedInto loaded befo
   apart = record { own = λ t. subst (In t) (sym (end_is t)) (by_in t (answer_for l.answers t)) }
 
   -- a table is the bytes that were read, at the start of its part
-  pub table_is : (t count : ℕ) → t < table_count → answer_for l.answers t ≡ Bytes count → table_in after loaded.ends t ≡ take count
+  pub table_is : (t count : ℕ) → t < table_count → answer_for l.answers t ≡ Ok (Some count) → table_in after loaded.ends t ≡ take count
       (drop (t * part_size) after)
   unfolding table_in
   table_is t count h is =

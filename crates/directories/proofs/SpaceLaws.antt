@@ -5,23 +5,22 @@ use borrow.Rule.Slice.PartMut.{mid_of, put_mid, mid_len, put_same, take_put, dro
 use Rattle.laws.proofs.Cases.{bool_cases, and_both, false≢true}
 use Rattle.verdicts.specs.Entries.{table_count}
 use Rattle.tables.specs.Parts.{part_size}
-use Rattle.files.specs.declared.source.Got.{Got}
-use Rattle.files.specs.declared.source.Got.TheVariants.{Bytes, Missing, Failed}
-use Rattle.files.specs.Reads.{Within, ReadInto}
+use Rattle.std.specs.Prelude.{Some, None, Ok, Err}
+use Rattle.files.specs.Reads.{Got, Within, ReadInto}
 use Rattle.directories.specs.Space.{end_of, has_part, TableInto, TableLoaded, SamePart}
 
 within_part : (got : Got) (before after : List ℕ) (n : ℕ) → length after ≤ n → ReadInto got before after → Within got n
-within_part (Bytes k) before after n h r = omega arith
-within_part Missing before after n h r = tt
-within_part (Failed e) before after n h r = tt
+within_part (Ok (Some k)) before after n h r = omega arith
+within_part (Ok None) before after n h r = tt
+within_part (Err e) before after n h r = tt
 
-as_it_was : (got : Got) (before after : List ℕ) → ReadInto got before after → got ≡ Missing → after ≡ before
-as_it_was (Bytes k) before after r e = cc
-as_it_was Missing before after r e = r
-as_it_was (Failed k) before after r e = cc
+as_it_was : (got : Got) (before after : List ℕ) → ReadInto got before after → got ≡ Ok None → after ≡ before
+as_it_was (Ok (Some k)) before after r e = cc
+as_it_was (Ok None) before after r e = r
+as_it_was (Err k) before after r e = cc
 
 -- where there is no room nothing is read
-pub into_none : (t : ℕ) (space : List ℕ) → TableInto t Missing space space
+pub into_none : (t : ℕ) (space : List ℕ) → TableInto t (Ok None) space space
 into_none t space = record { within = tt; room = λ _. refl; missing = λ _. refl; front = refl; rest = refl }
 
 module _ (t : ℕ) (got : Got) (space part : List ℕ) (below : t < table_count) (fits : t * part_size + part_size ≤ length space) where
@@ -71,14 +70,14 @@ module _ (t : ℕ) {got : Got} {before after : List ℕ} (into : TableInto t got
 
 -- what a table's reading leaves in the ends, by the answer
 module _ (t : ℕ) {got : Got} {before after : List ℕ} (into : TableInto t got before after) (ends : List ℕ) where
-  pub loaded_bytes : {count e : ℕ} {ends' : List ℕ} → got ≡ Bytes count → e ≡ end_of t count → ends' ≡ set ends t e
+  pub loaded_bytes : {count e : ℕ} {ends' : List ℕ} → got ≡ Ok (Some count) → e ≡ end_of t count → ends' ≡ set ends t e
       → TableLoaded t true before after ends ends'
   loaded_bytes {count} is v s =
-      record { answer = Bytes count; into = subst (λ (g : Got). TableInto t g before after) is into; kept = s ∙ ap (set ends t) v; told = refl }
+      record { answer = Ok (Some count); into = subst (λ (g : Got). TableInto t g before after) is into; kept = s ∙ ap (set ends t) v; told = refl }
 
-  pub loaded_missing : got ≡ Missing → TableLoaded t true before after ends ends
-  loaded_missing is = record { answer = Missing; into = subst (λ (g : Got). TableInto t g before after) is into; kept = refl; told = refl }
+  pub loaded_missing : got ≡ Ok None → TableLoaded t true before after ends ends
+  loaded_missing is = record { answer = Ok None; into = subst (λ (g : Got). TableInto t g before after) is into; kept = refl; told = refl }
 
-  pub loaded_failed : {error : ErrorKind} → got ≡ Failed error → TableLoaded t false before after ends ends
+  pub loaded_failed : {error : ErrorKind} → got ≡ Err error → TableLoaded t false before after ends ends
   loaded_failed {error} is =
-      record { answer = Failed error; into = subst (λ (g : Got). TableInto t g before after) is into; kept = refl; told = refl }
+      record { answer = Err error; into = subst (λ (g : Got). TableInto t g before after) is into; kept = refl; told = refl }

@@ -1,12 +1,10 @@
 -- The tables in the space that they are read into, each in its own part.
-use Rattle.std.specs.Prelude.{◌≡◌, ℕ, suc, ◌+◌, ◌*◌, ◌<◌, ◌≤◌, Bool, true, false, cond, ◌&&◌, ◌⊎◌, List, [], ◌∷◌, length, take, drop, replicate, nat_le, nat_lt, slice_index, slice_index_or, slice_set, refl}
+use Rattle.std.specs.Prelude.{◌≡◌, ℕ, suc, ◌+◌, ◌*◌, ◌<◌, ◌≤◌, Bool, true, false, cond, ◌&&◌, ◌⊎◌, List, [], ◌∷◌, length, take, drop, replicate, nat_le, nat_lt, slice_index, slice_index_or, slice_set, refl, Some, None, Ok, Err}
 use Rattle.std.specs.declared.io.ErrorKind.TheVariants.{PermissionDenied}
 use Rattle.verdicts.specs.Entries.{table_count}
 use Rattle.tables.specs.Parts.{part_size}
-use Rattle.files.specs.declared.source.Got.{Got}
-use Rattle.files.specs.declared.source.Got.TheVariants.{Bytes, Missing, Failed}
 use Rattle.directories.specs.declared.Loaded.{Loaded}
-use Rattle.files.specs.Reads.{Within}
+use Rattle.files.specs.Reads.{Got, Within}
 
 -- where a table of so many bytes ends; 0 for what is no table, or more than its room
 unfoldable pub end_of : ℕ → ℕ → ℕ
@@ -27,30 +25,30 @@ pub record TableInto (t : ℕ) (got : Got) (before after : List ℕ) : Type 0 wh
   -- no more than its part was read
   pub within : Within got part_size
   -- and nothing where there is no such part
-  pub room : has_part before t ≡ false → got ≡ Missing
+  pub room : has_part before t ≡ false → got ≡ Ok None
   -- a table that is missing leaves the space as it was
-  pub missing : got ≡ Missing → after ≡ before
+  pub missing : got ≡ Ok None → after ≡ before
   -- any other leaves it so before and behind its part
   pub front : take (t * part_size) after ≡ take (t * part_size) before
   pub rest : drop (t * part_size + part_size) after ≡ drop (t * part_size + part_size) before
 
 -- where a table ends by what the system answered; one that isn't there, or can't be read, ends at 0
 abbrev pub end_by : ℕ → Got → ℕ
-end_by t (Bytes count) = end_of t count
-end_by t Missing = 0
-end_by t (Failed e) = 0
+end_by t (Ok (Some count)) = end_of t count
+end_by t (Ok None) = 0
+end_by t (Err e) = 0
 
 -- the ends after table t is read
 abbrev pub ends_after : ℕ → Got → List ℕ → List ℕ
-ends_after t (Bytes count) ends = slice_set ends t (end_of t count)
-ends_after t Missing ends = ends
-ends_after t (Failed e) ends = ends
+ends_after t (Ok (Some count)) ends = slice_set ends t (end_of t count)
+ends_after t (Ok None) ends = ends
+ends_after t (Err e) ends = ends
 
 -- a file that isn't there is an empty table; only one that can't be read stops an import
 abbrev pub is_read : Got → Bool
-is_read (Bytes count) = true
-is_read Missing = true
-is_read (Failed e) = false
+is_read (Ok (Some count)) = true
+is_read (Ok None) = true
+is_read (Err e) = false
 
 -- the space and the ends before and after table t is loaded, and whether it could be read:
 -- all by one answer of the system
@@ -76,7 +74,7 @@ loaded_by gots = record { ends = ends_by 0 gots; whole = all_read gots }
 
 -- the answer for table t, from 0; past the last there is no table
 abbrev pub answer_for : List Got → ℕ → Got
-answer_for gots t = slice_index_or gots t Missing
+answer_for gots t = slice_index_or gots t (Ok None)
 
 -- the part of table t holds what it held
 abbrev pub SamePart : (before after : List ℕ) → ℕ → Type 0
@@ -89,9 +87,9 @@ pub record LoadedInto (loaded : Loaded) (before after : List ℕ) : Type 0 where
   pub count : length answers ≡ table_count
   pub answered : loaded ≡ loaded_by answers
   pub within : (t : ℕ) → Within (answer_for answers t) part_size
-  pub room : (t : ℕ) → has_part before t ≡ false → answer_for answers t ≡ Missing
+  pub room : (t : ℕ) → has_part before t ≡ false → answer_for answers t ≡ Ok None
   -- what is missing leaves its part as it was, and so are all bytes behind the last part
-  pub untouched : (t : ℕ) → answer_for answers t ≡ Missing → SamePart before after t
+  pub untouched : (t : ℕ) → answer_for answers t ≡ Ok None → SamePart before after t
 
 -- nothing is loaded
 abbrev pub not_loaded : Loaded
@@ -103,8 +101,8 @@ DirectoryInto loaded before after = ((loaded ≡ not_loaded) × (after ≡ befor
 
 pub record Examples : Type 0 where
   -- a table of five bytes, one that isn't there, and one of three
-  pub three : loaded_by (Bytes 5 ∷ Missing ∷ Bytes 3 ∷ []) ≡ record { ends = 5 ∷ 0 ∷ 131077 ∷ []; whole = true }
-  pub failed : all_read (Bytes 5 ∷ Failed PermissionDenied ∷ []) ≡ false
+  pub three : loaded_by (Ok (Some 5) ∷ Ok None ∷ Ok (Some 3) ∷ []) ≡ record { ends = 5 ∷ 0 ∷ 131077 ∷ []; whole = true }
+  pub failed : all_read (Ok (Some 5) ∷ Err PermissionDenied ∷ []) ≡ false
 
 pub examples : Examples
 unfolding loaded_by ends_by all_read end_of

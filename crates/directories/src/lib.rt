@@ -8,7 +8,7 @@ ghost use Rattle.directories.specs.Space.{DirectoryInto, LoadedInto, TableInto, 
 
 use files::errors::say_error;
 use files::path::{MOST_PATH, table_path};
-use files::source::{Got, open_file, read_file};
+use files::source::{open_file, read_file};
 use lines::columns::keep_at;
 use std::io::{ErrorKind, Read};
 use std::num::wrapping_add_usize;
@@ -46,6 +46,7 @@ pub fn directory_error(rt: &impl Files, directory: &[u8]) -> Option<ErrorKind> {
 pub const SPACE: usize = TABLES * ROOM;
 
 // Where each table ends in the space, and whether all were read. A table that isn't there ends at 0.
+// No Option of ends: where one table was not read, the ends of the others are told all the same.
 #[derive(Clone, Copy)]
 pub struct Loaded {
     pub ends: [usize; TABLES],
@@ -69,16 +70,21 @@ fn say_failed(rt: &impl Print, table: TableNumber, error: ErrorKind) {
 }
 
 // The table with this number, from 0, into its part of the space.
-fn read_table(rt: &impl Files, directory: &[u8], t: usize, space: &mut [u8]) -> Got
+fn read_table(
+    rt: &impl Files,
+    directory: &[u8],
+    t: usize,
+    space: &mut [u8],
+) -> Result<Option<usize>, ErrorKind>
     ensures { TableInto t result space.old space.new }
 {
     if TABLES <= t {
-        return Got::Missing;
+        return Ok(None);
     }
     let from = t * ROOM;
     let to = from + ROOM;
     if space.len() < to {
-        return Got::Missing;
+        return Ok(None);
     }
     let mut path = [0u8; MOST_PATH];
     let length = table_path(directory, TableNumber(t + 1), &mut path);
@@ -109,15 +115,15 @@ fn load_table(
     ensures { TableLoaded t result space.old space.new ends.old ends.new }
 {
     match read_table(rt, directory, t, space) {
-        Got::Bytes(count) => {
+        Ok(Some(count)) => {
             keep_at(ends, t, end_of(t, count));
             true
         }
-        Got::Missing => {
+        Ok(None) => {
             say_missing(rt, TableNumber(wrapping_add_usize(t, 1)));
             true
         }
-        Got::Failed(error) => {
+        Err(error) => {
             say_failed(rt, TableNumber(wrapping_add_usize(t, 1)), error);
             false
         }

@@ -1,5 +1,6 @@
 -- Categories case by case.
 use mathlib.Core.Path.{◌≡◌, sym, ◌∙◌}
+use Rattle.std.specs.Prelude.{Option, Some, None}
 use Prim.Native.Nat.{ℕ}
 use native.Mathlib.Omega.{arith}
 use lib.IntN.{ℤ}
@@ -13,23 +14,21 @@ use Rattle.database.specs.Rows.{Rows}
 use Rattle.polynomials.specs.Polynomial.{polynomial_at}
 use Rattle.polynomials.specs.declared.Polynomial.{Polynomial}
 use Rattle.polynomial_curves.specs.Polynomials.{polynomial_for}
-use Rattle.polynomial_curves.specs.declared.Found.{Found}
-use Rattle.polynomial_curves.specs.declared.Found.TheVariants as found
 use Rattle.curve_values.specs.Scale.{scale_of, on_scale}
 use Rattle.texts.specs.Texts.{Text, text_for}
 use Rattle.engineering.specs.Engineering.{Engineered, double, as_value, as_text, by_polynomial, numeric_value, by_category, engineered}
 
 -- N, by what CURTX names
-module _ (rows : Rows) (curtx : OptionalCurve) (raw : ℤ) {f : Found} (named : f ≡ polynomial_for rows curtx) where
-  pub numeric_polynomial : (p : Polynomial) {x : Float} {z : ℤ} → f ≡ found.Is p → x ≡ polynomial_at p z → z ≡ raw
+module _ (rows : Rows) (curtx : OptionalCurve) (raw : ℤ) {f : Option Polynomial} (named : f ≡ polynomial_for rows curtx) where
+  pub numeric_polynomial : (p : Polynomial) {x : Float} {z : ℤ} → f ≡ Some p → x ≡ polynomial_at p z → z ≡ raw
       → answer (double x) ≡ numeric_value rows curtx raw
   unfolding numeric_value by_polynomial
-  numeric_polynomial p e h q = let n : polynomial_for rows curtx ≡ found.Is p = sym named ∙ e in rw (n, h, q)
+  numeric_polynomial p e h q = let n : polynomial_for rows curtx ≡ Some p = sym named ∙ e in rw (n, h, q)
 
-  pub numeric_other : {x : Outcome Engineered} {o : Outcome ℤ} {z : ℤ} → f ≡ found.Nothing → x ≡ and_then o as_value
+  pub numeric_other : {x : Outcome Engineered} {o : Outcome ℤ} {z : ℤ} → f ≡ None → x ≡ and_then o as_value
       → o ≡ on_scale (scale_of rows curtx) z → z ≡ raw → x ≡ numeric_value rows curtx raw
   unfolding numeric_value by_polynomial
-  numeric_other e h k q = let n : polynomial_for rows curtx ≡ found.Nothing = sym named ∙ e in h ∙ rw (n, k, q)
+  numeric_other e h k q = let n : polynomial_for rows curtx ≡ None = sym named ∙ e in h ∙ rw (n, k, q)
 
 module _ (rows : Rows) {kind : Category} (curtx : OptionalCurve) (raw : ℤ) {z : ℤ} (q : z ≡ raw) where
   pub numeric_value_lem : {x : Outcome Engineered} → kind ≡ category.Numeric → x ≡ numeric_value rows curtx z → x ≡ by_category rows kind curtx raw
@@ -53,7 +52,7 @@ by_row rows row raw q h = h ∙ rw q
 -- 02, P1: "31 is for caf curves only", and so is 30: where CURTX of an N parameter names a polynomial, it is answered
 -- whatever the raw value is
 module _ (rows : Rows) (row : PcfRow) (p : Polynomial) (numeric : row.categ ≡ category.Numeric)
-    (named : polynomial_for rows row.curtx ≡ found.Is p) (raw : ℤ) where
+    (named : polynomial_for rows row.curtx ≡ Some p) (raw : ℤ) where
   pub polynomial_answered : engineered rows row raw ≡ answer (double (polynomial_at p raw))
   unfolding engineered by_category numeric_value by_polynomial
   polynomial_answered = rw (numeric, named)

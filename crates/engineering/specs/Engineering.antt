@@ -1,5 +1,5 @@
 -- Engineering values.
-use Rattle.std.specs.Prelude.{◌≡◌, refl, false, [], ℤ, pos, Float}
+use Rattle.std.specs.Prelude.{◌≡◌, refl, false, [], ℤ, pos, Float, Option, Some, None, Result, Ok, Err}
 use Rattle.std.specs.Float.{binary64}
 use Rattle.std.specs.Float.Ieee.{add, mul, of_int, of_bits}
 use Rattle.name_bytes.specs.Names.{curve_name_of}
@@ -11,19 +11,18 @@ use Rattle.calibration.specs.Nearest.{nearest_of, not_above}
 use Rattle.outcomes.specs.Outcome.{Outcome, answer, refused, and_then}
 use Rattle.outcomes.specs.Values.{Value, number, value_of}
 use Rattle.outcomes.specs.Refusals.{refusal_number, refusal_place, refused_by}
+use Rattle.outcomes.specs.declared.Refusal.{Refusal}
 use Rattle.outcomes.specs.declared.Refusal.TheVariants.{NoText}
 use Rattle.database.specs.Rows.{Rows}
 use Rattle.database.specs.GoodRows.{among}
 use Rattle.polynomials.specs.Polynomial.{multiply_add, horner, polynomial_at}
 use Rattle.polynomials.specs.declared.Polynomial.{Polynomial}
 use Rattle.polynomial_curves.specs.Polynomials.{polynomial_for}
-use Rattle.polynomial_curves.specs.declared.Found.{Found}
-use Rattle.polynomial_curves.specs.declared.Found.TheVariants as found
 use Rattle.curve_values.specs.Scale.{scale_of, on_scale}
 use Rattle.texts.specs.Texts as texts
 use Rattle.texts.specs.Texts.{found_in, text_in, text_for}
 use Rattle.engineering.specs.declared.engineer.Engineered as code
-use Rattle.engineering.specs.declared.engineer.Engineered.TheVariants.{Is, Double, Text, Refused}
+use Rattle.engineering.specs.declared.engineer.Engineered.TheVariants.{Is, Double, Text}
 
 -- 02, P1: "An engineering answer is now an integer, a double or a text. Strings stay the packet's parts": a value is an
 -- integer or a part
@@ -39,9 +38,9 @@ unfoldable pub as_text : texts.Text → Outcome Engineered
 as_text t = answer (text t)
 
 -- the value of a polynomial; without one, this
-unfoldable pub by_polynomial : Found → ℤ → Outcome Engineered → Outcome Engineered
-by_polynomial (found.Is p) raw other = answer (double (polynomial_at p raw))
-by_polynomial found.Nothing raw other = other
+unfoldable pub by_polynomial : Option Polynomial → ℤ → Outcome Engineered → Outcome Engineered
+by_polynomial (Some p) raw other = answer (double (polynomial_at p raw))
+by_polynomial None raw other = other
 
 -- 02, P1: "N parameters may name either": a polynomial, or a row of caf
 unfoldable pub numeric_value : Rows → OptionalCurve → ℤ → Outcome Engineered
@@ -58,11 +57,11 @@ unfoldable pub engineered : Rows → PcfRow → ℤ → Outcome Engineered
 engineered rows row raw = by_category rows row.categ row.curtx raw
 
 -- 01's number and values of each case
-unfoldable pub said_engineered : code.Engineered → Outcome Engineered
-said_engineered (Is v) = answer (value (value_of v))
-said_engineered (Double x) = answer (double x)
-said_engineered (Text row from bytes) = answer (text (record { row = row.0; start = from.0; bytes = bytes }))
-said_engineered (Refused refusal) = refused_by refusal
+unfoldable pub said_engineered : Result code.Engineered Refusal → Outcome Engineered
+said_engineered (Ok (Is v)) = answer (value (value_of v))
+said_engineered (Ok (Double x)) = answer (double x)
+said_engineered (Ok (Text t)) = answer (text (record { row = t.row.0; start = t.start.0; bytes = t.bytes }))
+said_engineered (Err refusal) = refused_by refusal
 
 abbrev without : OptionalCurve
 without = record { given = false; name = curve_name_of [] }
@@ -78,9 +77,9 @@ pub record Examples : Type 0 where
   pub numeric : by_category (among []) category.Numeric without (pos 7) ≡ answer (value (number (pos 7)))
   pub string : by_category (among []) category.Text without (pos 7) ≡ answer (value (number (pos 7)))
   pub status : by_category (among []) category.Status without (pos 7) ≡ refused 32 0
-  pub said : said_engineered (Refused NoText) ≡ refused 32 0
+  pub said : said_engineered (Err NoText) ≡ refused 32 0
   -- 0.5 + 2 x at 7
-  pub polynomial : by_polynomial (found.Is half) (pos 7) (refused 31 0) ≡ answer (double (of_bits binary64 0x402D000000000000))
+  pub polynomial : by_polynomial (Some half) (pos 7) (refused 31 0) ≡ answer (double (of_bits binary64 0x402D000000000000))
 
 pub examples : Examples
 unfolding

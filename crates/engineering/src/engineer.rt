@@ -1,48 +1,23 @@
 // Engineering values.
 ghost use Rattle.std.specs.Prelude.{◌≡◌, map};
-ghost use Rattle.outcomes.specs.Outcome.{and_then};
 ghost use Rattle.database.specs.Arrays.{database, answers};
-ghost use Rattle.curve_values.specs.Along.{said_result};
-ghost use Rattle.texts.specs.Texts.{said_text};
-ghost use Rattle.engineering.specs.Engineering.{as_value, as_text, numeric_value, by_category, engineered, said_engineered};
+ghost use Rattle.engineering.specs.Engineering.{numeric_value, by_category, engineered, said_engineered};
 
-use curve_values::along::CurveResult;
 use curve_values::scale::scale_value;
 use outcomes::{Refusal, Value};
-use polynomial_curves::{Found, find_polynomial};
+use polynomial_curves::find_polynomial;
 use polynomials::evaluate;
 use rows::letters::Category;
 use rows::records::{OptionalCurve, PcfRow};
 use tables::TABLES;
-use texts::{TextResult, text_value};
-use units::{RowNumber, TableOffset};
+use texts::{Text, text_value};
 
-// A value; the value of a polynomial; a text as its txp row, and ALTXT's place in that table and its length; or why
-// there is none.
+// A value, the value of a polynomial, or a text.
 #[derive(Clone, Copy)]
 pub enum Engineered {
     Is(Value),
     Double(f64),
-    Text(RowNumber, TableOffset, usize),
-    Refused(Refusal),
-}
-
-fn as_value(res: CurveResult) -> Engineered
-    ensures { said_engineered result ≡ and_then (said_result res) as_value }
-{
-    match res {
-        CurveResult::Is(v) => Engineered::Is(Value::Number(v)),
-        CurveResult::Refused(refusal) => Engineered::Refused(refusal),
-    }
-}
-
-fn as_text(res: TextResult) -> Engineered
-    ensures { said_engineered result ≡ and_then (said_text res) as_text }
-{
-    match res {
-        TextResult::Is(row, from, bytes) => Engineered::Text(row, from, bytes),
-        TextResult::Refused(refusal) => Engineered::Refused(refusal),
-    }
+    Text(Text),
 }
 
 // By the polynomial that CURTX names, else along its curve or as it was read.
@@ -53,13 +28,16 @@ fn numeric_value(
     columns: &[u16],
     curtx: OptionalCurve,
     raw: i64,
-) -> Engineered
+) -> Result<Engineered, Refusal>
     ensures { said_engineered result
         ≡ numeric_value (answers (database (map (λ x. x.now) tables.entry) words.now links.now columns.now)) curtx raw }
 {
     match find_polynomial(tables, words, links, columns, curtx) {
-        Found::Is(p) => Engineered::Double(evaluate(p, raw)),
-        Found::Nothing => as_value(scale_value(tables, words, links, columns, curtx, raw)),
+        Some(p) => Ok(Engineered::Double(evaluate(p, raw))),
+        None => {
+            let v = scale_value(tables, words, links, columns, curtx, raw)?;
+            Ok(Engineered::Is(Value::Number(v)))
+        }
     }
 }
 
@@ -72,7 +50,7 @@ fn by_category(
     category: Category,
     curtx: OptionalCurve,
     raw: i64,
-) -> Engineered
+) -> Result<Engineered, Refusal>
     ensures { said_engineered result
         ≡ by_category (answers (database (map (λ x. x.now) tables.entry) words.now links.now columns.now)) category curtx raw }
 {
@@ -80,9 +58,10 @@ fn by_category(
         Category::Numeric => numeric_value(tables, words, links, columns, curtx, raw),
         Category::Status => {
             let name = curtx.name;
-            as_text(text_value(tables, words, links, columns, name, raw))
+            let text = text_value(tables, words, links, columns, name, raw)?;
+            Ok(Engineered::Text(text))
         }
-        Category::Text => Engineered::Is(Value::Number(raw)),
+        Category::Text => Ok(Engineered::Is(Value::Number(raw))),
     }
 }
 
@@ -94,7 +73,7 @@ pub fn engineer_value(
     columns: &[u16],
     row: PcfRow,
     raw: i64,
-) -> Engineered
+) -> Result<Engineered, Refusal>
     ensures { said_engineered result
         ≡ engineered (answers (database (map (λ x. x.now) tables.entry) words.now links.now columns.now))
         row raw }

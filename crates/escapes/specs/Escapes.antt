@@ -1,10 +1,9 @@
 -- The bytes that a part of a line stands for.
 use Rattle.std.specs.Prelude.{ℕ, ◌+◌, ◌-◌, ◌*◌, ◌≤◌, ◌≡◌, refl, Bool, cond, List, [], ◌∷◌, ◌++◌, eqb, ltb, length, get_or, take}
+use Rattle.std.specs.Prelude as rust
 use Rattle.std.proofs.Math.Option.{Option, some, none}
 use Rattle.laws.specs.Text.{ascii, char}
 use Rattle.numbers.specs.Number.{digit_of}
-use Rattle.escapes.specs.declared.Bytes.{Bytes}
-use Rattle.escapes.specs.declared.Bytes.TheVariants.{Are, Unread}
 
 -- the byte of two hexadecimal digits, either case; 256 where one is none
 unfoldable pub byte_of : (high low : ℕ) → ℕ
@@ -57,14 +56,14 @@ unfoldable pub where_room : (room : ℕ) → List ℕ → Option (List ℕ) → 
 where_room room raw bytes = cond (ltb room (length raw)) none bytes
 
 -- what is read of a buffer
-unfoldable pub read_in : Bytes → List ℕ → Option (List ℕ)
-read_in (Are n) out = some (take n out)
-read_in Unread out = none
+unfoldable pub read_in : rust.Option ℕ → List ℕ → Option (List ℕ)
+read_in (rust.Some n) out = some (take n out)
+read_in rust.None out = none
 
 -- and that it is no more than so many bytes
-abbrev pub NoMoreThan : Bytes → ℕ → Type 0
-NoMoreThan (Are n) most = n ≤ most
-NoMoreThan Unread most = Unit {0}
+abbrev pub NoMoreThan : rust.Option ℕ → ℕ → Type 0
+NoMoreThan (rust.Some n) most = n ≤ most
+NoMoreThan rust.None most = Unit {0}
 
 pub record Examples : Type 0 where
   pub row : row_bytes (ascii "A|\\7C") ≡ some (65 ∷ 9 ∷ 124 ∷ 10 ∷ [])

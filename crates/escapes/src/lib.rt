@@ -12,13 +12,6 @@ use lines::columns::part;
 // A byte more than a table may have, so that one that is too long can be asked about.
 pub const ROOM: usize = 65537;
 
-// How many bytes stand at the start of the buffer, or that the part can't be read.
-#[derive(Clone, Copy)]
-pub enum Bytes {
-    Are(usize),
-    Unread,
-}
-
 // The value of a hexadecimal digit, either case; 16 where the character is none.
 fn digit(c: u8) -> u8
     ensures { result ≡ digit_of c }
@@ -66,13 +59,13 @@ fn byte_at(raw: &[u8], i: usize) -> usize
     byte_of(raw[i], raw[i + 1])
 }
 
-// A text: `\` and two digits are any byte.
-pub fn unescape(raw: &[u8], out: &mut [u8]) -> Bytes
+// A text: `\` and two digits are any byte. How many bytes it is, or none where it can't be read.
+pub fn unescape(raw: &[u8], out: &mut [u8]) -> Option<usize>
     ensures out_after { read_in result out.new ≡ where_room (length out.old) raw.now (unescaped raw.now) }
     ensures no_more_than { NoMoreThan result (length raw.now) }
 {
     if out.len() < raw.len() {
-        return Bytes::Unread;
+        return None;
     }
     let mut i: usize = 0;
     let mut n: usize = 0;
@@ -82,7 +75,7 @@ pub fn unescape(raw: &[u8], out: &mut [u8]) -> Bytes
         if c == b'\\' {
             let byte = byte_at(raw, i);
             if 255 < byte {
-                return Bytes::Unread;
+                return None;
             }
             out[n] = byte as u8;
             n += 1;
@@ -92,15 +85,15 @@ pub fn unescape(raw: &[u8], out: &mut [u8]) -> Bytes
             n += 1;
         }
     }
-    Bytes::Are(n)
+    Some(n)
 }
 
 // Bytes of two digits each. A space may stand between two of them.
-pub fn read_hex(raw: &[u8], out: &mut [u8]) -> Bytes
+pub fn read_hex(raw: &[u8], out: &mut [u8]) -> Option<usize>
     ensures { read_in result out.new ≡ where_room (length out.old) raw.now (hex_bytes raw.now) }
 {
     if out.len() < raw.len() {
-        return Bytes::Unread;
+        return None;
     }
     let mut i: usize = 0;
     let mut n: usize = 0;
@@ -110,14 +103,14 @@ pub fn read_hex(raw: &[u8], out: &mut [u8]) -> Bytes
         } else {
             let byte = byte_at(raw, i);
             if 255 < byte {
-                return Bytes::Unread;
+                return None;
             }
             out[n] = byte as u8;
             n += 1;
             i += 2;
         }
     }
-    Bytes::Are(n)
+    Some(n)
 }
 
 // Whether a `\` stands at the very end.
@@ -131,26 +124,24 @@ fn is_open(raw: &[u8]) -> bool
 }
 
 // A line feed after the first n bytes.
-fn end_row(out: &mut [u8], n: usize) -> Bytes
+fn end_row(out: &mut [u8], n: usize) -> Option<usize>
     requires { n < length out.old }
     ensures { read_in result out.new ≡ ended_row (some (take n out.old)) }
 {
     out[n] = 10;
-    Bytes::Are(n + 1)
+    Some(n + 1)
 }
 
 // A row: a line feed ends it, unless a `\` at the very end leaves it out.
-pub fn unescape_row(raw: &[u8], out: &mut [u8]) -> Bytes
+pub fn unescape_row(raw: &[u8], out: &mut [u8]) -> Option<usize>
     ensures { read_in result out.new ≡ where_room (length out.old) (raw.now ++ 10 ∷ []) (row_bytes raw.now) }
 {
     if out.len() <= raw.len() {
-        return Bytes::Unread;
+        return None;
     }
     if is_open(raw) {
         return unescape(part(raw, 0, raw.len() - 1), out);
     }
-    match unescape(raw, out) {
-        Bytes::Are(n) => end_row(out, n),
-        Bytes::Unread => Bytes::Unread,
-    }
+    let n = unescape(raw, out)?;
+    end_row(out, n)
 }

@@ -7,6 +7,7 @@ use native.Mathlib.Omega.{arith}
 use lib.ListN.{length, get_or}
 use lib.Seq.{sets}
 use borrow.Author.Tests.{le-leb}
+use Rattle.std.specs.Prelude.{Option, Some, None, Result, Ok, Err}
 use Rattle.laws.specs.Prefix.{all_from}
 use Rattle.laws.proofs.Cases.{bool_cases}
 use Rattle.laws.proofs.Places.{keep_all, all_same}
@@ -18,9 +19,9 @@ use Rattle.verdicts.specs.Places.{entry_at, verdict_at, place}
 use Rattle.verdicts.proofs.EntryLaws.{place_there, row_at}
 use Rattle.causes.specs.Causes.{speaks_of, causes}
 use Rattle.meaning.specs.Kept.{no_entry, kept_entry}
-use Rattle.tables.specs.Sizes.{fit, refused_by, sizes_of}
-use Rattle.cells.specs.declared.Cell.{Cell}
-use Rattle.cells.specs.declared.Cell.TheVariants.{At, NoCell}
+use Rattle.tables.specs.Sizes.{fit, refused_by, size_refusal, sizes_of}
+use Rattle.tables.specs.declared.SizeError.{SizeError}
+use Rattle.tables.specs.declared.SizeError.TheVariants.{TooLong, TooManyRows}
 use Rattle.cells.specs.Cells.{have_cells, is_row, cell_of}
 use Rattle.cells.proofs.CellLaws.{is_row_lem}
 use Rattle.kept.specs.FirstPass.{Arrays, arrays}
@@ -31,7 +32,8 @@ use Rattle.pointing.specs.Pointing.{points_to}
 use Rattle.explain.specs.Explained.{Explains}
 use Rattle.explain.proofs.TableLaws as tables
 use Rattle.explaining.specs.declared.Explanation.{Explanation}
-use Rattle.explaining.specs.declared.Explanation.TheVariants.{Verdict, NoRow}
+use Rattle.explaining.specs.declared.ExplainError.{ExplainError}
+use Rattle.explaining.specs.declared.ExplainError.TheVariants.{Sizes, NoRow}
 use Rattle.explaining.specs.Explaining.{refused, no_row, explained, said_explanation, cause_places, answer_of, places_after}
 use Rattle.explaining.specs.ByColumns.{pointed, answered_at, places_at, ExplainsBy}
 
@@ -52,16 +54,25 @@ module _ (texts : List (List ℕ)) (n m : ℕ) where
   unfolding places_after have_cells
   places_refused e places = rw e
 
+  -- the same of a table that is too large
+  pub answer_size : (error : SizeError) → sizes_of texts ≡ size_refusal error → said_explanation (Err (Sizes error)) ≡ answer_of texts n m
+  answer_size (TooLong table) e = answer_refused e
+  answer_size (TooManyRows table) e = answer_refused e
+
+  pub places_size : (error : SizeError) → sizes_of texts ≡ size_refusal error → (places : List ℕ) → places ≡ places_after texts n m places
+  places_size (TooLong table) e places = places_refused e places
+  places_size (TooManyRows table) e places = places_refused e places
+
   module _ (fitting : sizes_of texts ≡ fit) where
     fit_true : have_cells texts ≡ true
     unfolding have_cells
     fit_true = rw fitting
 
-    has_cell : is_row texts n m ≡ true → cell_of texts n m ≡ At (place texts (n - 1) m)
+    has_cell : is_row texts n m ≡ true → cell_of texts n m ≡ Some (place texts (n - 1) m)
     unfolding cell_of
     has_cell t = rw (fit_true, t)
 
-    no_cell : is_row texts n m ≡ false → cell_of texts n m ≡ NoCell
+    no_cell : is_row texts n m ≡ false → cell_of texts n m ≡ None
     unfolding cell_of
     no_cell f = rw (fit_true, f)
 
@@ -113,22 +124,22 @@ module _ (texts : List (List ℕ)) (n m : ℕ) where
       pub places_at_lem : (places : List ℕ) → places_at halves bytes cells rows (cell_of texts n m) places ≡ places_after texts n m places
       places_at_lem places =
           bool_cases (is_row texts n m)
-          (λ t. ap (λ (c : Cell). places_at halves bytes cells rows c places) (has_cell t) ∙ ap (sets places 0) (pointed_is t) ∙ places_some t places)
-          (λ f. ap (λ (c : Cell). places_at halves bytes cells rows c places) (no_cell f) ∙ places_none f places)
+          (λ t. ap (λ (c : Option ℕ). places_at halves bytes cells rows c places) (has_cell t) ∙ ap (sets places 0) (pointed_is t) ∙ places_some t places)
+          (λ f. ap (λ (c : Option ℕ). places_at halves bytes cells rows c places) (no_cell f) ∙ places_none f places)
 
 -- what a call answers, and what it leaves in the places
-abbrev pub Explained : List (List ℕ) → Cell → (places places' : List ℕ) → Explanation → Type 0
+abbrev pub Explained : List (List ℕ) → Option ℕ → (places places' : List ℕ) → Result Explanation ExplainError → Type 0
 Explained texts cell places places' r =
     (n m : ℕ) → cell ≡ cell_of texts n m → (said_explanation r ≡ answer_of texts n m) × (places' ≡ places_after texts n m places)
 
 -- rows are kept, and judged
 pub by_columns : (texts : List (List ℕ)) (s₀ s : Arrays) (rows symbols : ℕ) → KeepsRows texts s₀ s rows symbols
-    → (before after : List ℕ) → most_places ≤ length before → (cell : Cell) (places places' : List ℕ) (r : Explanation)
+    → (before after : List ℕ) → most_places ≤ length before → (cell : Option ℕ) (places places' : List ℕ) (r : Result Explanation ExplainError)
     → ExplainsBy s.halves s.bytes before after rows cell places places' r → Explained texts cell places places' r
 by_columns texts s₀ s rows symbols k before after room cell places places' r e n m c =
     let x = tables.explained texts s₀ s rows symbols k before after e.judged (omega (arith, k.count, k.stored.few)) in (
       e.answers ∙ ap (answered_at s.halves s.bytes after rows) c ∙ answer_at texts n m k.fits s.halves s.bytes after rows x,
-      e.leaves ∙ ap (λ (l : Cell). places_at s.halves s.bytes after rows l places) c
+      e.leaves ∙ ap (λ (l : Option ℕ). places_at s.halves s.bytes after rows l places) c
           ∙ places_at_lem texts n m k.fits s.halves s.bytes after rows x places,
     )
 
@@ -139,21 +150,21 @@ has_room words links halves bytes w k h b =
     rw (le-leb all_words (length words) w, le-leb all_links (length links) k, le-leb all_halves (length halves) h, le-leb all_bytes (length bytes) b)
 
 -- by the row's cell
-module _ (halves bytes cells cells' : List ℕ) (n : ℕ) (cell : Cell) (places : List ℕ) (j : JudgedInto halves bytes cells cells' n) where
-  pub kept_at : (i : ℕ) → cell ≡ At i → (v count : ℕ) → v ≡ get_or cells' i 0 → count ≡ length (pointed halves bytes cells' n i)
+module _ (halves bytes cells cells' : List ℕ) (n : ℕ) (cell : Option ℕ) (places : List ℕ) (j : JudgedInto halves bytes cells cells' n) where
+  pub kept_at : (i : ℕ) → cell ≡ Some i → (v count : ℕ) → v ≡ get_or cells' i 0 → count ≡ length (pointed halves bytes cells' n i)
       → (places' : List ℕ) → places' ≡ sets places 0 (pointed halves bytes cells' n i)
-      → ExplainsBy halves bytes cells cells' n cell places places' (Verdict v count)
+      → ExplainsBy halves bytes cells cells' n cell places places' (Ok (record { verdict = v; causes = count }))
   kept_at i e v count f g places' h =
       record {
         judged = j;
         answers = ap₂ explained f g ∙ ap (answered_at halves bytes cells' n) (sym e);
-        leaves = h ∙ ap (λ (c : Cell). places_at halves bytes cells' n c places) (sym e);
+        leaves = h ∙ ap (λ (c : Option ℕ). places_at halves bytes cells' n c places) (sym e);
       }
 
-  pub kept_none : cell ≡ NoCell → ExplainsBy halves bytes cells cells' n cell places places NoRow
+  pub kept_none : cell ≡ None → ExplainsBy halves bytes cells cells' n cell places places (Err NoRow)
   kept_none e =
       record {
         judged = j;
         answers = ap (answered_at halves bytes cells' n) (sym e);
-        leaves = ap (λ (c : Cell). places_at halves bytes cells' n c places) (sym e);
+        leaves = ap (λ (c : Option ℕ). places_at halves bytes cells' n c places) (sym e);
       }

@@ -1,5 +1,5 @@
 -- What is answered of a row: its verdict, and the rows that the verdict speaks of, by their places among all rows.
-use Rattle.std.specs.Prelude.{ℕ, ◌-◌, ◌≡◌, refl, cond, ◌&&◌, List, [], ◌∷◌, length}
+use Rattle.std.specs.Prelude.{ℕ, ◌-◌, ◌≡◌, refl, cond, ◌&&◌, List, [], ◌∷◌, length, Result, Ok, Err}
 use Rattle.std.proofs.lemmas.List.Edits.{sets}
 use Rattle.laws.specs.Prefix.{all_from}
 use Rattle.lines.specs.Lines.{on_first, lead, lines_of}
@@ -11,7 +11,9 @@ use Rattle.meaning.specs.Kept.{kept_entry}
 use Rattle.tables.specs.Sizes.{Sized, fit, refused_by, sizes_of}
 use Rattle.cells.specs.Cells.{have_cells, is_table, is_row}
 use Rattle.explaining.specs.declared.Explanation.{Explanation}
-use Rattle.explaining.specs.declared.Explanation.TheVariants.{Verdict, NoRow, TooLong, TooManyRows}
+use Rattle.explaining.specs.declared.ExplainError.{ExplainError}
+use Rattle.explaining.specs.declared.ExplainError.TheVariants.{Sizes, NoRow}
+use Rattle.tables.specs.declared.SizeError.TheVariants.{TooLong, TooManyRows}
 
 -- 01's number of a refusal and its place; or there is no such row; or the verdict, and of how many rows it speaks
 pub data Answer : Type 0 where
@@ -19,11 +21,11 @@ pub data Answer : Type 0 where
   no_row : Answer
   explained : (verdict count : ℕ) → Answer
 
-abbrev pub said_explanation : Explanation → Answer
-said_explanation (Verdict verdict count) = explained verdict count
-said_explanation NoRow = no_row
-said_explanation (TooLong table) = refused 1 table.0
-said_explanation (TooManyRows table) = refused 2 table.0
+abbrev pub said_explanation : Result Explanation ExplainError → Answer
+said_explanation (Ok explanation) = explained explanation.verdict explanation.causes
+said_explanation (Err NoRow) = no_row
+said_explanation (Err (Sizes (TooLong table))) = refused 1 table.0
+said_explanation (Err (Sizes (TooManyRows table))) = refused 2 table.0
 
 -- the places of the causes of row m of table n, from 1: by `places_causes` these rows are its `causes`
 unfoldable pub cause_places : List (List ℕ) → (n m : ℕ) → List ℕ

@@ -10,21 +10,26 @@ ghost use Rattle.explaining.specs.Explaining.{said_explanation, answer_of, place
 ghost use Rattle.explaining.specs.ByColumns.{ExplainsBy};
 
 use arrays::{PLACES, half_at};
-use cells::{Cell, cell_of};
+use cells::cell_of;
 use judged::judge_kept;
-use kept::{BYTES, HALVES, Keeping, LINKS, WORDS, keep};
+use kept::{BYTES, HALVES, KeepError, LINKS, WORDS, keep};
 use lines::columns::keep_at;
 use pointing::points_to;
-use tables::TABLES;
+use tables::{SizeError, TABLES};
 use units::{RowNumber, TableNumber};
 
-// The verdict, and of how many rows it speaks; or there is no such row; or the first table that is too large.
+// The verdict of a row, and of how many rows it speaks.
 #[derive(Clone, Copy)]
-pub enum Explanation {
-    Verdict(u16, usize),
+pub struct Explanation {
+    pub verdict: u16,
+    pub causes: usize,
+}
+
+// The first table that is too large; or there is no such row.
+#[derive(Clone, Copy)]
+pub enum ExplainError {
+    Sizes(SizeError),
     NoRow,
-    TooLong(TableNumber),
-    TooManyRows(TableNumber),
 }
 
 // Puts the places of the rows of n that row i points to, as far as there is room: how many they are.
@@ -60,42 +65,42 @@ fn explain_kept(
     bytes: &[u8],
     cells: &mut [u16],
     n: usize,
-    cell: Cell,
+    cell: Option<usize>,
     places: &mut [usize],
-) -> Explanation
+) -> Result<Explanation, ExplainError>
     ensures { ExplainsBy halves.now bytes.now cells.old cells.new n cell
         places.old places.new result }
 {
     judge_kept(halves, bytes, cells, n);
     match cell {
-        Cell::At(i) => {
-            let count = put_causes(halves, bytes, cells, n, i, places);
-            Explanation::Verdict(half_at(cells, i), count)
+        Some(i) => {
+            let causes = put_causes(halves, bytes, cells, n, i, places);
+            let verdict = half_at(cells, i);
+            Ok(Explanation { verdict, causes })
         }
-        Cell::NoCell => Explanation::NoRow,
+        None => Err(ExplainError::NoRow),
     }
 }
 
 // The arrays are lent at their full size.
 fn explain_in(
     tables: [&[u8]; TABLES],
-    cell: Cell,
+    cell: Option<usize>,
     words: &mut [u64; WORDS],
     links: &mut [u16; LINKS],
     halves: &mut [u16; HALVES],
     bytes: &mut [u8; BYTES],
     cells: &mut [u16; PLACES],
     places: &mut [usize],
-) -> Explanation
+) -> Result<Explanation, ExplainError>
     ensures { (n m : ℕ) → cell ≡ cell_of (map (λ x. x.now) tables.entry) n m
         → (said_explanation result ≡ answer_of (map (λ x. x.now) tables.entry) n m)
         × (places.new ≡ places_after (map (λ x. x.now) tables.entry) n m places.old) }
 {
     match keep(tables, words, links, halves, bytes) {
-        Keeping::Done(rows, _) => explain_kept(halves, bytes, cells, rows, cell, places),
-        Keeping::TooLong(table) => Explanation::TooLong(table),
-        Keeping::TooManyRows(table) => Explanation::TooManyRows(table),
-        Keeping::NoRoom => Explanation::NoRow,
+        Ok(kept) => explain_kept(halves, bytes, cells, kept.rows, cell, places),
+        Err(KeepError::Sizes(error)) => Err(ExplainError::Sizes(error)),
+        Err(KeepError::NoRoom) => Err(ExplainError::NoRow),
     }
 }
 
@@ -105,7 +110,7 @@ pub fn explain(
     table: TableNumber,
     row: RowNumber,
     places: &mut [usize],
-) -> Explanation
+) -> Result<Explanation, ExplainError>
     ensures result_value { said_explanation result ≡ answer_of (map (λ x. x.now) tables.entry) table.0 row.0 }
     ensures places_after { places.new ≡ places_after (map (λ x. x.now) tables.entry) table.0 row.0 places.old }
 {

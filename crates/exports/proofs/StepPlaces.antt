@@ -1,7 +1,7 @@
 -- The place of every refusal of a limit step is small.
 use mathlib.Core.Path.{◌≡◌}
 use mathlib.Core.List.{List}
-use mathlib.Core.Option.{Option, none, some}
+use Rattle.std.specs.Prelude.{Option, Some, None}
 use Prim.Native.Nat.{ℕ}
 use lib.ListN.{length}
 use Rattle.outcomes.specs.Outcome.{refused}
@@ -15,5 +15,5 @@ use Rattle.offered_step.specs.OfferedStep.{no_state, limit_step_from}
 pub step_from_small : (texts : List (List ℕ)) → length texts ≡ table_count → (p name : List ℕ) (offered : Option LimitState) → Small
     (limit_step_from texts p name offered)
 unfolding limit_step_from no_state
-step_from_small texts all p name none = asking_small texts all (λ rows. refused 34 0) (λ rows ranges. no_place 34)
-step_from_small texts all p name (some s) = step_of_small texts all p name s
+step_from_small texts all p name None = asking_small texts all (λ rows. refused 34 0) (λ rows ranges. no_place 34)
+step_from_small texts all p name (Some s) = step_of_small texts all p name s

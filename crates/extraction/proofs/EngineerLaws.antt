@@ -1,8 +1,10 @@
 -- An engineering value by the two rows of the parameter, its validity not asked.
-use mathlib.Core.Path.{◌≡◌, refl, sym, ◌∙◌}
+use mathlib.Core.Path.{◌≡◌, refl, sym, ap, ◌∙◌}
 use mathlib.Core.Bool.{Bool, true, false}
 use mathlib.Core.List.{List}
 use mathlib.Core.Option.{Option, none, some}
+use Rattle.std.specs.Prelude as rust
+use Rattle.std.specs.Prelude.{Result, Ok, Err}
 use Prim.Native.Nat.{ℕ}
 use lib.IntN.{ℤ}
 use Rattle.name_bytes.specs.Names.{name_of}
@@ -10,10 +12,7 @@ use Rattle.name_bytes.specs.declared.Name.{Name}
 use Rattle.decoding.specs.Records.{plf_row, pcf_row}
 use Rattle.rows.specs.declared.records.PcfRow.{PcfRow}
 use Rattle.verdicts.specs.Key.{location, parameter}
-use Rattle.key_symbols.specs.declared.FiveNumbers.{FiveNumbers}
 use Rattle.units.specs.declared.ByteOffset.{ByteOffset}
-use Rattle.units.specs.declared.RowNumber.{RowNumber}
-use Rattle.units.specs.declared.Spid.{Spid}
 use Rattle.outcomes.specs.Outcome.{Outcome, refused, answer, and_then}
 use Rattle.outcomes.specs.Values.{Value, number, part, bits, value_of}
 use Rattle.outcomes.specs.Refusals.{refused_by}
@@ -23,17 +22,15 @@ use Rattle.outcomes.specs.declared.Value.TheVariants as value
 use Rattle.outcomes.proofs.OutcomeLaws.{told, then_answer, then_refused}
 use Rattle.database.specs.Rows.{Row, Rows}
 use Rattle.database.specs.Arrays.{row_at}
+use Rattle.identification.specs.declared.Identity as found
 use Rattle.identification.specs.Identification.{Identity, identify_by, said_identified}
-use Rattle.identification.specs.declared.Identified.{Identified}
-use Rattle.identification.specs.declared.Identified.TheVariants as identified
-use Rattle.raw_values.specs.RawValues.{raw_of, said_raw}
-use Rattle.raw_values.specs.declared.RawValue.{RawValue}
-use Rattle.raw_values.specs.declared.RawValue.TheVariants as raws
+use Rattle.raw_values.specs.RawValues.{raw_of}
 use Rattle.parameters.specs.Located.{by_lines, needed, located, at_places}
 use Rattle.parameters.specs.declared.Places.{Places}
 use Rattle.parameters.proofs.LocatedLaws.{at_found, at_missing}
 use Rattle.readings.specs.Readings.{with_validity, validity, reading_with, reading}
 use Rattle.engineering.specs.Engineering.{Engineered, engineered, said_engineered}
+use Rattle.engineering.specs.declared.engineer.Engineered as answered
 use Rattle.engineering.specs.declared.engineer.Engineered.TheVariants as is
 use Rattle.extraction.specs.Extraction.{extract_by}
 use Rattle.extraction.specs.Engineering.{engineered_from, engineer_by}
@@ -47,35 +44,24 @@ module _ (rows : Rows) (pcf : PcfRow) {v : code.Value} where
   value_number z e h q = rw e (rw q at h)
 
   pub value_part : (from : ByteOffset) (bytes : ℕ) → v ≡ value.Part from bytes
-      → said_engineered (is.Is (value.Part from bytes)) ≡ engineered_by rows pcf (value_of v)
+      → said_engineered (Ok (is.Is (value.Part from bytes))) ≡ engineered_by rows pcf (value_of v)
   unfolding value_of engineered_by said_engineered
   value_part from bytes e = rw e
 
   pub value_bits : (pattern width : ℕ) → v ≡ value.Bits pattern width
-      → said_engineered (is.Is (value.Bits pattern width)) ≡ engineered_by rows pcf (value_of v)
+      → said_engineered (Ok (is.Is (value.Bits pattern width))) ≡ engineered_by rows pcf (value_of v)
   unfolding value_of engineered_by said_engineered
   value_bits pattern width e = rw e
 
--- by whether there is one
-module _ (rows : Rows) (pcf : PcfRow) {raw : RawValue} where
-  pub raw_is : (v : code.Value) → raw ≡ raws.Is v → {o : Outcome Engineered} → o ≡ engineered_by rows pcf (value_of v)
-      → o ≡ and_then (said_raw raw) (engineered_by rows pcf)
-  unfolding said_raw and_then
-  raw_is v e h = rw e h
-
-  pub raw_refused : (refusal : Refusal) → raw ≡ raws.Refused refusal → said_engineered (is.Refused refusal) ≡ and_then (said_raw raw) (engineered_by rows pcf)
-  unfolding said_raw and_then refused_by said_engineered
-  raw_refused refusal e = rw e
-
 -- by the places of the parameter's rows
-module _ (rows : Rows) (p : List ℕ) (spid : ℕ) (name : Name) (k : ℕ) (texts : List (List ℕ)) (columns : List ℕ) (at : Places)
+module _ (rows : Rows) (p : List ℕ) (spid : ℕ) (name : Name) (k : ℕ) (texts : List (List ℕ)) (columns : List ℕ) (at : rust.Option Places)
     (is' : at_places texts columns at ≡ located rows spid name) where
-  pub engineered_nowhere : at.found ≡ false → refused 26 0 ≡ engineered_in rows p spid name k
+  pub engineered_nowhere : at ≡ rust.None → refused 26 0 ≡ engineered_in rows p spid name k
   unfolding engineered_in and_then
   engineered_nowhere f = rw (← is', at_missing texts columns at f)
 
-  pub engineered_at : at.found ≡ true → {raw : Outcome Value} {pcf : PcfRow} {o : Outcome Engineered}
-      → pcf ≡ pcf_row (row_at texts columns at.pcf).bytes → raw ≡ raw_of p (plf_row (row_at texts columns at.plf).bytes) pcf k
+  pub engineered_at : {places : Places} → at ≡ rust.Some places → {raw : Outcome Value} {pcf : PcfRow} {o : Outcome Engineered}
+      → pcf ≡ pcf_row (row_at texts columns places.pcf).bytes → raw ≡ raw_of p (plf_row (row_at texts columns places.plf).bytes) pcf k
       → o ≡ and_then raw (engineered_by rows pcf) → o ≡ engineered_in rows p spid name k
   unfolding engineered_in and_then by_lines
   engineered_at t c r h = rw (← is', at_found texts columns at t, ← c, ← r) h
@@ -116,13 +102,16 @@ module _ (rows : Rows) (p name : List ℕ) (k : ℕ) where
   unfolding engineer_by extract_by
   engineer_located = identified_then (identify_by rows p)
 
-  module _ {i : Identified} (e : said_identified i ≡ identify_by rows p) where
-    pub engineer_is : (row : RowNumber) (spid : Spid) (n : FiveNumbers) → i ≡ identified.Is row spid n → {m : Name} → m ≡ name_of name
-        → {o : Outcome Engineered} → o ≡ engineered_in rows p spid.0 m k → o ≡ engineer_by rows p name k
+  module _ {i : Result found.Identity Refusal} (e : said_identified i ≡ identify_by rows p) where
+    pub engineer_is : (id : found.Identity) → i ≡ Ok id → {m : Name} → m ≡ name_of name
+        → {o : Outcome Engineered} → o ≡ engineered_in rows p id.spid.0 m k → o ≡ engineer_by rows p name k
     unfolding said_identified
-    engineer_is row spid n s q h =
+    engineer_is id s q h =
         then_answer (λ id. engineered_in rows p id.spid (name_of name) k) (told said_identified e s) (rw q at h) ∙ sym engineer_located
 
-    pub engineer_refused : (refusal : Refusal) → i ≡ identified.Refused refusal → said_engineered (is.Refused refusal) ≡ engineer_by rows p name k
+    pub engineer_refused : (refusal : Refusal) → i ≡ Err refusal → {r : Result answered.Engineered Refusal} → r ≡ Err refusal
+        → said_engineered r ≡ engineer_by rows p name k
     unfolding said_identified said_engineered
-    engineer_refused refusal s = then_refused (λ id. engineered_in rows p id.spid (name_of name) k) refusal (told said_identified e s) ∙ sym engineer_located
+    engineer_refused refusal s t =
+        ap said_engineered t
+        ∙ then_refused (λ id. engineered_in rows p id.spid (name_of name) k) refusal (told said_identified e s) ∙ sym engineer_located

@@ -1,20 +1,18 @@
 // The engineering value of a parameter in a packet, valid or not: its VALID chain is not read.
 ghost use Rattle.std.specs.Prelude.{◌≡◌, map};
-ghost use Rattle.outcomes.specs.Outcome.{and_then};
 ghost use Rattle.outcomes.specs.Values.{value_of};
 ghost use Rattle.database.specs.Arrays.{database, answers};
-ghost use Rattle.raw_values.specs.RawValues.{said_raw};
 ghost use Rattle.engineering.specs.Engineering.{said_engineered};
 ghost use Rattle.extraction.specs.Engineering.{engineer_by};
 ghost use Rattle.extraction.specs.Located.{engineered_by, engineered_in};
 
 use engineering::engineer::{Engineered, engineer_value};
 use found_rows::{location_at, pcf_at};
-use identification::{Identified, identify_in};
+use identification::identify_in;
 use name_bytes::{Name, name_of};
 use outcomes::{Refusal, Value};
 use parameters::locate;
-use raw_values::{RawValue, raw_of};
+use raw_values::raw_of;
 use rows::records::PcfRow;
 use tables::TABLES;
 use units::Spid;
@@ -27,32 +25,14 @@ fn engineer_read(
     columns: &[u16],
     pcf: PcfRow,
     value: Value,
-) -> Engineered
+) -> Result<Engineered, Refusal>
     ensures { said_engineered result
         ≡ engineered_by (answers (database (map (λ x. x.now) tables.entry) words.now links.now columns.now)) pcf (value_of value) }
 {
     match value {
         Value::Number(z) => engineer_value(tables, words, links, columns, pcf, z),
-        Value::Part(from, bytes) => Engineered::Is(Value::Part(from, bytes)),
-        Value::Bits(pattern, width) => Engineered::Is(Value::Bits(pattern, width)),
-    }
-}
-
-fn engineer_raw(
-    tables: [&[u8]; TABLES],
-    words: &[u64],
-    links: &[u16],
-    columns: &[u16],
-    pcf: PcfRow,
-    raw: RawValue,
-) -> Engineered
-    ensures { said_engineered result
-        ≡ and_then (said_raw raw)
-        (engineered_by (answers (database (map (λ x. x.now) tables.entry) words.now links.now columns.now)) pcf) }
-{
-    match raw {
-        RawValue::Is(value) => engineer_read(tables, words, links, columns, pcf, value),
-        RawValue::Refused(refusal) => Engineered::Refused(refusal),
+        Value::Part(from, bytes) => Ok(Engineered::Is(Value::Part(from, bytes))),
+        Value::Bits(pattern, width) => Ok(Engineered::Is(Value::Bits(pattern, width))),
     }
 }
 
@@ -66,25 +46,18 @@ fn engineer_located(
     spid: Spid,
     name: Name,
     k: usize,
-) -> Engineered
+) -> Result<Engineered, Refusal>
     ensures { said_engineered result
         ≡ engineered_in (answers (database (map (λ x. x.now) tables.entry) words.now links.now columns.now))
         p.now spid.0 name k }
 {
-    let at = locate(words, links, columns, spid, name);
-    if !at.found {
-        return Engineered::Refused(Refusal::NoPlfRow);
-    }
+    let Some(at) = locate(words, links, columns, spid, name) else {
+        return Err(Refusal::NoPlfRow);
+    };
     let location = location_at(tables, columns, at.plf);
     let pcf = pcf_at(tables, columns, at.pcf);
-    engineer_raw(
-        tables,
-        words,
-        links,
-        columns,
-        pcf,
-        raw_of(p, location, pcf, k),
-    )
+    let value = raw_of(p, location, pcf, k)?;
+    engineer_read(tables, words, links, columns, pcf, value)
 }
 
 // Of tables that are loaded.
@@ -96,22 +69,20 @@ pub fn engineer_in(
     p: &[u8],
     name: &[u8],
     occurrence: usize,
-) -> Engineered
+) -> Result<Engineered, Refusal>
     ensures { said_engineered result ≡ engineer_by (answers (database (map (λ x. x.now) tables.entry) words.now links.now
         columns.now))
         p.now name.now occurrence }
 {
-    match identify_in(tables, words, links, columns, p) {
-        Identified::Is(_, spid, _) => engineer_located(
-            tables,
-            words,
-            links,
-            columns,
-            p,
-            spid,
-            name_of(name),
-            occurrence,
-        ),
-        Identified::Refused(refusal) => Engineered::Refused(refusal),
-    }
+    let identity = identify_in(tables, words, links, columns, p)?;
+    engineer_located(
+        tables,
+        words,
+        links,
+        columns,
+        p,
+        identity.spid,
+        name_of(name),
+        occurrence,
+    )
 }

@@ -4,9 +4,10 @@ ghost use Rattle.database.specs.Arrays.{database, answers};
 ghost use Rattle.readings.specs.Readings.{said_reading};
 ghost use Rattle.extraction.specs.Extraction.{extract_by};
 
-use identification::{Identified, identify_in};
+use identification::identify_in;
 use located_readings::read;
 use name_bytes::name_of;
+use outcomes::Refusal;
 use readings::Reading;
 use tables::TABLES;
 
@@ -19,21 +20,19 @@ pub fn extract_in(
     p: &[u8],
     name: &[u8],
     occurrence: usize,
-) -> Reading
+) -> Result<Reading, Refusal>
     ensures { said_reading result ≡ extract_by (answers (database (map (λ x. x.now) tables.entry) words.now links.now columns.now))
         p.now name.now occurrence }
 {
-    match identify_in(tables, words, links, columns, p) {
-        Identified::Is(_, spid, _) => read(
-            tables,
-            words,
-            links,
-            columns,
-            p,
-            spid,
-            name_of(name),
-            occurrence,
-        ),
-        Identified::Refused(refusal) => Reading::Refused(refusal),
-    }
+    let identity = identify_in(tables, words, links, columns, p)?;
+    read(
+        tables,
+        words,
+        links,
+        columns,
+        p,
+        identity.spid,
+        name_of(name),
+        occurrence,
+    )
 }

@@ -12,9 +12,13 @@ use lib.ListN.{length}
 use lib.Pow.{pow_pos}
 use borrow.Author.Tests.{lt-ltb, le-ltb, ltb-true, ltb-false}
 use Rattle.laws.proofs.Cases.{bool_cases}
-use Rattle.laws.specs.Said.{value, refused, free}
-use Rattle.fields.specs.Field.{is_width, unsigned_at}
+use Rattle.laws.specs.Said.{value, free}
+use Rattle.std.specs.Prelude.{Result, Ok, Err, IsErr}
+use Rattle.std.specs.Result.{IsErrAnd}
+use Rattle.fields.specs.Field.{is_width, unsigned_at, said_error}
 use Rattle.fields.specs.Sign.{complement_of, complement_at, signed_at}
+use Rattle.fields.specs.declared.field.FieldError.{FieldError}
+use Rattle.fields.specs.declared.field.FieldError.TheVariants.{Outside, NoWidth}
 use Rattle.fields.proofs.BitLaws.{number_lt, Bits-agree}
 use Rattle.fields.proofs.PlaceLaws.{inside_same}
 use Rattle.fields.proofs.FieldLaws.{width_yes, field_here, field_refused, field_still_free, field_read, field_same, unsigned_read}
@@ -80,13 +84,15 @@ module _ (p : List ℕ) (at n : ℕ) where
       let r = unsigned_read p at n v e in
       ap (λ (x : ℕ). value (complement_of n x)) r.is ∙ field_here (complement_of n) p at n r.wide r.narrow r.here
 
-  pub signed_outside : refused 28 ≡ unsigned_at p at n → refused 28 ≡ signed_at p at n
-  unfolding unsigned_at signed_at
-  signed_outside e = field_refused pos (complement_of n) p at n e
+  pub signed_error : (error : FieldError) → said_error error ≡ unsigned_at p at n → said_error error ≡ signed_at p at n
+  unfolding said_error unsigned_at signed_at
+  signed_error Outside e = field_refused pos (complement_of n) p at n e
+  signed_error NoWidth e = field_still_free pos (complement_of n) p at n e
 
-  pub signed_free : free ≡ unsigned_at p at n → free ≡ signed_at p at n
-  unfolding unsigned_at signed_at
-  signed_free e = field_still_free pos (complement_of n) p at n e
+-- what `?` returns is the error that it met
+pub passed_on : {A : Type 0} {error : FieldError} (r : Result A FieldError) → IsErr r × IsErrAnd r (λ x. x ≡ error) → r ≡ Err error
+passed_on (Ok a) h = absurd h.1
+passed_on (Err x) h = ap Err h.1
 
 -- a signed value is in the range of its width
 pub signed_range : (p : List ℕ) (at n : ℕ) (z : ℤ) → value z ≡ signed_at p at n → mag z < 2 ^ (n - 1)

@@ -2,23 +2,8 @@
 ghost use Rattle.std.specs.Prelude.{◌≡◌, ℕ, ◌^◌, ◌<◌, ◌≤◌, negsuc};
 ghost use Rattle.fields.specs.Sign.{complement_of, said_complement, complement_at, said_signed, signed_at};
 
-use crate::field::{Unsigned, read_unsigned};
+use crate::field::{FieldError, read_unsigned};
 use units::BitOffset;
-
-#[derive(Clone, Copy)]
-pub enum Complement {
-    Integer(i64),
-    // No field holds this number: its width is 0 or over 64, or the number is wider.
-    NoField,
-}
-
-#[derive(Clone, Copy)]
-pub enum Signed {
-    Is(i64),
-    Outside,
-    // No field has this width: 0, or over 64.
-    NoWidth,
-}
 
 // -(n + 1)
 fn below_zero(n: u64) -> i64
@@ -40,29 +25,27 @@ fn as_signed(v: u64, width: u32) -> i64
     }
 }
 
-// The integer that the `width` bits of v are in two's complement.
-pub fn twos_complement(v: u64, width: u32) -> Complement
+// The integer that the `width` bits of v are in two's complement; None where no field holds v:
+// its width is 0 or over 64, or v is wider.
+pub fn twos_complement(v: u64, width: u32) -> Option<i64>
     ensures { said_complement result ≡ complement_at width v }
 {
     if width == 0 {
-        return Complement::NoField;
+        return None;
     }
     if 64 < width {
-        return Complement::NoField;
+        return None;
     }
     if 1 < v >> (width - 1) {
-        return Complement::NoField;
+        return None;
     }
-    Complement::Integer(as_signed(v, width))
+    Some(as_signed(v, width))
 }
 
 // The `width` bits from the bit `at`, most significant first, in two's complement.
-pub fn read_signed(p: &[u8], at: BitOffset, width: u32) -> Signed
+pub fn read_signed(p: &[u8], at: BitOffset, width: u32) -> Result<i64, FieldError>
     ensures { said_signed result ≡ signed_at p.now at.0 width }
 {
-    match read_unsigned(p, at, width) {
-        Unsigned::Is(v) => Signed::Is(as_signed(v, width)),
-        Unsigned::Outside => Signed::Outside,
-        Unsigned::NoWidth => Signed::NoWidth,
-    }
+    let v = read_unsigned(p, at, width)?;
+    Ok(as_signed(v, width))
 }

@@ -1,7 +1,8 @@
 // 01's figure, a caf row that counts three points and two sound points of it, explained row by row.
 #![tactic(auto)]
 
-use explaining::{Explanation, explain};
+use explaining::{ExplainError, explain};
+use tables::SizeError;
 use units::{RowNumber, TableNumber};
 use words::say::{number, words};
 
@@ -20,19 +21,19 @@ fn say_row(rt: &impl Print, table: usize, row: usize) {
     ];
     let mut places = [99usize; 3];
     match explain(tables, TableNumber(table), RowNumber(row), &mut places) {
-        Explanation::Verdict(verdict, count) => {
-            number(rt, verdict as usize);
+        Ok(explanation) => {
+            number(rt, explanation.verdict as usize);
             words(rt, b" speaks of ");
-            number(rt, count);
+            number(rt, explanation.causes);
             words(rt, b":");
             say_place(rt, places[0]);
             say_place(rt, places[1]);
             say_place(rt, places[2]);
             words(rt, b"\n");
         }
-        Explanation::NoRow => words(rt, b"no such row\n"),
-        Explanation::TooLong(_) => words(rt, b"refused 1\n"),
-        Explanation::TooManyRows(_) => words(rt, b"refused 2\n"),
+        Err(ExplainError::NoRow) => words(rt, b"no such row\n"),
+        Err(ExplainError::Sizes(SizeError::TooLong(_))) => words(rt, b"refused 1\n"),
+        Err(ExplainError::Sizes(SizeError::TooManyRows(_))) => words(rt, b"refused 2\n"),
     }
 }
 

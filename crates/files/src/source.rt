@@ -6,14 +6,6 @@ use std::fs;
 use std::io::{ErrorKind, Read};
 use std::rt::Files;
 
-// How many bytes stand at the start of the buffer; that there is no such file; or the system's error.
-#[derive(Clone, Copy)]
-pub enum Got {
-    Bytes(usize),
-    Missing,
-    Failed(ErrorKind),
-}
-
 // A file opened for reading, or the error. A path that is no UTF-8 opens none.
 pub fn open_file<R: Files>(rt: &R, path: &[u8]) -> Result<R::File, ErrorKind> {
     let Ok(text) = str::from_utf8(path) else {
@@ -36,19 +28,24 @@ pub fn short(file: &mut impl Read) -> Option<ErrorKind> {
 }
 
 // Reads until the file ends or the buffer is full.
-fn read_open(file: &mut impl Read, buffer: &mut [u8]) -> Got
+fn read_open(file: &mut impl Read, buffer: &mut [u8]) -> Result<Option<usize>, ErrorKind>
     ensures { ReadInto result buffer.old buffer.new }
 {
     let count = fill(file, buffer);
     if count < buffer.len() {
         if let Some(error) = short(file) {
-            return Got::Failed(error);
+            return Err(error);
         }
     }
-    Got::Bytes(count)
+    Ok(Some(count))
 }
 
-pub fn read_file(rt: &impl Files, path: &[u8], buffer: &mut [u8]) -> Got
+// How many bytes then stand at the start of the buffer; none where there is no such file.
+pub fn read_file(
+    rt: &impl Files,
+    path: &[u8],
+    buffer: &mut [u8],
+) -> Result<Option<usize>, ErrorKind>
     ensures { ReadInto result buffer.old buffer.new }
 {
     match open_file(rt, path) {
@@ -56,7 +53,7 @@ pub fn read_file(rt: &impl Files, path: &[u8], buffer: &mut [u8]) -> Got
             let mut file = opened;
             read_open(&mut file, buffer)
         }
-        Err(ErrorKind::NotFound) => Got::Missing,
-        Err(error) => Got::Failed(error),
+        Err(ErrorKind::NotFound) => Ok(None),
+        Err(error) => Err(error),
     }
 }

@@ -32,12 +32,10 @@ fn row_of(more: u16) -> u16
 pub fn find_rows(names: &[u16], holders: &[u16], found: &mut [u16], n: usize)
     ensures { found.new ≡ sets found.old 0 (tabulate (λ i. row_linked (under holders.now names.now i)) 0 n) }
 {
-    let mut i: usize = 0;
-    while i < n {
+    for i in 0..n {
         let id = half_at(names, i);
         let row = row_of(half_at(holders, id as usize));
         put_half(found, i, row);
-        i += 1;
     }
 }
 
@@ -66,12 +64,10 @@ pub fn count_rows(
         (tabulate (λ i. count_finding (get_or columns.now i 0) (get_or numbers.now i 0)
         (under tallies.now keys.now i)) 0 n) }
 {
-    let mut i: usize = 0;
-    while i < n {
+    for i in 0..n {
         let id = half_at(keys, i);
         let tally = half_at(tallies, id as usize);
         let cell = count_of(byte_at(columns, i), half_at(numbers, i), tally);
         put_half(counts, i, cell);
-        i += 1;
     }
 }

@@ -7,7 +7,7 @@ use Prim.Native.Nat.{ℕ, ◌-◌}
 use borrow.Author.Tests.{eq-eqb, ne_eqb}
 use Rattle.decoding.specs.Records.{pic_row}
 use Rattle.rows.specs.declared.records.PicRow.{PicRow}
-use Rattle.rows.specs.declared.records.OptionalApid.TheVariants.{Only, Any}
+use Rattle.std.specs.Prelude.{Some, None}
 use Rattle.verdicts.specs.Key.{identification}
 use Rattle.outcomes.specs.Outcome.{Outcome, answer}
 use Rattle.database.specs.Rows.{Row, Rows}
@@ -23,7 +23,7 @@ module _ (rows : Rows) (head : Head) (p : List ℕ) where
   pic_plain f = rw f
 
   pub pic_flagged : {ptype stype : ℕ} → head.flagged ≡ true → ptype ≡ type_of head p → stype ≡ subtype_of head p
-      → or_other (rows.holder (identification ptype stype (Only head.apid))) (rows.holder (identification ptype stype Any)) ≡ pic_row_of rows head p
+      → or_other (rows.holder (identification ptype stype (Some head.apid))) (rows.holder (identification ptype stype None)) ≡ pic_row_of rows head p
   unfolding pic_row_of
   pic_flagged f t s = rw (t, s, f)
 

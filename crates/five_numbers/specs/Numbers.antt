@@ -1,5 +1,5 @@
 -- The five numbers of a packet, by which identification goes.
-use Rattle.std.specs.Prelude.{ℕ, true, false, cond, ◌≡◌, refl, List, [], ◌∷◌, map, eqb, get_or}
+use Rattle.std.specs.Prelude.{ℕ, true, false, cond, ◌≡◌, refl, List, [], ◌∷◌, map, eqb, get_or, Some, None}
 use Prim.Native.String.{String}
 use Rattle.std.proofs.Math.Option.{Option, none, some}
 use Rattle.laws.specs.Text.{ascii, char}
@@ -12,7 +12,6 @@ use Rattle.fields.specs.Field.{is_width, field_at, unsigned_at}
 use Rattle.fields.specs.Figures.{packet}
 use Rattle.rows.specs.Values.{natural_from, natural_or, integer_from, integer_or, is_given, optional_apid, identification_field}
 use Rattle.decoding.specs.Records.{column, pic_row}
-use Rattle.rows.specs.declared.records.OptionalApid.TheVariants.{Only, Any}
 use Rattle.verdicts.specs.Key.{identification, key_words, same_key}
 use Rattle.verdicts.specs.Facts.{facts_of, pic_facts}
 use Rattle.key_symbols.specs.declared.FiveNumbers.{FiveNumbers}
@@ -40,7 +39,7 @@ pic_row_of rows head p =
     let ptype : ℕ = type_of head p in
     let stype : ℕ = subtype_of head p in
     cond head.flagged
-    (or_other (rows.holder (identification ptype stype (Only head.apid))) (rows.holder (identification ptype stype Any)))
+    (or_other (rows.holder (identification ptype stype (Some head.apid))) (rows.holder (identification ptype stype None)))
     none
 
 -- 01: "unused, or no such row, gives 0"

@@ -3,16 +3,16 @@
 
 ghost use Rattle.std.specs.Prelude.{◌≡◌, cond, List, map, ℕ, get_or};
 ghost use Rattle.database.specs.Arrays.{database, row_for, answers};
-ghost use Rattle.identifiers.specs.Identifiers.{said_fields};
+ghost use Rattle.outcomes.specs.Refusals.{said};
 ghost use Rattle.five_numbers.specs.Numbers.{pic_row_of, identifiers_from, numbers_of};
 
 use arrays::byte_at;
 use database::holder_of;
 use found_rows::pic_at;
 use headers::Head;
-use identifiers::{Fields, Identifiers, read_fields};
+use identifiers::{Identifiers, read_fields};
 use key_symbols::{FiveNumbers, identification_key};
-use rows::records::OptionalApid;
+use outcomes::Refusal;
 use tables::TABLES;
 
 // Where type and subtype stand.
@@ -59,7 +59,7 @@ fn find_pic(words: &[u64], links: &[u16], columns: &[u16], p: &[u8], head: Head)
     }
     let ptype = header_byte(p, head, TYPE);
     let stype = header_byte(p, head, SUBTYPE);
-    let only = OptionalApid::Only(head.apid as u32);
+    let only = Some(head.apid as u32);
     let own = holder_of(
         words,
         links,
@@ -73,7 +73,7 @@ fn find_pic(words: &[u64], links: &[u16], columns: &[u16], p: &[u8], head: Head)
         words,
         links,
         columns,
-        identification_key(ptype, stype, OptionalApid::Any),
+        identification_key(ptype, stype, None),
     )
 }
 
@@ -85,13 +85,13 @@ pub fn identifiers_of(
     columns: &[u16],
     p: &[u8],
     head: Head,
-) -> Fields
-    ensures { said_fields result ≡ identifiers_from p.now
+) -> Result<Identifiers, Refusal>
+    ensures { said result ≡ identifiers_from p.now
         (pic_row_of (answers (database (map (λ x. x.now) tables.entry) words.now links.now columns.now)) head p.now) }
 {
     let at = find_pic(words, links, columns, p, head);
     if at == 0 {
-        return Fields::Are(Identifiers { pi1: 0, pi2: 0 });
+        return Ok(Identifiers { pi1: 0, pi2: 0 });
     }
     let i = at - 1;
     read_fields(p, pic_at(tables, columns, i))

@@ -25,6 +25,14 @@ use schemas::by_table::{
 };
 use schemas::verdict_of;
 
+// A verdict of reasons 1 to 8, what the row says, and where the next line starts.
+#[derive(Clone, Copy)]
+pub struct RowRead<R> {
+    pub verdict: u16,
+    pub row: R,
+    pub next: usize,
+}
+
 // A verdict of reasons 1 to 7, or else 8 at the column that contradicts, if one does.
 fn or_contradiction(shaped: u16, column: u8) -> u16
     ensures { result ≡ or_contradiction shaped column }
@@ -38,14 +46,7 @@ fn or_contradiction(shaped: u16, column: u8) -> u16
     verdict_of(8, column)
 }
 
-#[derive(Clone, Copy)]
-pub struct PidRead {
-    pub verdict: u16,
-    pub row: PidRow,
-    pub next: usize,
-}
-
-pub fn read_pid(table: &[u8], at: usize) -> PidRead
+pub fn read_pid(table: &[u8], at: usize) -> RowRead<PidRow>
     ensures verdict_value { (result.verdict ≡ formed Pid (line_from table.now at)) × (result.row ≡ pid_row (line_from table.now at).bytes) }
     ensures next_value { result.next ≡ (next_line table.now at).next }
 {
@@ -54,21 +55,14 @@ pub fn read_pid(table: &[u8], at: usize) -> PidRead
     let line = part(table, at, walk.end);
     let shaped = check_pid(line, walk, &ends);
     let row = pid_row(line, &ends);
-    PidRead {
+    RowRead {
         verdict: or_contradiction(shaped, 0),
         row,
         next: walk.next,
     }
 }
 
-#[derive(Clone, Copy)]
-pub struct PicRead {
-    pub verdict: u16,
-    pub row: PicRow,
-    pub next: usize,
-}
-
-pub fn read_pic(table: &[u8], at: usize) -> PicRead
+pub fn read_pic(table: &[u8], at: usize) -> RowRead<PicRow>
     ensures verdict_value { (result.verdict ≡ formed Pic (line_from table.now at)) × (result.row ≡ pic_row (line_from table.now at).bytes) }
     ensures next_value { result.next ≡ (next_line table.now at).next }
 {
@@ -77,21 +71,14 @@ pub fn read_pic(table: &[u8], at: usize) -> PicRead
     let line = part(table, at, walk.end);
     let shaped = check_pic(line, walk, &ends);
     let row = pic_row(line, &ends);
-    PicRead {
+    RowRead {
         verdict: or_contradiction(shaped, pic_contradiction(row)),
         row,
         next: walk.next,
     }
 }
 
-#[derive(Clone, Copy)]
-pub struct PlfRead {
-    pub verdict: u16,
-    pub row: PlfRow,
-    pub next: usize,
-}
-
-pub fn read_plf(table: &[u8], at: usize) -> PlfRead
+pub fn read_plf(table: &[u8], at: usize) -> RowRead<PlfRow>
     ensures verdict_value { (result.verdict ≡ formed Plf (line_from table.now at)) × (result.row ≡ plf_row (line_from table.now at).bytes) }
     ensures next_value { result.next ≡ (next_line table.now at).next }
 {
@@ -100,21 +87,14 @@ pub fn read_plf(table: &[u8], at: usize) -> PlfRead
     let line = part(table, at, walk.end);
     let shaped = check_plf(line, walk, &ends);
     let row = plf_row(line, &ends);
-    PlfRead {
+    RowRead {
         verdict: or_contradiction(shaped, plf_contradiction(row)),
         row,
         next: walk.next,
     }
 }
 
-#[derive(Clone, Copy)]
-pub struct PcfRead {
-    pub verdict: u16,
-    pub row: PcfRow,
-    pub next: usize,
-}
-
-pub fn read_pcf(table: &[u8], at: usize) -> PcfRead
+pub fn read_pcf(table: &[u8], at: usize) -> RowRead<PcfRow>
     ensures verdict_value { (result.verdict ≡ formed Pcf (line_from table.now at)) × (result.row ≡ pcf_row (line_from table.now at).bytes) }
     ensures next_value { result.next ≡ (next_line table.now at).next }
 {
@@ -123,21 +103,14 @@ pub fn read_pcf(table: &[u8], at: usize) -> PcfRead
     let line = part(table, at, walk.end);
     let shaped = check_pcf(line, walk, &ends);
     let row = pcf_row(line, &ends);
-    PcfRead {
+    RowRead {
         verdict: or_contradiction(shaped, pcf_contradiction(row)),
         row,
         next: walk.next,
     }
 }
 
-#[derive(Clone, Copy)]
-pub struct CafRead {
-    pub verdict: u16,
-    pub row: CafRow,
-    pub next: usize,
-}
-
-pub fn read_caf(table: &[u8], at: usize) -> CafRead
+pub fn read_caf(table: &[u8], at: usize) -> RowRead<CafRow>
     ensures verdict_value { (result.verdict ≡ formed Caf (line_from table.now at)) × (result.row ≡ caf_row (line_from table.now at).bytes) }
     ensures next_value { result.next ≡ (next_line table.now at).next }
 {
@@ -146,21 +119,14 @@ pub fn read_caf(table: &[u8], at: usize) -> CafRead
     let line = part(table, at, walk.end);
     let shaped = check_caf(line, walk, &ends);
     let row = caf_row(line, &ends);
-    CafRead {
+    RowRead {
         verdict: or_contradiction(shaped, caf_contradiction(row)),
         row,
         next: walk.next,
     }
 }
 
-#[derive(Clone, Copy)]
-pub struct CapRead {
-    pub verdict: u16,
-    pub row: CapRow,
-    pub next: usize,
-}
-
-pub fn read_cap(table: &[u8], at: usize) -> CapRead
+pub fn read_cap(table: &[u8], at: usize) -> RowRead<CapRow>
     ensures verdict_value { (result.verdict ≡ formed Cap (line_from table.now at)) × (result.row ≡ cap_row (line_from table.now at).bytes) }
     ensures next_value { result.next ≡ (next_line table.now at).next }
 {
@@ -169,21 +135,14 @@ pub fn read_cap(table: &[u8], at: usize) -> CapRead
     let line = part(table, at, walk.end);
     let shaped = check_cap(line, walk, &ends);
     let row = cap_row(line, &ends);
-    CapRead {
+    RowRead {
         verdict: or_contradiction(shaped, 0),
         row,
         next: walk.next,
     }
 }
 
-#[derive(Clone, Copy)]
-pub struct TxfRead {
-    pub verdict: u16,
-    pub row: TxfRow,
-    pub next: usize,
-}
-
-pub fn read_txf(table: &[u8], at: usize) -> TxfRead
+pub fn read_txf(table: &[u8], at: usize) -> RowRead<TxfRow>
     ensures verdict_value { (result.verdict ≡ formed Txf (line_from table.now at)) × (result.row ≡ txf_row (line_from table.now at).bytes) }
     ensures next_value { result.next ≡ (next_line table.now at).next }
 {
@@ -192,21 +151,14 @@ pub fn read_txf(table: &[u8], at: usize) -> TxfRead
     let line = part(table, at, walk.end);
     let shaped = check_txf(line, walk, &ends);
     let row = txf_row(line, &ends);
-    TxfRead {
+    RowRead {
         verdict: or_contradiction(shaped, txf_contradiction(row)),
         row,
         next: walk.next,
     }
 }
 
-#[derive(Clone, Copy)]
-pub struct TxpRead {
-    pub verdict: u16,
-    pub row: TxpRow,
-    pub next: usize,
-}
-
-pub fn read_txp(table: &[u8], at: usize) -> TxpRead
+pub fn read_txp(table: &[u8], at: usize) -> RowRead<TxpRow>
     ensures verdict_value { (result.verdict ≡ formed Txp (line_from table.now at)) × (result.row ≡ txp_row (line_from table.now at).bytes) }
     ensures next_value { result.next ≡ (next_line table.now at).next }
 {
@@ -215,21 +167,14 @@ pub fn read_txp(table: &[u8], at: usize) -> TxpRead
     let line = part(table, at, walk.end);
     let shaped = check_txp(line, walk, &ends);
     let row = txp_row(line, &ends);
-    TxpRead {
+    RowRead {
         verdict: or_contradiction(shaped, txp_contradiction(row)),
         row,
         next: walk.next,
     }
 }
 
-#[derive(Clone, Copy)]
-pub struct OcfRead {
-    pub verdict: u16,
-    pub row: OcfRow,
-    pub next: usize,
-}
-
-pub fn read_ocf(table: &[u8], at: usize) -> OcfRead
+pub fn read_ocf(table: &[u8], at: usize) -> RowRead<OcfRow>
     ensures verdict_value { (result.verdict ≡ formed Ocf (line_from table.now at)) × (result.row ≡ ocf_row (line_from table.now at).bytes) }
     ensures next_value { result.next ≡ (next_line table.now at).next }
 {
@@ -238,21 +183,14 @@ pub fn read_ocf(table: &[u8], at: usize) -> OcfRead
     let line = part(table, at, walk.end);
     let shaped = check_ocf(line, walk, &ends);
     let row = ocf_row(line, &ends);
-    OcfRead {
+    RowRead {
         verdict: or_contradiction(shaped, ocf_contradiction(row)),
         row,
         next: walk.next,
     }
 }
 
-#[derive(Clone, Copy)]
-pub struct OcpRead {
-    pub verdict: u16,
-    pub row: OcpRow,
-    pub next: usize,
-}
-
-pub fn read_ocp(table: &[u8], at: usize) -> OcpRead
+pub fn read_ocp(table: &[u8], at: usize) -> RowRead<OcpRow>
     ensures verdict_value { (result.verdict ≡ formed Ocp (line_from table.now at)) × (result.row ≡ ocp_row (line_from table.now at).bytes) }
     ensures next_value { result.next ≡ (next_line table.now at).next }
 {
@@ -261,7 +199,7 @@ pub fn read_ocp(table: &[u8], at: usize) -> OcpRead
     let line = part(table, at, walk.end);
     let shaped = check_ocp(line, walk, &ends);
     let row = ocp_row(line, &ends);
-    OcpRead {
+    RowRead {
         verdict: or_contradiction(shaped, ocp_contradiction(row)),
         row,
         next: walk.next,
@@ -269,25 +207,18 @@ pub fn read_ocp(table: &[u8], at: usize) -> OcpRead
 }
 
 // Of an mcf row IDENT alone is decoded: its coefficients are for the questions of packets.
-#[derive(Clone, Copy)]
-pub struct McfRead {
-    pub verdict: u16,
-    pub ident: CurveName,
-    pub next: usize,
-}
-
-pub fn read_mcf(table: &[u8], at: usize) -> McfRead
-    ensures verdict_value { (result.verdict ≡ formed Mcf (line_from table.now at)) × (result.ident ≡ (mcf_row (line_from table.now at).bytes).ident) }
+pub fn read_mcf(table: &[u8], at: usize) -> RowRead<CurveName>
+    ensures verdict_value { (result.verdict ≡ formed Mcf (line_from table.now at)) × (result.row ≡ (mcf_row (line_from table.now at).bytes).ident) }
     ensures next_value { result.next ≡ (next_line table.now at).next }
 {
     let mut ends = [0usize; MOST_COLUMNS];
     let walk = scan(table, at, true, &mut ends);
     let line = part(table, at, walk.end);
     let shaped = check_mcf(line, walk, &ends);
-    let ident = mcf_ident(line, &ends);
-    McfRead {
+    let row = mcf_ident(line, &ends);
+    RowRead {
         verdict: or_contradiction(shaped, 0),
-        ident,
+        row,
         next: walk.next,
     }
 }

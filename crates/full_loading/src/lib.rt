@@ -6,16 +6,10 @@ ghost use Rattle.loading.specs.Loaded.{lent};
 ghost use Rattle.full_loading.specs.FullLoads.{FullLoads};
 
 use database::COLUMNS;
-use kept::{LINKS, WORDS};
-use loading::{Loading, load};
+use kept::{KeepError, LINKS, WORDS};
+use loading::load;
 use outcomes::Refusal;
 use tables::TABLES;
-
-#[derive(Clone, Copy)]
-pub enum FullLoading {
-    Done,
-    Refused(Refusal),
-}
 
 // The arrays are lent at their full size, so that a caller which makes them shows nothing of their lengths.
 pub fn load_full(
@@ -23,14 +17,13 @@ pub fn load_full(
     words: &mut [u64; WORDS],
     links: &mut [u16; LINKS],
     columns: &mut [u16; COLUMNS],
-) -> FullLoading
+) -> Result<(), Refusal>
     ensures { FullLoads (map (λ x. x.now) tables.entry) (lent words.old links.old columns.old)
         (lent words.new links.new columns.new) result }
 {
     match load(tables, words, links, columns) {
-        Loading::Done => FullLoading::Done,
-        Loading::TooLong(table) => FullLoading::Refused(Refusal::TableTooLong(table)),
-        Loading::TooManyRows(table) => FullLoading::Refused(Refusal::TooManyRows(table)),
-        Loading::NoRoom => FullLoading::Done,
+        Ok(()) => Ok(()),
+        Err(KeepError::Sizes(error)) => Err(Refusal::from(error)),
+        Err(KeepError::NoRoom) => Ok(()),
     }
 }

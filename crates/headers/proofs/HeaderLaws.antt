@@ -12,17 +12,18 @@ use borrow.Author.Tests.{eq-eqb, ne_eqb, eqb-true, lt-ltb, le-ltb}
 use Rattle.laws.proofs.Cases.{false≢true}
 use Rattle.laws.specs.Said.{value}
 use Rattle.fields.specs.Bits.{number_at}
-use Rattle.fields.specs.Field.{unsigned_at, said_unsigned}
-use Rattle.fields.specs.declared.field.Unsigned.{Unsigned}
-use Rattle.fields.specs.declared.field.Unsigned.TheVariants.{Is, Outside, NoWidth}
+use Rattle.std.specs.Prelude.{Result, Ok, Err}
+use Rattle.fields.specs.Field.{unsigned_at, said_unsigned, said_error}
+use Rattle.fields.specs.declared.field.FieldError.{FieldError}
+use Rattle.fields.specs.declared.field.FieldError.TheVariants.{Outside, NoWidth}
 use Rattle.fields.proofs.FieldLaws.{field_value, unsigned_read}
 use Rattle.outcomes.specs.Outcome.{Outcome, refused, answer}
 use Rattle.headers.specs.Header.{version, type_bit, flagged, apid, sequence_count, length_field, head_of}
 use Rattle.headers.specs.declared.Head.{Head}
 
 -- a field that a packet has is read
-module _ (p : List ℕ) (at n : ℕ) (r : Unsigned) (s : said_unsigned r ≡ unsigned_at p at n) where
-  pub bits_read : (v : ℕ) → r ≡ Is v → (v ≡ number_at p at n) × (v < 2 ^ n)
+module _ (p : List ℕ) (at n : ℕ) (r : Result ℕ FieldError) (s : said_unsigned r ≡ unsigned_at p at n) where
+  pub bits_read : (v : ℕ) → r ≡ Ok v → (v ≡ number_at p at n) × (v < 2 ^ n)
   unfolding said_unsigned
   bits_read v e = let u = unsigned_read p at n v (sym (ap said_unsigned e) ∙ s) in (u.is, u.below)
 
@@ -31,13 +32,10 @@ module _ (p : List ℕ) (at n : ℕ) (r : Unsigned) (s : said_unsigned r ≡ uns
     unfolding unsigned_at
     there = s ∙ sym (field_value pos p at n wide narrow here)
 
-    pub bits_inside : r ≡ Outside → ⊥
-    unfolding said_unsigned
-    bits_inside e = false≢true (cc (there, e))
-
-    pub bits_wide : r ≡ NoWidth → ⊥
-    unfolding said_unsigned
-    bits_wide e = false≢true (cc (there, e))
+    pub bits_there : (error : FieldError) → r ≡ Err error → ⊥
+    unfolding said_unsigned said_error
+    bits_there Outside e = false≢true (cc (there, e))
+    bits_there NoWidth e = false≢true (cc (there, e))
 
 -- a header with these numbers
 abbrev told : Bool → (apid count : ℕ) → Outcome Head

@@ -3,10 +3,7 @@ use Rattle.std.specs.Prelude.{◌≡◌, refl, Bool, true, not, cond, ◌&&◌, 
 use Rattle.fields.specs.Bits.{bit_at, number_at}
 use Rattle.fields.specs.Figures.{packet}
 use Rattle.outcomes.specs.Outcome.{Outcome, refused, answer}
-use Rattle.outcomes.specs.Refusals.{refused_by}
 use Rattle.headers.specs.declared.Head.{Head}
-use Rattle.headers.specs.declared.Headed.{Headed}
-use Rattle.headers.specs.declared.Headed.TheVariants.{Is, Refused}
 
 -- the fields of the first six bytes, in their order
 unfoldable pub version : List ℕ → ℕ
@@ -37,11 +34,6 @@ head_of p =
     (cond (not (eqb (length_field p + 7) (length p))) (refused 22 0)
     (cond (flagged p && ltb (length p) 9) (refused 23 0)
     (answer (record { flagged = flagged p; apid = apid p; count = sequence_count p })))))
-
--- what the code's cases say
-unfoldable pub said_head : Headed → Outcome Head
-said_head (Is head) = answer head
-said_head (Refused refusal) = refused_by refusal
 
 pub record Examples : Type 0 where
   -- 01: "Packet `08 0A C0 00 …`: APID 10"; it flags a data field header, and its sequence count is 0

@@ -1,5 +1,5 @@
 -- Which packet it is.
-use Rattle.std.specs.Prelude.{ℕ, ◌≡◌, refl, List, [], ◌∷◌}
+use Rattle.std.specs.Prelude.{ℕ, ◌≡◌, refl, List, [], ◌∷◌, Result, Ok, Err}
 use Rattle.std.proofs.Math.Option.{Option, none, some}
 use Rattle.numbers.specs.Number.{digit_of, digit_on, after, spelt, meaning, number_of}
 use Rattle.lines.specs.Columns.{columns_from, columns_of}
@@ -17,13 +17,13 @@ use Rattle.key_symbols.specs.Bounded.{packet_of}
 use Rattle.key_symbols.specs.declared.FiveNumbers.{FiveNumbers}
 use Rattle.outcomes.specs.Outcome.{Outcome, refused, answer, and_then}
 use Rattle.outcomes.specs.Refusals.{refused_by}
+use Rattle.outcomes.specs.declared.Refusal.{Refusal}
 use Rattle.database.specs.Rows.{Row, Rows}
 use Rattle.database.specs.GoodRows.{among, find, holds_key}
 use Rattle.identifiers.specs.Identifiers.{read_identifier, identifier_at, identifiers_by}
 use Rattle.five_numbers.specs.Numbers.{or_other, pic_row_of, identifiers_from, numbers_of, five_numbers, example_row, own_apid, general}
 use Rattle.headers.specs.declared.Head.{Head}
-use Rattle.identification.specs.declared.Identified.{Identified}
-use Rattle.identification.specs.declared.Identified.TheVariants.{Is, Refused}
+use Rattle.identification.specs.declared.Identity as found
 
 -- the number of the pid row, its SPID, and the five numbers
 pub record Identity : Type 0 where
@@ -48,9 +48,9 @@ unfoldable pub identify_by : Rows → List ℕ → Outcome Identity
 identify_by rows p = and_then (head_of p) (λ head. identify_headed rows head p)
 
 -- 01's number and values of each case
-unfoldable pub said_identified : Identified → Outcome Identity
-said_identified (Is row spid n) = answer (record { row = row.0; spid = spid.0; numbers = n })
-said_identified (Refused refusal) = refused_by refusal
+unfoldable pub said_identified : Result found.Identity Refusal → Outcome Identity
+said_identified (Ok id) = answer (record { row = id.row.0; spid = id.spid.0; numbers = id.numbers })
+said_identified (Err refusal) = refused_by refusal
 
 -- Examples of 01's packet: SPID 1,000 has PI1 4,660, and SPID 2,000 isn't VALID Y
 abbrev spid1000 : Row

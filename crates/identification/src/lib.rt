@@ -8,18 +8,18 @@ ghost use Rattle.identification.specs.Identification.{choose_by, identify_headed
 use database::{holder_of, number_of};
 use five_numbers::{identifiers_of, numbers_of};
 use found_rows::spid_at;
-use headers::{Head, Headed, read_header};
-use identifiers::Fields;
+use headers::{Head, read_header};
 use key_symbols::{FiveNumbers, packet_key};
 use outcomes::Refusal;
 use tables::TABLES;
 use units::{RowNumber, Spid};
 
-// The pid row's number, its SPID and the five numbers; or why there is none.
+// The pid row's number, its SPID and the five numbers.
 #[derive(Clone, Copy)]
-pub enum Identified {
-    Is(RowNumber, Spid, FiveNumbers),
-    Refused(Refusal),
+pub struct Identity {
+    pub row: RowNumber,
+    pub spid: Spid,
+    pub numbers: FiveNumbers,
 }
 
 // The pid row that the five numbers choose.
@@ -29,21 +29,22 @@ fn choose(
     links: &[u16],
     columns: &[u16],
     numbers: FiveNumbers,
-) -> Identified
+) -> Result<Identity, Refusal>
     ensures { said_identified result
         ≡ choose_by (answers (database (map (λ x. x.now) tables.entry) words.now links.now columns.now)) numbers }
 {
     let asked = packet_key(numbers);
     if !asked.fits {
-        return Identified::Refused(Refusal::NoPidRow);
+        return Err(Refusal::NoPidRow);
     }
     let at = holder_of(words, links, columns, asked.key);
     if at == 0 {
-        return Identified::Refused(Refusal::NoPidRow);
+        return Err(Refusal::NoPidRow);
     }
     let i = at - 1;
+    let row = number_of(columns, i);
     let spid = spid_at(tables, columns, i);
-    Identified::Is(number_of(columns, i), spid, numbers)
+    Ok(Identity { row, spid, numbers })
 }
 
 // Which packet it is, by the good rows of the database, where its header is known.
@@ -55,15 +56,13 @@ pub fn identify_headed(
     columns: &[u16],
     p: &[u8],
     head: Head,
-) -> Identified
+) -> Result<Identity, Refusal>
     ensures { said_identified result
         ≡ identify_headed (answers (database (map (λ x. x.now) tables.entry) words.now links.now columns.now))
         head p.now }
 {
-    match identifiers_of(tables, words, links, columns, p, head) {
-        Fields::Are(pair) => choose(tables, words, links, columns, numbers_of(p, head, pair)),
-        Fields::Refused(refusal) => Identified::Refused(refusal),
-    }
+    let pair = identifiers_of(tables, words, links, columns, p, head)?;
+    choose(tables, words, links, columns, numbers_of(p, head, pair))
 }
 
 // The same from the header on.
@@ -73,12 +72,10 @@ pub fn identify_in(
     links: &[u16],
     columns: &[u16],
     p: &[u8],
-) -> Identified
+) -> Result<Identity, Refusal>
     ensures { said_identified result
         ≡ identify_by (answers (database (map (λ x. x.now) tables.entry) words.now links.now columns.now)) p.now }
 {
-    match read_header(p) {
-        Headed::Is(head) => identify_headed(tables, words, links, columns, p, head),
-        Headed::Refused(refusal) => Identified::Refused(refusal),
-    }
+    let head = read_header(p)?;
+    identify_headed(tables, words, links, columns, p, head)
 }

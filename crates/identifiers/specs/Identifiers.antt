@@ -1,5 +1,5 @@
 -- PI1 and PI2 of a packet, by a pic row.
-use Rattle.std.specs.Prelude.{ℕ, ◌*◌, ◌≡◌, refl, List, nat_abs}
+use Rattle.std.specs.Prelude.{ℕ, ◌*◌, ◌≡◌, refl, List, nat_abs, None}
 use Rattle.laws.specs.Said.{Said, value, refused as refusedField, free}
 use Rattle.fields.specs.Bits.{bit_at, number_at}
 use Rattle.fields.specs.Place.{bit_inside, inside}
@@ -7,15 +7,9 @@ use Rattle.fields.specs.Field.{is_width, field_at, unsigned_at}
 use Rattle.fields.specs.Figures.{packet}
 use Rattle.rows.specs.declared.records.IdentificationField.{IdentificationField}
 use Rattle.rows.specs.declared.records.IdentificationField.TheVariants.{Unused, At}
-use Rattle.rows.specs.declared.records.OptionalApid.TheVariants.{Any}
 use Rattle.rows.specs.declared.records.PicRow.{PicRow}
 use Rattle.outcomes.specs.Outcome.{Outcome, refused, answer, and_then}
-use Rattle.outcomes.specs.Refusals.{refused_by}
-use Rattle.identifiers.specs.declared.Field.{Field}
-use Rattle.identifiers.specs.declared.Field.TheVariants as one
 use Rattle.identifiers.specs.declared.Identifiers.{Identifiers}
-use Rattle.identifiers.specs.declared.Fields.{Fields}
-use Rattle.identifiers.specs.declared.Fields.TheVariants as both
 
 -- 01: "24 an identification field leaves the packet", at "the byte in which the first such field starts".
 -- A width that no field has, which no good row gives, reads as nothing
@@ -36,18 +30,9 @@ identifiers_by p row =
     and_then (identifier_at p row.pi2) (λ second.
     answer (record { pi1 = first; pi2 = second })))
 
--- what the code's cases say
-unfoldable pub said_field : Field → Outcome ℕ
-said_field (one.Is v) = answer v
-said_field (one.Refused refusal) = refused_by refusal
-
-unfoldable pub said_fields : Fields → Outcome Identifiers
-said_fields (both.Are pair) = answer pair
-said_fields (both.Refused refusal) = refused_by refusal
-
 -- of 01's packet
 abbrev fields_of : (first second : IdentificationField) → PicRow
-fields_of first second = record { ptype = 3; stype = 25; pi1 = first; pi2 = second; apid = Any }
+fields_of first second = record { ptype = 3; stype = 25; pi1 = first; pi2 = second; apid = None }
 
 abbrev bits16 : ℕ → IdentificationField
 bits16 byte = At (record { 0 = byte }) 16

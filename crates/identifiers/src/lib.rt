@@ -3,31 +3,19 @@
 
 ghost use Rattle.std.specs.Prelude.{◌≡◌, ◌*◌, drop};
 ghost use Rattle.fields.specs.Field.{unsigned_at};
-ghost use Rattle.identifiers.specs.Identifiers.{read_identifier, identifier_at, identifiers_by, said_field, said_fields};
+ghost use Rattle.outcomes.specs.Refusals.{said};
+ghost use Rattle.identifiers.specs.Identifiers.{read_identifier, identifier_at, identifiers_by};
 
-use fields::field::{Unsigned, read_unsigned};
+use fields::field::{FieldError, read_unsigned};
 use outcomes::Refusal;
 use rows::records::{IdentificationField, PicRow};
 use units::{BitOffset, ByteOffset};
-
-// What an identification field reads, or that it leaves the packet.
-#[derive(Clone, Copy)]
-pub enum Field {
-    Is(u64),
-    Refused(Refusal),
-}
 
 // PI1 and PI2.
 #[derive(Clone, Copy)]
 pub struct Identifiers {
     pub pi1: u64,
     pub pi2: u64,
-}
-
-#[derive(Clone, Copy)]
-pub enum Fields {
-    Are(Identifiers),
-    Refused(Refusal),
 }
 
 // The bytes from `at` on; none past the end.
@@ -41,37 +29,31 @@ fn bytes_from(p: &[u8], at: usize) -> &[u8]
 }
 
 // The field is read from the first bit of its first byte: a place in bits can pass a word.
-fn field_at(p: &[u8], byte: ByteOffset, width: u32) -> Field
-    ensures { said_field result ≡ read_identifier byte.0 (unsigned_at p.now (byte.0 * 8) width) }
+fn field_at(p: &[u8], byte: ByteOffset, width: u32) -> Result<u64, Refusal>
+    ensures { said result ≡ read_identifier byte.0 (unsigned_at p.now (byte.0 * 8) width) }
 {
     match read_unsigned(bytes_from(p, byte.0), BitOffset(0), width) {
-        Unsigned::Is(v) => Field::Is(v),
-        Unsigned::Outside => Field::Refused(Refusal::IdentificationLeaves(byte)),
-        Unsigned::NoWidth => Field::Is(0),
+        Ok(v) => Ok(v),
+        Err(FieldError::Outside) => Err(Refusal::IdentificationLeaves(byte)),
+        Err(FieldError::NoWidth) => Ok(0),
     }
 }
 
 // An unused field is 0.
-fn read_field(p: &[u8], field: IdentificationField) -> Field
-    ensures { said_field result ≡ identifier_at p.now field }
+fn read_field(p: &[u8], field: IdentificationField) -> Result<u64, Refusal>
+    ensures { said result ≡ identifier_at p.now field }
 {
     match field {
-        IdentificationField::Unused => Field::Is(0),
+        IdentificationField::Unused => Ok(0),
         IdentificationField::At(byte, width) => field_at(p, byte, width),
     }
 }
 
 // PI1 first: where both leave the packet, its byte is told.
-pub fn read_fields(p: &[u8], row: PicRow) -> Fields
-    ensures { said_fields result ≡ identifiers_by p.now row }
+pub fn read_fields(p: &[u8], row: PicRow) -> Result<Identifiers, Refusal>
+    ensures { said result ≡ identifiers_by p.now row }
 {
-    let first = row.pi1;
-    let second = row.pi2;
-    match read_field(p, first) {
-        Field::Is(pi1) => match read_field(p, second) {
-            Field::Is(pi2) => Fields::Are(Identifiers { pi1, pi2 }),
-            Field::Refused(refusal) => Fields::Refused(refusal),
-        },
-        Field::Refused(refusal) => Fields::Refused(refusal),
-    }
+    let pi1 = read_field(p, row.pi1)?;
+    let pi2 = read_field(p, row.pi2)?;
+    Ok(Identifiers { pi1, pi2 })
 }

@@ -46,22 +46,12 @@ module _ (texts : List (List ℕ)) (cells : List ℕ) where
 
 module _ (texts : List (List ℕ)) (room : ℕ) where
   -- refusals 1 and 2
-  pub answer_long : {table : ℕ} → sizes_of texts ≡ refused_by 1 table → import_of texts room ≡ refused 1 table
+  pub answer_refused : {number table : ℕ} → sizes_of texts ≡ refused_by number table → import_of texts room ≡ refused number table
   unfolding import_of sizes_of
-  answer_long {table} e = go (eqb (too_long texts) 0) (eqb (too_many_rows texts) 0) _ _ _ e
+  answer_refused {number} {table} e = go (eqb (too_long texts) 0) (eqb (too_many_rows texts) 0) _ _ _ e
     where
-      go : (a b : Bool) (p q : ℕ) (x : Imported) → cond a (cond b fit (refused_by 2 p)) (refused_by 1 q) ≡ refused_by 1 table
-          → cond a (cond b x (refused 2 p)) (refused 1 q) ≡ refused 1 table
-      go true true p q x e = cc
-      go true false p q x e = cc
-      go false b p q x e = cc
-
-  pub answer_many : {table : ℕ} → sizes_of texts ≡ refused_by 2 table → import_of texts room ≡ refused 2 table
-  unfolding import_of sizes_of
-  answer_many {table} e = go (eqb (too_long texts) 0) (eqb (too_many_rows texts) 0) _ _ _ e
-    where
-      go : (a b : Bool) (p q : ℕ) (x : Imported) → cond a (cond b fit (refused_by 2 p)) (refused_by 1 q) ≡ refused_by 2 table
-          → cond a (cond b x (refused 2 p)) (refused 1 q) ≡ refused 2 table
+      go : (a b : Bool) (p q : ℕ) (x : Imported) → cond a (cond b fit (refused_by 2 p)) (refused_by 1 q) ≡ refused_by number table
+          → cond a (cond b x (refused 2 p)) (refused 1 q) ≡ refused number table
       go true true p q x e = cc
       go true false p q x e = cc
       go false b p q x e = cc

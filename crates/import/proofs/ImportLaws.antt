@@ -6,6 +6,9 @@ use Prim.Native.Nat.{ℕ, ◌≤◌}
 use native.Mathlib.Omega.{arith}
 use lib.ListN.{length, take}
 use borrow.Author.Tests.{le-leb}
+use Rattle.std.specs.Prelude.{Result, Ok, Err}
+use Rattle.outcomes.specs.Refusals.{refusal_number, refusal_place}
+use Rattle.outcomes.specs.declared.Refusal.{Refusal}
 use Rattle.symbols.specs.Arrays.{all_words, all_links}
 use Rattle.verdicts.specs.Entries.{all_rows}
 use Rattle.verdicts.specs.Verdicts.{verdicts}
@@ -20,11 +23,10 @@ use Rattle.positions.specs.Kept.{PositionsBy}
 use Rattle.positions.proofs.KeptLaws.{positions_are}
 use Rattle.import.specs.Judged.{judged_cells, said_imported, AnswersBy}
 use Rattle.import.specs.declared.Imported.{Imported}
-use Rattle.import.specs.declared.Imported.TheVariants.{Done, TooLong, TooManyRows, TooFewCells}
 use Rattle.import.proofs.AnswerLaws.{cells_enough, cells_are, cells_first, answer_few, answer_taken}
 
 -- the answer, the cells and the positions are the definition's
-pub record Answered (texts : List (List ℕ)) (before after before' after' : List ℕ) (r : Imported) : Type 0 where
+pub record Answered (texts : List (List ℕ)) (before after before' after' : List ℕ) (r : Result Imported Refusal) : Type 0 where
   pub answer : said_imported r ≡ import_of texts (room_in before before')
   pub cells : after ≡ cells_after texts before (said_imported r)
   pub positions : after' ≡ positions_after texts before' (said_imported r)
@@ -37,7 +39,7 @@ module _ (texts : List (List ℕ)) (s₀ s : Arrays) (rows symbols : ℕ) (k : K
         tables.cells_judged texts s₀ s rows symbols k before after v ∙ sym (cells_enough texts before (omega (arith, k.count, enough)))
 
     module _ (before' after' : List ℕ) (enough' : rows ≤ length before') (p : PositionsBy texts s.halves s.bytes before' after' rows) where
-      pub answer_done : (good : ℕ) → good ≡ zeros (take rows after) → Answered texts before after before' after' (Done rows good)
+      pub answer_done : (good : ℕ) → good ≡ zeros (take rows after) → Answered texts before after before' after' (Ok (record { rows = rows; good = good }))
       unfolding said_imported cells_after positions_after
       answer_done good g =
           let f = sizes_taken texts k.fits in
@@ -50,19 +52,17 @@ module _ (texts : List (List ℕ)) (s₀ s : Arrays) (rows symbols : ℕ) (k : K
           }
 
   -- by the answer
-  pub answer_by : (before after before' after' : List ℕ) (r : Imported) → AnswersBy texts s.halves s.bytes before after before' after' rows r
+  pub answer_by : (before after before' after' : List ℕ) (r : Result Imported Refusal) → AnswersBy texts s.halves s.bytes before after before' after' rows r
       → Answered texts before after before' after' r
-  unfolding AnswersBy said_imported cells_after positions_after
-  answer_by before after before' after' (Done all good) a =
-      rw a.all (answer_done before after a.judged a.enough before' after' a.enough' a.placed good a.zeros)
-  answer_by before after before' after' (TooLong table) a = absurd a
-  answer_by before after before' after' (TooManyRows table) a = absurd a
-  answer_by before after before' after' TooFewCells a =
+  unfolding AnswersBy said_imported cells_after positions_after refusal_number refusal_place
+  answer_by before after before' after' (Ok counts) a =
+      rw a.all (answer_done before after a.judged a.enough before' after' a.enough' a.placed counts.good a.zeros)
+  answer_by before after before' after' (Err refusal) a =
       let f = sizes_taken texts k.fits in
       record {
-        answer = sym (answer_few texts (room_in before before') f.0 f.1 (omega (arith, k.count, a.0)));
-        cells = a.1;
-        positions = a.2;
+        answer = rw a.0 (sym (answer_few texts (room_in before before') f.0 f.1 (omega (arith, k.count, a.1))));
+        cells = a.2;
+        positions = a.3;
       }
 
 -- arrays of the full size have room

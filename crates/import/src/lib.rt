@@ -7,20 +7,18 @@ ghost use Rattle.import.specs.Judged.{said_imported, AnswersBy};
 
 use crate::good::good_rows;
 use judged::judge_kept;
-use kept::{BYTES, HALVES, Keeping, LINKS, WORDS, keep};
+use kept::{BYTES, HALVES, KeepError, LINKS, WORDS, keep};
+use outcomes::Refusal;
 use positions::put_positions;
 use tables::TABLES;
-use units::TableNumber;
 
 mod good;
 
-// The counts of rows and of good rows; or refused: the first table that is too large, or too few cells or positions.
+// The counts of rows and of good rows.
 #[derive(Clone, Copy)]
-pub enum Imported {
-    Done(usize, usize),
-    TooLong(TableNumber),
-    TooManyRows(TableNumber),
-    TooFewCells,
+pub struct Imported {
+    pub rows: usize,
+    pub good: usize,
 }
 
 // The answer of an import whose n rows are kept.
@@ -31,20 +29,20 @@ fn import_kept(
     cells: &mut [u16],
     positions: &mut [u16],
     n: usize,
-) -> Imported
+) -> Result<Imported, Refusal>
     ensures { AnswersBy (map (λ x. x.now) tables.entry) halves.now bytes.now cells.old cells.new
         positions.old positions.new n result }
 {
     if cells.len() < n {
-        return Imported::TooFewCells;
+        return Err(Refusal::TooFewCells);
     }
     if positions.len() < n {
-        return Imported::TooFewCells;
+        return Err(Refusal::TooFewCells);
     }
     judge_kept(halves, bytes, cells, n);
     put_positions(tables, halves, bytes, positions, n);
     let good = good_rows(&cells[..n]);
-    Imported::Done(n, good)
+    Ok(Imported { rows: n, good })
 }
 
 // The arrays are lent at their full size.
@@ -56,21 +54,24 @@ fn import_in(
     bytes: &mut [u8; BYTES],
     cells: &mut [u16],
     positions: &mut [u16],
-) -> Imported
+) -> Result<Imported, Refusal>
     ensures result_value { said_imported result ≡ import_of (map (λ x. x.now) tables.entry) (room_in cells.old positions.old) }
     ensures cells_after { cells.new ≡ cells_after (map (λ x. x.now) tables.entry) cells.old (said_imported result) }
     ensures positions_after { positions.new ≡ positions_after (map (λ x. x.now) tables.entry) positions.old (said_imported result) }
 {
     match keep(tables, words, links, halves, bytes) {
-        Keeping::TooLong(table) => Imported::TooLong(table),
-        Keeping::TooManyRows(table) => Imported::TooManyRows(table),
-        Keeping::NoRoom => Imported::TooFewCells,
-        Keeping::Done(rows, _) => import_kept(tables, halves, bytes, cells, positions, rows),
+        Ok(kept) => import_kept(tables, halves, bytes, cells, positions, kept.rows),
+        Err(KeepError::Sizes(error)) => Err(Refusal::from(error)),
+        Err(KeepError::NoRoom) => Err(Refusal::TooFewCells),
     }
 }
 
 // Judges all rows of the tables: one cell and one position for each, in table order. A refusal touches neither.
-pub fn import(tables: [&[u8]; TABLES], cells: &mut [u16], positions: &mut [u16]) -> Imported
+pub fn import(
+    tables: [&[u8]; TABLES],
+    cells: &mut [u16],
+    positions: &mut [u16],
+) -> Result<Imported, Refusal>
     ensures result_value { said_imported result ≡ import_of (map (λ x. x.now) tables.entry) (room_in cells.old positions.old) }
     ensures cells_after { cells.new ≡ cells_after (map (λ x. x.now) tables.entry) cells.old (said_imported result) }
     ensures positions_after { positions.new ≡ positions_after (map (λ x. x.now) tables.entry) positions.old (said_imported result) }

@@ -10,21 +10,20 @@ use Rattle.outcomes.specs.Refusals.{refused_by}
 use Rattle.outcomes.specs.declared.Refusal.{Refusal}
 use Rattle.packet_index.specs.Index.{Packets}
 use Rattle.packet_index.specs.Making.{index_of}
-use Rattle.index_making.specs.declared.Making.{Making}
-use Rattle.index_making.specs.declared.Making.TheVariants as made
+use Rattle.std.specs.Prelude.{Option, Some, None}
 use Rattle.index_making.specs.Made.{making, rows_after}
 use Rattle.index_calls.specs.IndexCalls.{where_room, made_of, count_of, list_after}
 
 -- the cases of making
-unfoldable pub said_making : Making → Outcome ℕ
-said_making (made.Made count) = answer count
-said_making made.TooShort = refused 3 0
+unfoldable pub said_making : Option ℕ → Outcome ℕ
+said_making (Some count) = answer count
+said_making None = refused 3 0
 
 module _ (packets : Packets) (rows : List ℕ) where
   pub making_said : said_making (making packets rows) ≡ count_of (where_room (length rows) (index_of packets))
   unfolding said_making making count_of where_room and_then
   making_said =
-      cond_cases₂ (λ (m : Making) (o : Outcome (List ℕ)). said_making m ≡ count_of o) (ltb (length rows) (length (index_of packets))) (λ _. refl) (λ _. refl)
+      cond_cases₂ (λ (m : Option ℕ) (o : Outcome (List ℕ)). said_making m ≡ count_of o) (ltb (length rows) (length (index_of packets))) (λ _. refl) (λ _. refl)
 
   pub rows_after_lem : rows_after packets rows ≡ list_after rows (where_room (length rows) (index_of packets))
   unfolding rows_after list_after where_room

@@ -1,13 +1,10 @@
 -- The calls with an index: a search of it, and its making.
 use Rattle.std.specs.Prelude.{ℕ, ◌≡◌, refl, cond, List, [], ◌∷◌, ◌++◌, ltb, length, drop}
 use Rattle.outcomes.specs.Outcome.{Outcome, refused, answer, and_then}
-use Rattle.outcomes.specs.Refusals.{refused_by}
 use Rattle.calls.specs.Tables.{asking}
 use Rattle.packet_rows.specs.Packets.{packets_by}
 use Rattle.packet_index.specs.Making.{index_of}
 use Rattle.searching.specs.Search.{Compared, search_by}
-use Rattle.index_calls.specs.declared.Made.{Made}
-use Rattle.index_calls.specs.declared.Made.TheVariants.{Is, Refused}
 
 -- 02, P4: "refused with 40, next after 1 and 2"
 unfoldable pub search_of : List (List ℕ) → (index p : List ℕ) → Outcome Compared
@@ -29,11 +26,6 @@ count_of made = and_then made (λ index. answer (length index))
 unfoldable pub list_after : (before : List ℕ) → Outcome (List ℕ) → List ℕ
 list_after before (refused number place) = before
 list_after before (answer index) = index ++ drop (length index) before
-
--- what the code's cases say
-unfoldable pub said_made : Made → Outcome ℕ
-said_made (Is count) = answer count
-said_made (Refused refusal) = refused_by refusal
 
 pub record Examples : Type 0 where
   pub no_room : where_room 1 (2 ∷ 4 ∷ []) ≡ refused 3 0

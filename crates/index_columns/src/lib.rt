@@ -22,10 +22,8 @@ fn put_halves(from: &[u16], columns: &mut [u16], place: usize, n: usize)
     requires { place + n ≤ all_columns }
     ensures { columns.new ≡ put_from columns.old place (λ i. get_or from.now i 0) n }
 {
-    let mut i: usize = 0;
-    while i < n {
+    for i in 0..n {
         put_half(columns, place + i, half_at(from, i));
-        i += 1;
     }
 }
 
@@ -40,10 +38,8 @@ fn put_tables(tables: &[u8], columns: &mut [u16], n: usize)
     requires { n ≤ most_places }
     ensures { columns.new ≡ put_from columns.old table_column (λ i. get_or tables.now i 0) n }
 {
-    let mut i: usize = 0;
-    while i < n {
+    for i in 0..n {
         put_half(columns, TABLE + i, wide(byte_at(tables, i)));
-        i += 1;
     }
 }
 
@@ -61,11 +57,9 @@ fn put_numbers(tables: &[u8], columns: &mut [u16], n: usize)
     ensures { columns.new ≡ put_from columns.old number_column (row_number_at tables.now) n }
 {
     let mut number: u16 = 1;
-    let mut i: usize = 0;
-    while i < n {
+    for i in 0..n {
         put_half(columns, NUMBER + i, number);
         number = next_number(number, byte_at(tables, i), byte_at(tables, i + 1));
-        i += 1;
     }
 }
 

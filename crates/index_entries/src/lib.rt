@@ -5,18 +5,11 @@ ghost use Rattle.std.specs.Prelude.{◌≡◌, ◌&&◌, map, suc, leb, ltb};
 ghost use Rattle.laws.specs.Prefix.{count_with};
 ghost use Rattle.verdicts.specs.Answer.{most_rows};
 ghost use Rattle.packet_index.specs.Index.{is_packet, numbers_at};
-ghost use Rattle.index_entries.specs.Loaded.{packets_in};
+ghost use Rattle.index_entries.specs.Loaded.{packets_in, entry_of};
 
 use key_symbols::FiveNumbers;
-use packet_rows::{Packet, packet_at};
+use packet_rows::packet_at;
 use tables::{MOST_ROWS, TABLES};
-
-// Whether a row is one of the packets, and its five numbers; zeros where it has none.
-#[derive(Clone, Copy)]
-pub struct Entry {
-    pub packet: bool,
-    pub numbers: FiveNumbers,
-}
 
 // The row that an entry of an index names.
 pub fn row_of(entry: u16) -> usize
@@ -35,34 +28,59 @@ fn is_row(row: usize) -> bool
     false
 }
 
-// Pid row `row`, from 1.
+// The five numbers of pid row `row`; zeros where it has none.
+pub fn numbers_at(
+    tables: [&[u8]; TABLES],
+    words: &[u64],
+    links: &[u16],
+    columns: &[u16],
+    row: usize,
+) -> FiveNumbers
+    ensures { result ≡ numbers_at (packets_in (map (λ x. x.now) tables.entry) words.now links.now columns.now) row }
+{
+    let found = packet_at(tables, words, links, columns, row);
+    match found {
+        Some(numbers) => numbers,
+        None => FiveNumbers {
+            ptype: 0,
+            stype: 0,
+            apid: 0,
+            pi1: 0,
+            pi2: 0,
+        },
+    }
+}
+
+// The same for a row that is one of the packets.
 pub fn entry_at(
     tables: [&[u8]; TABLES],
     words: &[u64],
     links: &[u16],
     columns: &[u16],
     row: usize,
-) -> Entry
-    ensures { (result.packet ≡ is_packet (packets_in (map (λ x. x.now) tables.entry) words.now links.now columns.now) row)
-        × (result.numbers ≡ numbers_at (packets_in (map (λ x. x.now) tables.entry) words.now links.now columns.now) row) }
+) -> Option<FiveNumbers>
+    ensures { result ≡ entry_of (packets_in (map (λ x. x.now) tables.entry) words.now links.now columns.now) row }
 {
-    let packet = is_row(row);
     let found = packet_at(tables, words, links, columns, row);
-    match found {
-        Packet::Is(numbers) => Entry { packet, numbers },
-        Packet::NoRow => {
-            let numbers = FiveNumbers {
-                ptype: 0,
-                stype: 0,
-                apid: 0,
-                pi1: 0,
-                pi2: 0,
-            };
-            Entry {
-                packet: false,
-                numbers,
-            }
-        }
+    if is_row(row) {
+        return found;
+    }
+    None
+}
+
+// Whether pid row `row` is one of the packets.
+fn is_packet(
+    tables: [&[u8]; TABLES],
+    words: &[u64],
+    links: &[u16],
+    columns: &[u16],
+    row: usize,
+) -> bool
+    ensures { result ≡ is_packet (packets_in (map (λ x. x.now) tables.entry) words.now links.now columns.now) row }
+{
+    match entry_at(tables, words, links, columns, row) {
+        Some(_) => true,
+        None => false,
     }
 }
 
@@ -79,8 +97,7 @@ pub fn count_packets(
     let mut count: usize = 0;
     let mut row: usize = 1;
     while row <= MOST_ROWS {
-        let entry = entry_at(tables, words, links, columns, row);
-        if entry.packet {
+        if is_packet(tables, words, links, columns, row) {
             count += 1;
         }
         row += 1;

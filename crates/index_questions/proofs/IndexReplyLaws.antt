@@ -9,7 +9,7 @@ use lib.ListN.{length}
 use Rattle.laws.proofs.Cases.{bool_cases}
 use Rattle.verdicts.specs.Answer.{most_rows}
 use Rattle.index_calls.specs.IndexCalls.{search_of}
-use Rattle.scripts.specs.declared.operands.Natural.TheVariants as natural
+use Rattle.std.specs.Prelude as rust
 use Rattle.number_lists.specs.Lists.{list_in}
 use Rattle.scripts.proofs.NumeralLaws.{most_is}
 use Rattle.answers.specs.Answers.{unreadable}
@@ -27,10 +27,10 @@ module _ (texts : List (List ℕ)) (packet text : List ℕ) (room : ℕ) where
   unfolding search_reply search_in
   search_unread h e = rw (← h, ← e)
 
-pub entries_fit : (text : List ℕ) (n : ℕ) → entries_lent text ≡ natural.Is n → n ≤ most_entries
+pub entries_fit : (text : List ℕ) (n : ℕ) → entries_lent text ≡ rust.Some n → n ≤ most_entries
 unfolding entries_lent
 entries_fit text n e =
     bool_cases (eqb (length text) 0)
-    (λ t. let h : natural.Is most_rows ≡ natural.Is n = rw t at e in
+    (λ t. let h : rust.Some most_rows ≡ rust.Some n = rw t at e in
     let i : most_rows ≡ n = cc in omega arith)
     (λ f. most_is most_entries n _ (rw f at e))

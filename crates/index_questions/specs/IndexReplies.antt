@@ -10,8 +10,7 @@ use Rattle.verdicts.specs.Answer.{most_rows}
 use Rattle.identification.specs.Identification.{Identity}
 use Rattle.searching.specs.Search.{Compared}
 use Rattle.index_calls.specs.IndexCalls.{search_of, made_of, count_of, list_after}
-use Rattle.scripts.specs.declared.operands.Natural.{Natural}
-use Rattle.scripts.specs.declared.operands.Natural.TheVariants as natural
+use Rattle.std.specs.Prelude as rust
 use Rattle.scripts.specs.Numerals.{natural_in, natural_of, at_most}
 use Rattle.escapes.specs.Escapes.{before}
 use Rattle.number_lists.specs.Lists.{list_in, where_entries, row_numbers_in, before_number}
@@ -45,8 +44,8 @@ unfoldable pub search_reply : List (List ℕ) → (packet text : List ℕ) → A
 search_reply texts packet text = search_in texts packet (list_in most_entries text)
 
 -- index ROOM: how many places are lent, as many as a table has rows where it isn't said
-unfoldable pub entries_lent : (text : List ℕ) → Natural
-entries_lent text = cond (eqb (length text) 0) (natural.Is most_rows) (at_most most_entries (natural_in text))
+unfoldable pub entries_lent : (text : List ℕ) → rust.Option ℕ
+entries_lent text = cond (eqb (length text) 0) (rust.Some most_rows) (at_most most_entries (natural_in text))
 
 -- of so many rows at most six are told
 unfoldable pub told_of : (count : ℕ) → ℕ
@@ -76,9 +75,9 @@ pub record Examples : Type 0 where
   pub three_rows : index_answer (2 ∷ 4 ∷ 1 ∷ 0 ∷ []) 3 ≡ saying (ascii "# rows: # # #") false (3 ∷ 2 ∷ 4 ∷ 1 ∷ 0 ∷ 0 ∷ 0 ∷ [])
   pub no_rows : index_answer [] 0 ≡ saying (ascii "# rows:") false (0 ∷ 0 ∷ 0 ∷ 0 ∷ 0 ∷ 0 ∷ 0 ∷ [])
   pub not_found : found_answer 3 (refused 25 0) ≡ saying (ascii "refused # at #, compared #") false (three_numbers 25 0 3)
-  pub all : entries_lent [] ≡ natural.Is most_rows
-  pub few : entries_lent (ascii "2") ≡ natural.Is 2
-  pub too_many : entries_lent (ascii "1101") ≡ natural.Unread
+  pub all : entries_lent [] ≡ rust.Some most_rows
+  pub few : entries_lent (ascii "2") ≡ rust.Some 2
+  pub too_many : entries_lent (ascii "1101") ≡ rust.None
   pub no_list : search_reply [] [] (ascii "2\tx") ≡ unreadable
 
 pub examples : Examples

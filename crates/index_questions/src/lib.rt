@@ -3,19 +3,20 @@
 
 ghost use Rattle.std.specs.Prelude.{◌≡◌, map, ◌≤◌, length, take};
 ghost use Rattle.searching.specs.Search.{said_search};
-ghost use Rattle.index_calls.specs.IndexCalls.{search_of, said_made};
+ghost use Rattle.outcomes.specs.Refusals.{said};
+ghost use Rattle.index_calls.specs.IndexCalls.{search_of};
 ghost use Rattle.replies.specs.Replies.{reply_of};
 ghost use Rattle.index_questions.specs.IndexReplies.{compared_answer, search_reply, told_of, entries_lent};
 ghost use Rattle.index_questions.specs.IndexReplies.{index_answer, index_left, index_in, index_reply, index_reply_to};
 
 use answers::answer::{Answer, says, unread};
 use arrays::half_at;
-use escapes::Bytes;
-use index_calls::{Made, make, search};
+use index_calls::{make, search};
 use lines::columns::part;
 use number_lists::read_list;
+use outcomes::Refusal;
 use replies::packet_replies::refused_question;
-use scripts::operands::{Natural, natural_to};
+use scripts::operands::natural_to;
 use searching::Search;
 use tables::{MOST_ROWS, TABLES};
 
@@ -23,21 +24,31 @@ use tables::{MOST_ROWS, TABLES};
 const ENTRIES: usize = 1100;
 
 // Where no pid row is found too, it is said how many entries were compared.
-fn say_search(searched: Search) -> Answer
+fn say_search(searched: Result<Search, Refusal>) -> Answer
     ensures { result ≡ reply_of compared_answer (said_search searched) }
 {
     match searched {
-        Search::Is(row, spid, _, compared) => says(
-            b"row #, SPID #, compared #",
-            false,
-            [row.0 as u64, spid.0 as u64, compared as u64, 0, 0, 0, 0],
-        ),
-        Search::NoPidRow(compared) => says(
-            b"refused # at #, compared #",
-            false,
-            [25, 0, compared as u64, 0, 0, 0, 0],
-        ),
-        Search::Refused(refusal) => refused_question(refusal),
+        Ok(s) => match s.found {
+            Some(id) => says(
+                b"row #, SPID #, compared #",
+                false,
+                [
+                    id.row.0 as u64,
+                    id.spid.0 as u64,
+                    s.compared as u64,
+                    0,
+                    0,
+                    0,
+                    0,
+                ],
+            ),
+            None => says(
+                b"refused # at #, compared #",
+                false,
+                [25, 0, s.compared as u64, 0, 0, 0, 0],
+            ),
+        },
+        Err(refusal) => refused_question(refusal),
     }
 }
 
@@ -59,8 +70,8 @@ fn search_read(
     ensures { result ≡ search_reply (map (λ x. x.now) tables.entry) packet.now text.now }
 {
     match read_list(text, list) {
-        Bytes::Are(n) => search_first(tables, packet, list, n),
-        Bytes::Unread => unread(),
+        Some(n) => search_first(tables, packet, list, n),
+        None => unread(),
     }
 }
 
@@ -99,12 +110,12 @@ fn say_index(count: usize, rows: &[u16]) -> Answer
     says(part(&template, 0, 7 + 2 * told), false, values)
 }
 
-fn say_made(made: Made, rows: &[u16]) -> Answer
-    ensures { result ≡ reply_of (index_answer rows.now) (said_made made) }
+fn say_made(made: Result<usize, Refusal>, rows: &[u16]) -> Answer
+    ensures { result ≡ reply_of (index_answer rows.now) (said made) }
 {
     match made {
-        Made::Is(count) => say_index(count, rows),
-        Made::Refused(refusal) => refused_question(refusal),
+        Ok(count) => say_index(count, rows),
+        Err(refusal) => refused_question(refusal),
     }
 }
 
@@ -124,11 +135,11 @@ fn index_first(tables: [&[u8]; TABLES], rows: &mut [u16], room: usize) -> Answer
 }
 
 // How many places are lent: as many as a table has rows where it isn't said.
-fn entries_lent(text: &[u8]) -> Natural
+fn entries_lent(text: &[u8]) -> Option<u64>
     ensures { result ≡ entries_lent text.now }
 {
     if text.len() == 0 {
-        return Natural::Is(MOST_ROWS as u64);
+        return Some(MOST_ROWS as u64);
     }
     natural_to(ENTRIES as u64, text)
 }
@@ -137,8 +148,8 @@ fn index_lent(tables: [&[u8]; TABLES], text: &[u8], rows: &mut [u16; ENTRIES]) -
     ensures { result ≡ index_in (map (λ x. x.now) tables.entry) rows.old text.now }
 {
     match entries_lent(text) {
-        Natural::Is(room) => index_first(tables, rows, room as usize),
-        Natural::Unread => unread(),
+        Some(room) => index_first(tables, rows, room as usize),
+        None => unread(),
     }
 }
 

@@ -6,7 +6,7 @@ ghost use Rattle.packet_index.specs.Index.{numbers_at};
 ghost use Rattle.packet_index.specs.Search.{searched};
 ghost use Rattle.index_entries.specs.Loaded.{packets_in};
 
-use index_entries::{entry_at, row_of};
+use index_entries::{numbers_at, row_of};
 use key_symbols::FiveNumbers;
 use packet_index::Searched;
 use packet_order::{Order, compare};
@@ -42,8 +42,7 @@ pub fn search_index(
         let half = left / 2;
         let middle = before + half;
         let count = compared + 1;
-        let entry = entry_at(tables, words, links, columns, row_of(index[middle]));
-        let stored = entry.numbers;
+        let stored = numbers_at(tables, words, links, columns, row_of(index[middle]));
         let order = compare(numbers, stored);
         match order {
             Order::Before => {

@@ -3,12 +3,11 @@
 
 ghost use Rattle.std.specs.Prelude.{◌≡◌};
 ghost use Rattle.outcomes.specs.Outcome.{refused, answer};
+ghost use Rattle.outcomes.specs.Refusals.{said};
 ghost use Rattle.searching.specs.Search.{said_search};
-ghost use Rattle.index_calls.specs.IndexCalls.{said_made};
 ghost use Rattle.telling.specs.Answers.{told_plainly, plain_of};
 ghost use Rattle.index_telling.specs.Values.{of_compared, plain_search, of_entries};
 
-use index_calls::Made;
 use key_symbols::FiveNumbers;
 use outcomes::{Refusal, number_of};
 use searching::Search;
@@ -45,24 +44,26 @@ fn tell_missing(compared: usize) -> Telling
     }
 }
 
-pub fn tell_searched(search: Search) -> Telling
+pub fn tell_searched(search: Result<Search, Refusal>) -> Telling
     ensures { told_plainly result ≡ plain_search (said_search search) }
 {
     match search {
-        Search::Is(row, spid, n, compared) => tell_found(row, spid, n, compared),
-        Search::NoPidRow(compared) => tell_missing(compared),
-        Search::Refused(refusal) => tell_refusal(refusal),
+        Ok(s) => match s.found {
+            Some(id) => tell_found(id.row, id.spid, id.numbers, s.compared),
+            None => tell_missing(s.compared),
+        },
+        Err(refusal) => tell_refusal(refusal),
     }
 }
 
-pub fn tell_made(made: Made) -> Telling
-    ensures { told_plainly result ≡ plain_of of_entries (said_made made) }
+pub fn tell_made(made: Result<usize, Refusal>) -> Telling
+    ensures { told_plainly result ≡ plain_of of_entries (said made) }
 {
     match made {
-        Made::Is(count) => {
+        Ok(count) => {
             let entries = as_word(count as u64);
             tell([entries, 0, 0, 0, 0, 0, 0, 0], 1)
         }
-        Made::Refused(refusal) => tell_refusal(refusal),
+        Err(refusal) => tell_refusal(refusal),
     }
 }

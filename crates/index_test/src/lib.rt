@@ -46,18 +46,14 @@ fn rises(
         pi1: 0,
         pi2: 0,
     };
-    let mut i: usize = 0;
-    while i < index.len() {
-        let entry = entry_at(tables, words, links, columns, row_of(index[i]));
-        if !entry.packet {
+    for i in 0..index.len() {
+        let Some(numbers) = entry_at(tables, words, links, columns, row_of(index[i])) else {
             return false;
-        }
-        let numbers = entry.numbers;
+        };
         if !follows(i, last, numbers) {
             return false;
         }
         last = numbers;
-        i += 1;
     }
     true
 }

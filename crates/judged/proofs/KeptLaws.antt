@@ -6,6 +6,7 @@ use Prim.Native.Nat.{ℕ, ◌<◌}
 use native.Mathlib.Omega.{arith}
 use lib.Dec.{eqb}
 use lib.ListN.{length, get_or, drop}
+use Rattle.std.specs.Prelude.{is_some}
 use Rattle.laws.specs.Prefix.{flag}
 use Rattle.arrays.specs.Room.{most_places}
 use Rattle.symbols.specs.declared.Symbol.{Symbol}
@@ -13,6 +14,7 @@ use Rattle.symbols.specs.Symbols.{no_id, id_of}
 use Rattle.symbols.specs.Arrays.{symbols}
 use Rattle.verdicts.specs.Key.{Key}
 use Rattle.verdicts.specs.Entries.{Entry, own, facts}
+use Rattle.row_keys.specs.Parts.{key_in}
 use Rattle.keys.specs.Held.{slot_of, keys_of}
 use Rattle.keys.proofs.Fitting.{KeysFit, GroupsFit}
 use Rattle.meaning.specs.Kept.{first_id, AllKnown, none, more, kept_entry, KeptRow, Kept}
@@ -27,15 +29,15 @@ module _ (ls : List Symbol) where
   slot_first (k ∷ ks) = refl
 
   -- at most two keys, each with an id
-  keys_known : (ks : List Key) → KeysFit ks → ((slot_of ks).given ≡ true → id_of (slot_of ks).key ls < no_id)
-      → ((slot_of (drop 1 ks)).given ≡ true → id_of (slot_of (drop 1 ks)).key ls < no_id) → AllKnown coding ls ks
+  keys_known : (ks : List Key) → KeysFit ks → (is_some (slot_of ks) ≡ true → id_of (key_in (slot_of ks)) ls < no_id)
+      → (is_some (slot_of (drop 1 ks)) ≡ true → id_of (key_in (slot_of (drop 1 ks))) ls < no_id) → AllKnown coding ls ks
   unfolding slot_of
   keys_known [] f a b = none
   keys_known (k ∷ []) f a b = more (record { fits = f; numbered = a refl }) none
   keys_known (k ∷ l ∷ []) f a b = more (record { fits = f.0; numbered = a refl }) (more (record { fits = f.1; numbered = b refl }) none)
   keys_known (k ∷ l ∷ m ∷ ms) f a b = absurd f
 
-  groups_known : (gs : List Key) → GroupsFit gs → ((slot_of gs).given ≡ true → id_of (slot_of gs).key ls < no_id) → AllKnown coding ls gs
+  groups_known : (gs : List Key) → GroupsFit gs → (is_some (slot_of gs) ≡ true → id_of (key_in (slot_of gs)) ls < no_id) → AllKnown coding ls gs
   unfolding slot_of
   groups_known [] f a = none
   groups_known (g ∷ []) f a = more (record { fits = f; numbered = a refl }) none

@@ -16,6 +16,7 @@ use Rattle.schemas.specs.declared.Table.{Table}
 use Rattle.verdicts.specs.Places.{no_line}
 use Rattle.symbols.specs.declared.Symbol.{Symbol}
 use Rattle.row_keys.specs.declared.records.RowKeys.{RowKeys}
+use Rattle.row_keys.specs.Parts.{key_in}
 use Rattle.kept.specs.declared.interning.RowIds.{RowIds}
 use Rattle.keys.specs.Held.{row_keys_of}
 use Rattle.kept.specs.Stored.{at, kept_start_column, kept_table_column, KnownRow}
@@ -33,11 +34,11 @@ module _ {ls ms : List Symbol} (w : KeepsIds ls ms) (r : RowKeys) where
   pub known_stays : KnownRow ls r → KnownRow ms r
   known_stays k =
       record {
-        first = λ g. known_on w r.first.key (k.first g);
-        second = λ g. known_on w r.second.key (k.second g);
+        first = λ g. known_on w (key_in r.first) (k.first g);
+        second = λ g. known_on w (key_in r.second) (k.second g);
         one = λ g. known_on w r.one.key (k.one g);
         two = λ g. known_on w r.two.key (k.two g);
-        group = λ g. known_on w r.group.key (k.group g);
+        group = λ g. known_on w (key_in r.group) (k.group g);
       }
 
 -- THE LAW OF ROWS KEPT: a row stays as it is stored while symbols grow and other rows are stored

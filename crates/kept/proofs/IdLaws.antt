@@ -3,6 +3,7 @@ use mathlib.Core.Path.{◌≡◌, refl, ap, sym, ◌∙◌}
 use mathlib.Core.Bool.{Bool, true, false, not, cond, ◌&&◌}
 use mathlib.Core.List.{List}
 use Prim.Native.Nat.{ℕ, ◌+◌, ◌≤◌, ◌<◌}
+use Rattle.std.specs.Prelude.{Option, is_some}
 use native.Mathlib.Omega.{arith}
 use lib.Dec.{eqb, ltb}
 use lib.ListN.{length}
@@ -19,11 +20,10 @@ use Rattle.symbols.proofs.PlaceLaws.{id_is, id_symbol, id_stays, grown_old}
 use Rattle.symbols.proofs.AnswerLaws.{room_sized, words_size, links_size}
 use Rattle.symbols.proofs.FindLaws.{symbols_length}
 use Rattle.symbols.proofs.InternLaws.{Grows, interns, id_now, extends, count_most, is_symbol}
-use Rattle.row_keys.specs.declared.records.Slot.{Slot}
 use Rattle.row_keys.specs.declared.records.Named.{Named}
 use Rattle.row_keys.specs.declared.records.RowKeys.{RowKeys}
 use Rattle.manners.specs.Manners.{bit}
-use Rattle.row_keys.specs.Parts.{is_named}
+use Rattle.row_keys.specs.Parts.{key_in, is_named}
 use Rattle.kept.specs.declared.interning.FirstIds.{FirstIds}
 use Rattle.kept.specs.Stored.{slot_id, named_id}
 use Rattle.kept.specs.Ids.{Spacious, KeepsIds, Fits, Grown, Entered, names_symbol, besides, first_wanted, wanted, FirstEntered, RowEntered}
@@ -115,9 +115,9 @@ module _ {ls ms : List Symbol} (w : KeepsIds ls ms) where
   given_on true k h = w.same k (h refl)
   given_on false k h = refl
 
-  pub slot_on : (s : Slot) → (s.given ≡ true → id_of s.key ls < no_id) → slot_id ms s ≡ slot_id ls s
+  pub slot_on : (s : Option Symbol) → (is_some s ≡ true → id_of (key_in s) ls < no_id) → slot_id ms s ≡ slot_id ls s
   unfolding slot_id
-  slot_on s h = given_on s.given s.key h
+  slot_on s h = given_on (is_some s) (key_in s) h
 
   pub named_on : (n : Named) → (is_named n ≡ true → id_of n.key ls < no_id) → named_id ms n ≡ named_id ls n
   unfolding named_id
@@ -126,8 +126,8 @@ module _ {ls ms : List Symbol} (w : KeepsIds ls ms) where
 
 -- ---- a row's keys
 
--- a slot's id, and a naming's
-slot_is : (ls : List Symbol) (s : Slot) → cond s.given (id_of s.key ls) no_id ≡ slot_id ls s
+-- the id of a key that may be given, and of one that may be named
+slot_is : (ls : List Symbol) (s : Option Symbol) → cond (is_some s) (id_of (key_in s) ls) no_id ≡ slot_id ls s
 unfolding slot_id
 slot_is ls s = refl
 
@@ -167,7 +167,7 @@ module _ (ls : List Symbol) (one : Named) (known : is_named one ≡ true → id_
       go false q false l = l
 
 module _ (w₀ l₀ w₁ l₁ w₂ l₂ w₃ l₃ : List ℕ) (n : ℕ) (r : RowKeys) (p q o : Interned)
-    (x : Entered w₀ l₀ w₁ l₁ n r.first.given r.first.key p) (y : Entered w₁ l₁ w₂ l₂ p.count r.second.given r.second.key q)
+    (x : Entered w₀ l₀ w₁ l₁ n (is_some r.first) (key_in r.first) p) (y : Entered w₁ l₁ w₂ l₂ p.count (is_some r.second) (key_in r.second) q)
     (z : Entered w₂ l₂ w₃ l₃ q.count (is_named r.one) r.one.key o) where
   -- the keys that a row holds and its first naming, one after the other
   pub first_entered : FirstEntered w₀ l₀ w₃ l₃ n r (record { key1 = p.id; key2 = q.id; name1 = o.id; count = o.count })
@@ -179,25 +179,25 @@ module _ (w₀ l₀ w₁ l₁ w₂ l₂ w₃ l₃ : List ℕ) (n : ℕ) (r : Row
         key1 = x.id ∙ slot_is _ r.first ∙ sym (slot_on s r.first x.known);
         key2 = y.id ∙ slot_is _ r.second ∙ sym (slot_on t r.second y.known);
         name1 = z.id ∙ named_is _ r.one;
-        first = λ g. known_on s r.first.key (x.known g);
-        second = λ g. known_on t r.second.key (y.known g);
+        first = λ g. known_on s (key_in r.first) (x.known g);
+        second = λ g. known_on t (key_in r.second) (y.known g);
         one = z.known;
         grown = grown_on (grown_on x.grown y.grown) z.grown;
       }
 
 -- there is a place for each
 module _ (n : ℕ) (r : RowKeys) (h : n + first_wanted r ≤ most_symbols) where
-  pub fits_first : (ls : List Symbol) → r.first.given ≡ true → Fits ls n r.first.key
+  pub fits_first : (ls : List Symbol) → is_some r.first ≡ true → Fits ls n (key_in r.first)
   unfolding first_wanted
-  fits_first ls = fits_given ls n r.first.given r.first.key (omega arith)
+  fits_first ls = fits_given ls n (is_some r.first) (key_in r.first) (omega arith)
 
-  pub fits_second : {w₀ l₀ w₁ l₁ : List ℕ} {p : Interned} → Entered w₀ l₀ w₁ l₁ n r.first.given r.first.key p
-      → r.second.given ≡ true → Fits (symbols w₁ p.count) p.count r.second.key
+  pub fits_second : {w₀ l₀ w₁ l₁ : List ℕ} {p : Interned} → Entered w₀ l₀ w₁ l₁ n (is_some r.first) (key_in r.first) p
+      → is_some r.second ≡ true → Fits (symbols w₁ p.count) p.count (key_in r.second)
   unfolding first_wanted
-  fits_second {p = p} x = fits_given _ p.count r.second.given r.second.key (omega (arith, x.grown.few))
+  fits_second {p = p} x = fits_given _ p.count (is_some r.second) (key_in r.second) (omega (arith, x.grown.few))
 
-  pub fits_one : {w₀ l₀ w₁ l₁ w₂ l₂ : List ℕ} {p q : Interned} → Entered w₀ l₀ w₁ l₁ n r.first.given r.first.key p
-      → Entered w₁ l₁ w₂ l₂ p.count r.second.given r.second.key q → is_named r.one ≡ true → Fits (symbols w₂ q.count) q.count r.one.key
+  pub fits_one : {w₀ l₀ w₁ l₁ w₂ l₂ : List ℕ} {p q : Interned} → Entered w₀ l₀ w₁ l₁ n (is_some r.first) (key_in r.first) p
+      → Entered w₁ l₁ w₂ l₂ p.count (is_some r.second) (key_in r.second) q → is_named r.one ≡ true → Fits (symbols w₂ q.count) q.count r.one.key
   unfolding first_wanted
   fits_one {q = q} x y = fits_given _ q.count (is_named r.one) r.one.key (omega (arith, x.grown.few, y.grown.few))
 
@@ -215,7 +215,7 @@ grown_besides {w₀} {l₀} {w₁} {l₁} {n} {given} {k} {p} one h x =
     }
 
 module _ (w₀ l₀ w₁ l₁ w₂ l₂ w₃ l₃ : List ℕ) (n : ℕ) (r : RowKeys) (ids : FirstIds) (p q : Interned) (f : FirstEntered w₀ l₀ w₁ l₁ n r ids)
-    (x : Entered w₁ l₁ w₂ l₂ ids.count (is_named r.two) r.two.key p) (y : Entered w₂ l₂ w₃ l₃ p.count r.group.given r.group.key q) where
+    (x : Entered w₁ l₁ w₂ l₂ ids.count (is_named r.two) r.two.key p) (y : Entered w₂ l₂ w₃ l₃ p.count (is_some r.group) (key_in r.group) q) where
   -- all of a row's keys
   pub row-entered :
       RowEntered w₀ l₀ w₃ l₃ n r (record { key1 = ids.key1; key2 = ids.key2; name1 = ids.name1; name2 = p.id; group = q.id; count = q.count })
@@ -230,8 +230,8 @@ module _ (w₀ l₀ w₁ l₁ w₂ l₂ w₃ l₃ : List ℕ) (n : ℕ) (r : Row
         name2 = x.id ∙ named_is _ r.two ∙ sym (named_on t r.two x.known);
         group = y.id ∙ slot_is _ r.group;
         known = record {
-          first = λ g. known_on s r.first.key (f.first g);
-          second = λ g. known_on s r.second.key (f.second g);
+          first = λ g. known_on s (key_in r.first) (f.first g);
+          second = λ g. known_on s (key_in r.second) (f.second g);
           one = λ g. known_on s r.one.key (f.one (named_test r.one g));
           two = λ g. known_on t r.two.key (x.known (named_test r.two g));
           group = y.known;
@@ -246,11 +246,11 @@ module _ {w₀ l₀ w₁ l₁ : List ℕ} {n : ℕ} {r : RowKeys} {ids : FirstId
   fits_two = fits_besides (symbols w₁ ids.count) r.one f.one (is_named r.two) r.two.key ids.count (omega (arith, f.grown.few))
 
   pub fits_group : {w₂ l₂ : List ℕ} {p : Interned} → Entered w₁ l₁ w₂ l₂ ids.count (is_named r.two) r.two.key p
-      → r.group.given ≡ true → Fits (symbols w₂ p.count) p.count r.group.key
+      → is_some r.group ≡ true → Fits (symbols w₂ p.count) p.count (key_in r.group)
   unfolding wanted
   fits_group {w₂} {l₂} {p} x =
       let g = grown_besides r.one f.one x in
-      fits_besides (symbols w₂ p.count) r.one (λ e. known_on x.grown.keeps r.one.key (f.one e)) r.group.given r.group.key p.count
+      fits_besides (symbols w₂ p.count) r.one (λ e. known_on x.grown.keeps r.one.key (f.one e)) (is_some r.group) (key_in r.group) p.count
       (omega (arith, f.grown.few, g.few))
 
 -- the first keys ask for no more than all

@@ -3,6 +3,7 @@ use mathlib.Core.Path.{◌≡◌, refl}
 use mathlib.Core.Bool.{Bool, true, false, not, cond, ◌&&◌}
 use mathlib.Core.List.{List, [], ◌∷◌}
 use Prim.Native.Nat.{ℕ, ◌≤◌}
+use Rattle.std.specs.Prelude.{is_some}
 use native.Mathlib.Omega.{arith}
 use lib.Dec.{eqb}
 use Rattle.lines.specs.Lines.{Line}
@@ -24,7 +25,7 @@ use Rattle.row_keys.specs.declared.records.RowKeys.{RowKeys}
 use Rattle.key_symbols.specs.Keyed.{symbol_of}
 use Rattle.manners.specs.Manners.{bit, manners, manner_at, weight, same_manner, code_from, code_of}
 use Rattle.keys.specs.Held.{slot_of, named_of, keys_of, row_keys_of}
-use Rattle.row_keys.specs.Parts.{is_named}
+use Rattle.row_keys.specs.Parts.{key_in, is_named}
 use Rattle.kept.specs.Ids.{names_symbol, besides, first_wanted, wanted}
 use Rattle.kept.specs.Asked.{asks, asks_of, Roomy}
 
@@ -42,7 +43,7 @@ beside_same n true e = rw (e, same_self n.key)
 beside_same n false e = refl
 
 -- rows that hold one key and are counted in no group but that of their first naming
-module _ (r : RowKeys) (second : bit r.second.given ≡ 0) (group : besides r.one r.group.given r.group.key ≡ 0) where
+module _ (r : RowKeys) (second : bit (is_some r.second) ≡ 0) (group : besides r.one (is_some r.group) (key_in r.group) ≡ 0) where
   three : wanted r ≤ 3
   unfolding wanted first_wanted
   three =
@@ -50,7 +51,7 @@ module _ (r : RowKeys) (second : bit r.second.given ≡ 0) (group : besides r.on
         arith,
         second,
         group,
-        bit_most r.first.given,
+        bit_most (is_some r.first),
         bit_most (is_named r.one),
         bit_most
             (is_named r.two && not (names_symbol r.one r.two.key)),
@@ -58,7 +59,7 @@ module _ (r : RowKeys) (second : bit r.second.given ≡ 0) (group : besides r.on
 
   two : besides r.one (is_named r.two) r.two.key ≡ 0 → wanted r ≤ 2
   unfolding wanted first_wanted
-  two e = omega (arith, second, group, e, bit_most r.first.given, bit_most (is_named r.one))
+  two e = omega (arith, second, group, e, bit_most (is_some r.first), bit_most (is_named r.one))
 
 pid_asks : (v : Valid) (r : PidRow) → wanted (keys_of 0 (record { keys = pid_keys v r; names = []; counts = []; groups = []; meets = (pid_facts r).meets })) ≤ 2
 unfolding wanted first_wanted keys_of slot_of named_of pid_keys

@@ -1,5 +1,5 @@
 -- The keys of a row become symbols: what is kept of the row then, and what of the symbols stays.
-use Rattle.std.specs.Prelude.{ℕ, ◌+◌, ◌≤◌, ◌<◌, ◌≡◌, Bool, true, not, cond, ◌&&◌, List, length}
+use Rattle.std.specs.Prelude.{ℕ, ◌+◌, ◌≤◌, ◌<◌, ◌≡◌, Bool, true, not, cond, ◌&&◌, List, length, is_some}
 use Rattle.symbols.specs.declared.Symbol.{Symbol}
 use Rattle.symbols.specs.declared.Interned.{Interned}
 use Rattle.symbols.specs.Symbols.{same_symbol, id_of, no_id}
@@ -8,7 +8,7 @@ use Rattle.symbols.specs.Searches.{Table}
 use Rattle.row_keys.specs.declared.records.Named.{Named}
 use Rattle.row_keys.specs.declared.records.RowKeys.{RowKeys}
 use Rattle.manners.specs.Manners.{bit}
-use Rattle.row_keys.specs.Parts.{is_named}
+use Rattle.row_keys.specs.Parts.{key_in, is_named}
 use Rattle.kept.specs.declared.interning.FirstIds.{FirstIds}
 use Rattle.kept.specs.declared.interning.RowIds.{RowIds}
 use Rattle.kept.specs.Stored.{slot_id, named_id, KnownRow}
@@ -51,18 +51,18 @@ besides n given k = bit (given && not (names_symbol n k))
 
 -- how many symbols a row asks for: a second naming or a group that goes by the key of the first naming asks for none
 unfoldable pub first_wanted : RowKeys → ℕ
-first_wanted r = bit r.first.given + bit r.second.given + bit (is_named r.one)
+first_wanted r = bit (is_some r.first) + bit (is_some r.second) + bit (is_named r.one)
 
 unfoldable pub wanted : RowKeys → ℕ
-wanted r = first_wanted r + besides r.one (is_named r.two) r.two.key + besides r.one r.group.given r.group.key
+wanted r = first_wanted r + besides r.one (is_named r.two) r.two.key + besides r.one (is_some r.group) (key_in r.group)
 
 -- the keys that a row holds and its first naming
 pub record FirstEntered (words₀ links₀ words₁ links₁ : List ℕ) (n : ℕ) (r : RowKeys) (ids : FirstIds) : Type 0 where
   pub key1 : ids.key1 ≡ slot_id (symbols words₁ ids.count) r.first
   pub key2 : ids.key2 ≡ slot_id (symbols words₁ ids.count) r.second
   pub name1 : ids.name1 ≡ named_id (symbols words₁ ids.count) r.one
-  pub first : r.first.given ≡ true → id_of r.first.key (symbols words₁ ids.count) < no_id
-  pub second : r.second.given ≡ true → id_of r.second.key (symbols words₁ ids.count) < no_id
+  pub first : is_some r.first ≡ true → id_of (key_in r.first) (symbols words₁ ids.count) < no_id
+  pub second : is_some r.second ≡ true → id_of (key_in r.second) (symbols words₁ ids.count) < no_id
   pub one : is_named r.one ≡ true → id_of r.one.key (symbols words₁ ids.count) < no_id
   pub grown : Grown words₀ links₀ n words₁ links₁ ids.count (first_wanted r)
 

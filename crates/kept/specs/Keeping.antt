@@ -1,13 +1,14 @@
 -- What keeping the rows of tables answers, and what it leaves in the arrays.
-use Rattle.std.specs.Prelude.{ℕ, ◌≡◌, Bool, true, false, ◌&&◌, List, leb, length}
+use Rattle.std.specs.Prelude.{ℕ, ◌≡◌, Bool, true, false, ◌&&◌, List, leb, length, Result, Ok, Err}
 use Rattle.symbols.specs.Arrays.{all_words, all_links}
 use Rattle.verdicts.specs.Entries.{all_rows}
-use Rattle.tables.specs.Sizes.{fit, refused_by, sizes_of}
+use Rattle.tables.specs.Sizes.{fit, size_refusal, sizes_of}
 use Rattle.kept.specs.Stored.{Stored}
 use Rattle.kept.specs.Puts.{all_halves, all_bytes}
 use Rattle.kept.specs.FirstPass.{Arrays, Situations, SameSizes, HoldBytes}
-use Rattle.kept.specs.declared.Keeping.{Keeping}
-use Rattle.kept.specs.declared.Keeping.TheVariants.{Done, TooLong, TooManyRows, NoRoom}
+use Rattle.kept.specs.declared.KeptCounts.{KeptCounts}
+use Rattle.kept.specs.declared.KeepError.{KeepError}
+use Rattle.kept.specs.declared.KeepError.TheVariants.{Sizes, NoRoom}
 
 -- the arrays have all their places
 abbrev pub has_places : Arrays → Bool
@@ -25,8 +26,7 @@ pub record KeepsRows (texts : List (List ℕ)) (s₀ s₁ : Arrays) (rows symbol
   pub below : HoldBytes texts
 
 -- 01: "A refusal writes nothing"
-unfoldable pub Keeps : List (List ℕ) → Arrays → Arrays → Keeping → Type 0
-Keeps texts s₀ s₁ (Done rows symbols) = KeepsRows texts s₀ s₁ rows symbols
-Keeps texts s₀ s₁ (TooLong table) = (sizes_of texts ≡ refused_by 1 table.0) × (s₁ ≡ s₀)
-Keeps texts s₀ s₁ (TooManyRows table) = (sizes_of texts ≡ refused_by 2 table.0) × (s₁ ≡ s₀)
-Keeps texts s₀ s₁ NoRoom = (sizes_of texts ≡ fit) × (has_places s₀ ≡ false) × (s₁ ≡ s₀)
+unfoldable pub Keeps : List (List ℕ) → Arrays → Arrays → Result KeptCounts KeepError → Type 0
+Keeps texts s₀ s₁ (Ok kept) = KeepsRows texts s₀ s₁ kept.rows kept.symbols
+Keeps texts s₀ s₁ (Err (Sizes error)) = (sizes_of texts ≡ size_refusal error) × (s₁ ≡ s₀)
+Keeps texts s₀ s₁ (Err NoRoom) = (sizes_of texts ≡ fit) × (has_places s₀ ≡ false) × (s₁ ≡ s₀)

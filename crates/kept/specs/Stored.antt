@@ -1,5 +1,5 @@
 -- What is kept of the rows of the tables: arrays of columns with a place for each row, and the symbols of their keys.
-use Rattle.std.specs.Prelude.{ℕ, ◌+◌, ◌*◌, ◌≤◌, ◌<◌, min, ◌≡◌, true, cond, List, eqb, length, get_or}
+use Rattle.std.specs.Prelude.{ℕ, ◌+◌, ◌*◌, ◌≤◌, ◌<◌, min, ◌≡◌, true, cond, List, eqb, length, get_or, Option, is_some}
 use Rattle.arrays.specs.Room.{most_places}
 use Rattle.symbols.specs.declared.Symbol.{Symbol}
 use Rattle.symbols.specs.Symbols.{id_of, no_id}
@@ -7,9 +7,9 @@ use Rattle.symbols.specs.Arrays.{symbols, most_symbols}
 use Rattle.symbols.specs.Searches.{Table}
 use Rattle.verdicts.specs.Entries.{Entry, own, facts, bad}
 use Rattle.keys.specs.Held.{keys_of}
-use Rattle.row_keys.specs.declared.records.Slot.{Slot}
 use Rattle.row_keys.specs.declared.records.Named.{Named}
 use Rattle.row_keys.specs.declared.records.RowKeys.{RowKeys}
+use Rattle.row_keys.specs.Parts.{key_in}
 
 -- place i of column c
 abbrev pub at : List ℕ → (c i : ℕ) → ℕ
@@ -56,8 +56,8 @@ abbrev pub kept_table_column : ℕ
 kept_table_column = 4
 
 -- the id of a key that a row may hold, and of one that it may name
-unfoldable pub slot_id : List Symbol → Slot → ℕ
-slot_id ls s = cond s.given (id_of s.key ls) no_id
+unfoldable pub slot_id : List Symbol → Option Symbol → ℕ
+slot_id ls s = cond (is_some s) (id_of (key_in s) ls) no_id
 
 unfoldable pub named_id : List Symbol → Named → ℕ
 named_id ls n = cond (eqb n.code 0) no_id (id_of n.key ls)
@@ -79,11 +79,11 @@ pub record StoredRow (ls : List Symbol) (r : RowKeys) (halves bytes : List ℕ) 
 
 -- all that a row holds, names and is counted in has an id
 pub record KnownRow (ls : List Symbol) (r : RowKeys) : Type 0 where
-  pub first : r.first.given ≡ true → id_of r.first.key ls < no_id
-  pub second : r.second.given ≡ true → id_of r.second.key ls < no_id
+  pub first : is_some r.first ≡ true → id_of (key_in r.first) ls < no_id
+  pub second : is_some r.second ≡ true → id_of (key_in r.second) ls < no_id
   pub one : (r.one.code ≡ 0 → ⊥) → id_of r.one.key ls < no_id
   pub two : (r.two.code ≡ 0 → ⊥) → id_of r.two.key ls < no_id
-  pub group : r.group.given ≡ true → id_of r.group.key ls < no_id
+  pub group : is_some r.group ≡ true → id_of (key_in r.group) ls < no_id
 
 -- the keys of a row of the tables, as symbols
 abbrev pub keys_at : List Entry → ℕ → RowKeys

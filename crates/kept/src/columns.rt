@@ -11,10 +11,8 @@ fn put_halves(halves: &mut [u16], i: usize, values: [u16; 8])
     requires { i < most_places }
     ensures { halves.new ≡ put_columns 0 halves.old i values }
 {
-    let mut c: usize = 0;
-    while c < 8 {
+    for c in 0..8 {
         put_half(halves, c * PLACES + i, values[c]);
-        c += 1;
     }
 }
 
@@ -22,10 +20,8 @@ fn put_bytes(bytes: &mut [u8], i: usize, values: [u8; 5])
     requires { i < most_places }
     ensures { bytes.new ≡ put_columns 0 bytes.old i values }
 {
-    let mut c: usize = 0;
-    while c < 5 {
+    for c in 0..5 {
         put_byte(bytes, c * PLACES + i, values[c]);
-        c += 1;
     }
 }
 

@@ -1,12 +1,12 @@
 // The keys of a row become symbols, and the row keeps their ids.
-ghost use Rattle.std.specs.Prelude.{◌≡◌, true, ◌+◌, ◌≤◌};
+ghost use Rattle.std.specs.Prelude.{◌≡◌, true, ◌+◌, ◌≤◌, is_some};
 ghost use Rattle.symbols.specs.Arrays.{symbols, most_symbols};
 ghost use Rattle.symbols.specs.Searches.{Table};
-ghost use Rattle.row_keys.specs.Parts.{is_named};
+ghost use Rattle.row_keys.specs.Parts.{key_in, is_named};
 ghost use Rattle.kept.specs.Ids.{Spacious, Fits, Entered, first_wanted, wanted, FirstEntered, RowEntered};
 
-use row_keys::records::{Named, RowKeys, Slot};
-use symbols::{Interned, NO_ID, intern};
+use row_keys::records::{Named, RowKeys};
+use symbols::{Interned, NO_ID, Symbol, intern};
 
 // The ids of the keys that a row holds and of its first naming, and how many symbols there are then.
 #[derive(Clone, Copy)]
@@ -28,19 +28,18 @@ pub(crate) struct RowIds {
     pub count: usize,
 }
 
-fn intern_slot(words: &mut [u64], links: &mut [u16], n: usize, slot: Slot) -> Interned
+fn intern_slot(words: &mut [u64], links: &mut [u16], n: usize, slot: Option<Symbol>) -> Interned
     requires table { Table words.old links.old n }
     requires spacious { Spacious words.old links.old }
-    requires fits { slot.given ≡ true → Fits (symbols words.old n) n slot.key }
-    ensures { Entered words.old links.old words.new links.new n slot.given slot.key result }
+    requires fits { is_some slot ≡ true → Fits (symbols words.old n) n (key_in slot) }
+    ensures { Entered words.old links.old words.new links.new n (is_some slot) (key_in slot) result }
 {
-    if slot.given {
-        let key = slot.key;
-        return intern(words, links, n, key);
-    }
-    Interned {
-        id: NO_ID,
-        count: n,
+    match slot {
+        Some(key) => intern(words, links, n, key),
+        None => Interned {
+            id: NO_ID,
+            count: n,
+        },
     }
 }
 

@@ -10,18 +10,12 @@ ghost use Rattle.kept.specs.Ids.{wanted};
 ghost use Rattle.kept.specs.Asked.{asks};
 ghost use Rattle.kept.specs.FirstPass.{arrays, Ready, RowKept, TableKept, Situations, SameSizes, HoldBytes};
 
+use crate::KeptCounts;
 use crate::columns::put_row;
 use crate::interning::intern_row;
 use keys::line_keys;
 use row_keys::records::RowKeys;
 use tables::{TABLES, kind_of, table_at};
-
-// How many rows are kept, and how many symbols there are.
-#[derive(Clone, Copy)]
-pub(crate) struct Kept {
-    pub rows: usize,
-    pub symbols: usize,
-}
 
 // Row i, whose line starts at a place of its table; how many symbols there are then.
 fn keep_row(
@@ -55,7 +49,7 @@ fn keep_table(
     n: usize,
     halves: &mut [u16],
     bytes: &mut [u8],
-) -> Kept
+) -> KeptCounts
     requires ready { Ready (arrays words.old links.old n halves.old bytes.old) }
     requires t_lt_table_count { (t < table_count) × (length table.now ≤ 65536) }
     requires table_bound { (from + length (lines_of table.now) ≤ most_places) × (n + length (lines_of table.now) * asks (carried_at t) ≤ most_symbols) }
@@ -77,7 +71,7 @@ fn keep_table(
         j += 1;
         a = line.next;
     }
-    Kept {
+    KeptCounts {
         rows: from + j,
         symbols: count,
     }
@@ -90,7 +84,7 @@ pub(crate) fn keep_tables(
     links: &mut [u16],
     halves: &mut [u16],
     bytes: &mut [u8],
-) -> Kept
+) -> KeptCounts
     requires tables_value { (too_long (map (λ x. x.now) tables) ≡ 0) × (too_many_rows (map (λ x. x.now) tables) ≡ 0) }
     requires ready { Ready (arrays words.old links.old 0 halves.old bytes.old) }
     ensures rows_value { result.rows ≡ length (all_rows (map (λ x. x.now) tables.entry)) }
@@ -103,8 +97,7 @@ pub(crate) fn keep_tables(
 {
     let mut rows: usize = 0;
     let mut symbols: usize = 0;
-    let mut t: usize = 0;
-    while t < TABLES {
+    for t in 0..TABLES {
         let kept = keep_table(
             table_at(tables, t),
             t,
@@ -117,7 +110,6 @@ pub(crate) fn keep_tables(
         );
         rows = kept.rows;
         symbols = kept.symbols;
-        t += 1;
     }
-    Kept { rows, symbols }
+    KeptCounts { rows, symbols }
 }

@@ -5,11 +5,11 @@ ghost use Rattle.std.specs.Prelude.{◌≡◌, map};
 ghost use Rattle.tables.specs.Sizes.{fit, sizes_of};
 ghost use Rattle.kept.specs.FirstPass.{arrays};
 ghost use Rattle.kept.specs.Keeping.{Keeps};
+ghost use Rattle.kept.specs.declared.KeepError.TheVariants.{Sizes};
 
 use crate::kept::keep_tables;
 use arrays::{PLACES, clear_halves};
-use tables::{Sizes, TABLES, check_sizes};
-use units::TableNumber;
+use tables::{SizeError, TABLES, check_sizes};
 
 mod columns;
 mod interning;
@@ -25,13 +25,26 @@ pub const HALVES: usize = 8 * PLACES;
 
 pub const BYTES: usize = 5 * PLACES;
 
-// How many rows there are, and how many symbols; or the first table that is too large; or too short an array.
+// How many rows are kept, and how many symbols there are.
 #[derive(Clone, Copy)]
-pub enum Keeping {
-    Done(usize, usize),
-    TooLong(TableNumber),
-    TooManyRows(TableNumber),
+pub struct KeptCounts {
+    pub rows: usize,
+    pub symbols: usize,
+}
+
+// The first table that is too large, or too short an array.
+#[derive(Clone, Copy)]
+pub enum KeepError {
+    Sizes(SizeError),
     NoRoom,
+}
+
+impl From<SizeError> for KeepError {
+    ghost from_gives = { λ error kept. kept ≡ Sizes error };
+
+    fn from(error: SizeError) -> KeepError {
+        KeepError::Sizes(error)
+    }
 }
 
 // Reads the rows of the tables once, and keeps what they say in the arrays. A refusal leaves these alone.
@@ -41,15 +54,12 @@ pub fn keep(
     links: &mut [u16],
     halves: &mut [u16],
     bytes: &mut [u8],
-) -> Keeping
+) -> Result<KeptCounts, KeepError>
     ensures { Keeps (map (λ x. x.now) tables.entry) (arrays words.old links.old 0 halves.old bytes.old)
         (arrays words.new links.new 0 halves.new bytes.new) result }
 {
-    match check_sizes(tables) {
-        Sizes::TooLong(table) => Keeping::TooLong(table),
-        Sizes::TooManyRows(table) => Keeping::TooManyRows(table),
-        Sizes::Fit => keep_fitting(tables, words, links, halves, bytes),
-    }
+    check_sizes(tables)?;
+    keep_fitting(tables, words, links, halves, bytes)
 }
 
 // The same of tables that are of a size to take.
@@ -59,24 +69,24 @@ fn keep_fitting(
     links: &mut [u16],
     halves: &mut [u16],
     bytes: &mut [u8],
-) -> Keeping
+) -> Result<KeptCounts, KeepError>
     requires { sizes_of (map (λ x. x.now) tables) ≡ fit }
     ensures { Keeps (map (λ x. x.now) tables.entry) (arrays words.old links.old 0 halves.old bytes.old)
         (arrays words.new links.new 0 halves.new bytes.new) result }
 {
     if words.len() < WORDS {
-        return Keeping::NoRoom;
+        return Err(KeepError::NoRoom);
     }
     if links.len() < LINKS {
-        return Keeping::NoRoom;
+        return Err(KeepError::NoRoom);
     }
     if halves.len() < HALVES {
-        return Keeping::NoRoom;
+        return Err(KeepError::NoRoom);
     }
     if bytes.len() < BYTES {
-        return Keeping::NoRoom;
+        return Err(KeepError::NoRoom);
     }
     clear_halves(links);
     let kept = keep_tables(tables, words, links, halves, bytes);
-    Keeping::Done(kept.rows, kept.symbols)
+    Ok(kept)
 }

@@ -13,8 +13,7 @@ use borrow.Author.Tests.{ne_eqb}
 use Rattle.laws.proofs.At.{same_test}
 use Rattle.name_bytes.specs.declared.Name.{Name}
 use Rattle.name_bytes.specs.declared.CurveName.{CurveName}
-use Rattle.rows.specs.declared.records.OptionalApid.{OptionalApid}
-use Rattle.rows.specs.declared.records.OptionalApid.TheVariants.{Only, Any}
+use Rattle.std.specs.Prelude.{Option, Some, None}
 use Rattle.symbols.specs.declared.Symbol.{Symbol}
 use Rattle.symbols.specs.Symbols.{same_symbol}
 use Rattle.symbols.proofs.SameLaws.{same_is, same_self}
@@ -42,8 +41,8 @@ value_from s = ten_from s (s.b / 65536) (s.b % 65536)
 abbrev integer_from : ℕ → ℤ
 integer_from c = cond (eqb (c % 2) 0) (pos (c / 2)) (negsuc (c / 2))
 
-abbrev apid_from : ℕ → OptionalApid
-apid_from b = cond (eqb b 0) Any (Only (b - 1))
+abbrev apid_from : ℕ → Option ℕ
+apid_from b = cond (eqb b 0) None (Some (b - 1))
 
 -- the key with this symbol
 abbrev key_from : Symbol → Key
@@ -90,10 +89,10 @@ unfolding integer_word
 integer_back (pos n) = rw (mul-mod_left n 2, mul-div_cancel n {n = 2} (omega arith))
 integer_back (negsuc n) = rw (digits_mod n {m = 2} {r = 1} (omega arith), digits_div n {m = 2} {r = 1} (omega arith))
 
-apid_back : (p : OptionalApid) → apid_from (apid_word p) ≡ p
+apid_back : (p : Option ℕ) → apid_from (apid_word p) ≡ p
 unfolding apid_word
-apid_back (Only n) = rw (ne_eqb (n + 1) 0 (λ (e : n + 1 ≡ 0). omega arith)) (ap Only (omega arith))
-apid_back Any = refl
+apid_back (Some n) = rw (ne_eqb (n + 1) 0 (λ (e : n + 1 ≡ 0). omega arith)) (ap Some (omega arith))
+apid_back None = refl
 
 key_back : (k : Key) → Bounded k → key_from (symbol_of k) ≡ k
 unfolding Bounded symbol_of name_symbol curve_symbol value_symbol

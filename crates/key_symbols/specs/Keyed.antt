@@ -1,11 +1,9 @@
 -- Keys as symbols: the key space and three numbers below 2 ^ 64 for each key that a row can hold or name.
-use Rattle.std.specs.Prelude.{◌≡◌, refl, List, [], ◌∷◌, ℕ, ◌+◌, ◌*◌, ◌%◌, ◌^◌, ℤ, pos, negsuc, take, drop}
+use Rattle.std.specs.Prelude.{◌≡◌, refl, List, [], ◌∷◌, ℕ, ◌+◌, ◌*◌, ◌%◌, ◌^◌, ℤ, pos, negsuc, take, drop, Option, Some, None}
 use Rattle.laws.specs.Text.{ascii}
 use Rattle.name_bytes.specs.declared.Name.{Name}
 use Rattle.name_bytes.specs.declared.CurveName.{CurveName}
 use Rattle.name_bytes.specs.Names.{curve_name_of}
-use Rattle.rows.specs.declared.records.OptionalApid.{OptionalApid}
-use Rattle.rows.specs.declared.records.OptionalApid.TheVariants.{Only, Any}
 use Rattle.symbols.specs.declared.Symbol.{Symbol}
 use Rattle.verdicts.specs.Key.{Key, packet, structure, identification, location, parameter, curve, point, texts, range, limits, check}
 
@@ -50,9 +48,9 @@ unfoldable pub value_symbol : ℕ → CurveName → ℤ → Symbol
 value_symbol space n x = symbol space (digits_number 256 (take 8 n.bytes)) (n.len % 2 ^ 48 * 65536 + last_two n) (integer_word x)
 
 -- 01: "an empty APID is a key of its own"
-unfoldable pub apid_word : OptionalApid → ℕ
-apid_word (Only apid) = apid + 1
-apid_word Any = 0
+unfoldable pub apid_word : Option ℕ → ℕ
+apid_word (Some apid) = apid + 1
+apid_word None = 0
 
 -- a key's symbol tells it apart from every other key: see `symbol_exact`.
 -- The key spaces are numbered by the key alone, whatever table holds it
@@ -82,8 +80,8 @@ pub record Examples : Type 0 where
   pub of_curve : symbol_of (curve c1) ≡ symbol 5 0x4331000000000000 2 0
   pub of_texts : symbol_of (texts c1) ≡ symbol 7 0x4331000000000000 2 0
   -- APID 0, and none
-  pub one_apid : symbol_of (identification 3 25 (Only 0)) ≡ symbol 2 0x300000019 1 0
-  pub any_apid : symbol_of (identification 3 25 Any) ≡ symbol 2 0x300000019 0 0
+  pub one_apid : symbol_of (identification 3 25 (Some 0)) ≡ symbol 2 0x300000019 1 0
+  pub any_apid : symbol_of (identification 3 25 None) ≡ symbol 2 0x300000019 0 0
 
 pub examples : Examples
 unfolding symbol_of curve_symbol value_symbol curve_name_of digits_number number_from integer_word apid_word

@@ -9,7 +9,6 @@ ghost use Rattle.key_symbols.specs.Keyed.{no_symbol, symbol_of};
 ghost use Rattle.key_symbols.specs.Bounded.{key_fits, packet_of};
 
 use name_bytes::{CurveName, Name};
-use rows::records::OptionalApid;
 use symbols::Symbol;
 use units::Spid;
 use words::{apid_word, curve_symbol, name_symbol, two_halves, value_symbol};
@@ -94,7 +93,7 @@ pub fn structure_key(spid: Spid) -> Symbol
     }
 }
 
-pub fn identification_key(ptype: u32, stype: u32, apid: OptionalApid) -> Symbol
+pub fn identification_key(ptype: u32, stype: u32, apid: Option<u32>) -> Symbol
     ensures { (result ≡ symbol_of (identification ptype stype apid)) × (key_fits (identification ptype stype apid) ≡ true) }
 {
     Symbol {

@@ -4,7 +4,6 @@ ghost use Rattle.key_symbols.specs.Keyed.{digits_number, name_symbol, curve_symb
 ghost use Rattle.key_symbols.specs.Bounded.{bytes_fit};
 
 use name_bytes::{CurveName, Name};
-use rows::records::OptionalApid;
 use symbols::Symbol;
 
 fn wide(b: u8) -> u64
@@ -19,10 +18,8 @@ fn bytes_word(bytes: &[u8]) -> u64
     ensures { (result ≡ digits_number 256 bytes.now) × (result < 256 ^ length bytes.now) }
 {
     let mut n: u64 = 0;
-    let mut i: usize = 0;
-    while i < bytes.len() {
+    for i in 0..bytes.len() {
         n = n * 256 + wide(bytes[i]);
-        i += 1;
     }
     n
 }
@@ -90,11 +87,11 @@ fn integer_word(x: i64) -> u64
     (x as u64) * 2
 }
 
-pub(crate) fn apid_word(apid: OptionalApid) -> u64
+pub(crate) fn apid_word(apid: Option<u32>) -> u64
     ensures { result ≡ apid_word apid }
 {
     match apid {
-        OptionalApid::Only(n) => (n as u64) + 1,
-        OptionalApid::Any => 0,
+        Some(n) => (n as u64) + 1,
+        None => 0,
     }
 }

@@ -38,10 +38,8 @@ fn shown(b: u8) -> u8
 fn put_shown(text: &[u8], letters: &mut [u8], n: usize)
     ensures { letters.new ≡ sets letters.old 0 (tabulate (shown_at text.now) 0 n) }
 {
-    let mut k: usize = 0;
-    while k < n {
+    for k in 0..n {
         put_byte(letters, k, shown(byte_at(text, k)));
-        k += 1;
     }
 }
 

@@ -1,8 +1,9 @@
--- Slots and namings of rows in which a column may say nothing.
+-- Keys and namings of rows in which a column may say nothing.
 use mathlib.Core.Path.{◌≡◌, refl, ap}
 use mathlib.Core.Bool.{Bool, true, false, cond}
 use mathlib.Core.List.{List, [], ◌∷◌, ◌++◌}
 use Prim.Native.Nat.{ℕ}
+use Rattle.std.specs.Bool.{then_some}
 use lib.Dec.{eqb}
 use lib.ListN.{drop}
 use borrow.Author.Tests.{eqb-true}
@@ -23,18 +24,18 @@ use Rattle.key_symbols.specs.Keyed.{symbol_of}
 use Rattle.manners.specs.Manners.{manner_of, manners, weight, same_manner, code_from, code_of, marks_of}
 use Rattle.row_keys.specs.declared.records.RowKeys.{RowKeys}
 use Rattle.row_keys.specs.Columns.{is_yes, is_engineering}
-use Rattle.row_keys.specs.Parts.{no_slot, slot_for, no_name, no_keys, holder, with_names, naming, counter, member}
+use Rattle.row_keys.specs.Parts.{no_name, no_keys, holder, with_names, naming, counter, member}
 use Rattle.keys.specs.Held.{slot_of, named_of, count_of, keys_of, column_keys, row_keys_of}
 
 -- the keys of a pid row
 module _ (r : PidRow) {yes : Bool} {s : Symbol} where
   pub pid_first : (v : Valid) → yes ≡ is_yes v → s ≡ symbol_of (packet r.ptype r.stype r.apid r.pi1 r.pi2)
-      → cond yes (slot_for s) no_slot ≡ slot_of (pid_keys v r)
+      → then_some yes s ≡ slot_of (pid_keys v r)
   unfolding pid_keys slot_of
   pid_first Yes e f = rw (e, f)
   pid_first No e f = rw e
 
-  pub pid_second : (v : Valid) → yes ≡ is_yes v → s ≡ symbol_of (structure r.spid.0) → cond yes (slot_for s) no_slot ≡ slot_of (drop 1 (pid_keys v r))
+  pub pid_second : (v : Valid) → yes ≡ is_yes v → s ≡ symbol_of (structure r.spid.0) → then_some yes s ≡ slot_of (drop 1 (pid_keys v r))
   unfolding pid_keys slot_of
   pid_second Yes e f = rw (e, f)
   pid_second No e f = rw e

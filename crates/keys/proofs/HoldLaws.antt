@@ -3,6 +3,7 @@ use mathlib.Core.Path.{◌≡◌, refl, ap, ap₂, ◌∙◌}
 use mathlib.Core.Bool.{Bool, true, false, not, cond, ◌&&◌, ◌||◌, or-false, and-false, and_comm}
 use mathlib.Core.List.{List, [], ◌∷◌, map, Memᴰ}
 use Prim.Native.Nat.{ℕ, zero, suc}
+use Rattle.std.specs.Prelude.{is_some}
 use native.Mathlib.Omega.{arith}
 use lib.Dec.{eqb}
 use borrow.Author.Tests.{ne_eqb}
@@ -15,8 +16,7 @@ use Rattle.verdicts.specs.Entries.{Entry, facts}
 use Rattle.verdicts.specs.Steps.{holds, belongs}
 use Rattle.verdicts.specs.Verdicts.{follows}
 use Rattle.manners.specs.Manners.{manners, manner_at}
-use Rattle.row_keys.specs.Parts.{is_named}
-use Rattle.row_keys.specs.declared.records.Slot.{Slot}
+use Rattle.row_keys.specs.Parts.{key_in, is_named}
 use Rattle.row_keys.specs.declared.records.RowKeys.{RowKeys}
 use Rattle.key_symbols.specs.Keyed.{symbol_of}
 use Rattle.key_symbols.specs.Bounded.{Bounded}
@@ -73,10 +73,10 @@ kept_map {A} {B} {C} f to kept a b = go (kept a) (kept b)
 module _ (o : Entry) (r : RowKeys) (h : Says (facts o) r) where
   -- a test of the keys that the row holds
   pub keys_any : (f : Key → Bool) (g : Symbol → Bool) → ((k : Key) → Bounded k → f k ≡ g (symbol_of k))
-      → any f (facts o).keys ≡ (r.first.given && g r.first.key || r.second.given && g r.second.key)
+      → any f (facts o).keys ≡ (is_some r.first && g (key_in r.first) || is_some r.second && g (key_in r.second))
   keys_any f g e =
       any_through f g symbol_of (facts o).keys (λ k m. e k (h.keys_bounded k m)) ∙ ap (any g) h.keys
-      ∙ kept_any g (λ (s : Slot). s.key) (λ (s : Slot). s.given) r.first r.second
+      ∙ kept_any g key_in is_some r.first r.second
 
   -- the row holds a key
   pub holds_has : (k : Key) → Bounded k → holds o k ≡ (has r.first (symbol_of k) || has r.second (symbol_of k))
@@ -89,7 +89,7 @@ module _ (o : Entry) (r : RowKeys) (h : Says (facts o) r) where
   belongs_has k b =
       any_through (same_key k) (same_symbol (symbol_of k)) symbol_of (facts o).groups (λ l m. symbol_exact k l b (h.groups_bounded l m))
       ∙ ap (any (same_symbol (symbol_of k))) h.groups
-      ∙ kept_one (same_symbol (symbol_of k)) (λ (s : Slot). s.key) r.group [] r.group.given
+      ∙ kept_one (same_symbol (symbol_of k)) key_in r.group [] (is_some r.group)
       ∙ or-false _
 
   -- one of what the row names
@@ -125,8 +125,8 @@ chained_only (suc code) held named other chained e =
 -- two rows hold a key in common
 pub shares_has : (e o : Entry) (d r : RowKeys) → Says (facts e) d → Says (facts o) r
     → any (holds o) (facts e).keys
-    ≡ (d.first.given && (has r.first d.first.key || has r.second d.first.key)
-    || d.second.given && (has r.first d.second.key || has r.second d.second.key))
+    ≡ (is_some d.first && (has r.first (key_in d.first) || has r.second (key_in d.first))
+    || is_some d.second && (has r.first (key_in d.second) || has r.second (key_in d.second)))
 shares_has e o d r h j = keys_any e d h (holds o) (λ s. has r.first s || has r.second s) (λ k b. holds_has o r j k b)
 
 -- the VALID chain goes from a row to those that hold what its first naming names

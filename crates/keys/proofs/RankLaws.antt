@@ -3,6 +3,7 @@ use mathlib.Core.Path.{◌≡◌, sym, ap, ◌∙◌}
 use mathlib.Core.Bool.{true, false}
 use mathlib.Core.List.{Memᴰ}
 use Prim.Native.Nat.{◌<◌}
+use Rattle.std.specs.Prelude.{Option, is_some}
 use native.Mathlib.Omega.{arith}
 use Rattle.laws.proofs.Cases.{and_left, and_right, bool_cases}
 use Rattle.symbols.specs.declared.Symbol.{Symbol}
@@ -12,20 +13,20 @@ use Rattle.verdicts.specs.Key.{Key}
 use Rattle.verdicts.specs.Facts.{Naming}
 use Rattle.verdicts.specs.Entries.{Entry, facts}
 use Rattle.verdicts.specs.Steps.{holds}
-use Rattle.row_keys.specs.declared.records.Slot.{Slot}
 use Rattle.row_keys.specs.declared.records.RowKeys.{RowKeys}
+use Rattle.row_keys.specs.Parts.{key_in}
 use Rattle.key_symbols.specs.Keyed.{symbol_of, space_of}
 use Rattle.keys.specs.Ranks.{rank}
 use Rattle.key_symbols.specs.Bounded.{Bounded}
 use Rattle.keys.specs.Says.{has, rank_in, Says}
 use Rattle.keys.proofs.HoldLaws.{holds_has}
 
--- a slot that has a symbol
-has_given : (s : Slot) (k : Symbol) → has s k ≡ true → s.given ≡ true
-has_given s k e = and_left s.given (same_symbol k s.key) e
+-- a symbol that is given
+has_given : (s : Option Symbol) (k : Symbol) → has s k ≡ true → is_some s ≡ true
+has_given s k e = and_left (is_some s) (same_symbol k (key_in s)) e
 
-has_key : (s : Slot) (k : Symbol) → has s k ≡ true → k ≡ s.key
-has_key s k e = same_is k s.key (and_right s.given (same_symbol k s.key) e)
+has_key : (s : Option Symbol) (k : Symbol) → has s k ≡ true → k ≡ key_in s
+has_key s k e = same_is k (key_in s) (and_right (is_some s) (same_symbol k (key_in s)) e)
 
 -- the rank of a key that a row holds is the row's
 pub holds_rank : (o : Entry) (r : RowKeys) → Says (facts o) r → (k : Key) → Bounded k → holds o k ≡ true → rank (space_of k) ≡ rank_in r

@@ -3,6 +3,7 @@ use mathlib.Core.Path.{◌≡◌, refl, sym}
 use mathlib.Core.Bool.{true, false}
 use mathlib.Core.List.{List, [], ◌∷◌, map, Memᴰ}
 use Prim.Native.Nat.{ℕ, ◌<◌}
+use Rattle.std.specs.Prelude.{is_some}
 use lib.Dec.{eqb}
 use lib.ListN.{get_or, drop}
 use Rattle.laws.specs.Lists.{keep}
@@ -13,7 +14,7 @@ use Rattle.verdicts.specs.Key.{Key}
 use Rattle.verdicts.specs.Facts.{Naming, Count, Facts}
 use Rattle.verdicts.specs.Entries.{reading_of, own, facts_in}
 use Rattle.key_symbols.specs.Keyed.{symbol_of, space_of}
-use Rattle.row_keys.specs.Parts.{is_named}
+use Rattle.row_keys.specs.Parts.{key_in, is_named}
 use Rattle.keys.specs.Ranks.{parameters, rank}
 use Rattle.manners.specs.Manners.{manners, manner_at}
 use Rattle.keys.specs.Held.{slot_of, named_of, count_of, keys_of, row_keys_of}
@@ -38,14 +39,15 @@ keys_all (k ∷ []) h = (h, tt)
 keys_all (k ∷ l ∷ []) h = (h.0, (h.1, tt))
 keys_all (k ∷ l ∷ m ∷ ms) h = absurd h
 
-keys_apart : (l : List Key) → KeysFit l → (slot_of l).given ≡ true → (slot_of (drop 1 l)).given ≡ true → (slot_of l).key.space ≡ (slot_of (drop 1 l)).key.space → ⊥
+keys_apart : (l : List Key) → KeysFit l → is_some (slot_of l) ≡ true → is_some (slot_of (drop 1 l)) ≡ true
+    → (key_in (slot_of l)).space ≡ (key_in (slot_of (drop 1 l))).space → ⊥
 unfolding slot_of
 keys_apart [] h a b e = absurd (false≢true a)
 keys_apart (k ∷ []) h a b e = absurd (false≢true b)
 keys_apart (k ∷ l ∷ []) h a b e = h.2 e
 keys_apart (k ∷ l ∷ m ∷ ms) h a b e = absurd h
 
-keys_level : (l : List Key) → KeysFit l → (slot_of (drop 1 l)).given ≡ true → rank (slot_of (drop 1 l)).key.space ≡ rank (slot_of l).key.space
+keys_level : (l : List Key) → KeysFit l → is_some (slot_of (drop 1 l)) ≡ true → rank (key_in (slot_of (drop 1 l))).space ≡ rank (key_in (slot_of l)).space
 unfolding slot_of
 keys_level [] h b = absurd (false≢true b)
 keys_level (k ∷ []) h b = absurd (false≢true b)
@@ -54,18 +56,18 @@ keys_level (k ∷ l ∷ m ∷ ms) h b = absurd h
 
 -- namings
 
-lower_first : (n : Naming) (ks : List Key) → LowerFirst n ks → n.chained ≡ false → rank (space_of n.key) < rank (slot_of ks).key.space
+lower_first : (n : Naming) (ks : List Key) → LowerFirst n ks → n.chained ≡ false → rank (space_of n.key) < rank (key_in (slot_of ks)).space
 unfolding slot_of
 lower_first n [] h e = absurd h
 lower_first n (k ∷ ks) h e = h.down e
 
 along_first : (n : Naming) (ks : List Key) → LowerFirst n ks → n.chained ≡ true
-    → (space_of n.key ≡ parameters) × ((slot_of ks).key.space ≡ parameters)
+    → (space_of n.key ≡ parameters) × ((key_in (slot_of ks)).space ≡ parameters)
 unfolding slot_of
 along_first n [] h e = absurd h
 along_first n (k ∷ ks) h e = h.along e
 
-first_given : (n : Naming) (ks : List Key) → LowerFirst n ks → (slot_of ks).given ≡ true
+first_given : (n : Naming) (ks : List Key) → LowerFirst n ks → is_some (slot_of ks) ≡ true
 unfolding slot_of
 first_given n [] h = absurd h
 first_given n (k ∷ ks) h = refl
@@ -84,7 +86,7 @@ module _ (keys : List Key) where
   names_all (n ∷ m ∷ []) h = (h.0, (h.1, tt))
   names_all (n ∷ m ∷ o ∷ os) h = absurd h
 
-  names_hold : (l : List Naming) → NamesFit keys l → is_named (named_of l) ≡ true → (slot_of keys).given ≡ true
+  names_hold : (l : List Naming) → NamesFit keys l → is_named (named_of l) ≡ true → is_some (slot_of keys) ≡ true
   unfolding named_of
   names_hold [] h e = absurd (false≢true e)
   names_hold (n ∷ []) h e = first_given n keys h.lower
@@ -108,7 +110,7 @@ module _ (v : ℕ) (f : Facts) where
   counts_said (k ∷ ks) (c ∷ []) h p q = rw (p, q, h.1, h.0)
   counts_said ks (c ∷ d ∷ cs) h p q = absurd h
 
-counts_hold : (ks : List Key) (cs : List Count) → CountsFit cs ks → eqb (count_of cs).column 0 ≡ false → (slot_of ks).given ≡ true
+counts_hold : (ks : List Key) (cs : List Count) → CountsFit cs ks → eqb (count_of cs).column 0 ≡ false → is_some (slot_of ks) ≡ true
 unfolding slot_of count_of
 counts_hold ks [] h e = absurd (false≢true (sym e))
 counts_hold [] (c ∷ []) h e = absurd h

@@ -1,5 +1,5 @@
 -- What a row holds, names, counts and is counted in, as symbols.
-use Rattle.std.specs.Prelude.{◌≡◌, refl, true, false, List, [], ◌∷◌, ◌++◌, ℕ, drop}
+use Rattle.std.specs.Prelude.{◌≡◌, refl, true, false, List, [], ◌∷◌, ◌++◌, ℕ, drop, Option, Some, None}
 use Rattle.laws.specs.Text.{ascii}
 use Rattle.number_positions.specs.Positions.{no_digits}
 use Rattle.numbers.specs.Number.{number_of, meaning, spelt, after, digit_on, digit_of}
@@ -19,18 +19,18 @@ use Rattle.verdicts.specs.Key.{Key}
 use Rattle.verdicts.specs.Facts.{Facts, Naming, Count, cap_facts, facts_of}
 use Rattle.verdicts.specs.Entries.{reading_of, own, facts_in}
 use Rattle.key_symbols.specs.Keyed.{digits_number, number_from, symbol, curve_symbol, value_symbol, integer_word, symbol_of}
-use Rattle.row_keys.specs.declared.records.Slot.{Slot}
+use Rattle.symbols.specs.declared.Symbol.{Symbol}
 use Rattle.row_keys.specs.declared.records.Named.{Named}
 use Rattle.row_keys.specs.declared.records.Counting.{Counting}
 use Rattle.row_keys.specs.declared.records.RowKeys.{RowKeys}
 use Rattle.row_keys.specs.declared.records.LineKeys.{LineKeys}
-use Rattle.row_keys.specs.Parts.{no_slot, slot_for, no_name, no_count, no_keys}
+use Rattle.row_keys.specs.Parts.{no_name, no_count, no_keys}
 use Rattle.manners.specs.Manners.{manner_of, manners, weight, same_manner, code_from, code_of, marks_of}
 
 -- the first of these keys
-unfoldable pub slot_of : List Key → Slot
-slot_of [] = no_slot
-slot_of (k ∷ ks) = slot_for (symbol_of k)
+unfoldable pub slot_of : List Key → Option Symbol
+slot_of [] = None
+slot_of (k ∷ ks) = Some (symbol_of k)
 
 -- the first of these namings
 unfoldable pub named_of : List Naming → Named
@@ -78,11 +78,11 @@ pub record Examples : Type 0 where
   pub point : row_keys_of Cap (line_of row true)
       ≡ record {
         verdict = 0;
-        first = slot_for (symbol 6 0x4331000000000000 0x20000 5);
-        second = no_slot;
+        first = Some (symbol 6 0x4331000000000000 0x20000 5);
+        second = None;
         one = record { code = 9; key = symbol 5 0x4331000000000000 2 0 };
         two = no_name;
-        group = slot_for (symbol 5 0x4331000000000000 2 0);
+        group = Some (symbol 5 0x4331000000000000 2 0);
         count = no_count;
         marks = 1;
       }

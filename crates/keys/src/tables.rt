@@ -13,7 +13,7 @@ use key_symbols::{
 };
 use manners::marks::{CAF_MARKS, pcf_marks};
 use row_keys::columns::{curtx_key, is_engineering, is_yes};
-use row_keys::parts::{counter, holder, holding, member, named, naming, slot};
+use row_keys::parts::{counter, holder, holding, member, named, naming};
 use row_keys::records::{LineKeys, Named};
 
 pub(crate) fn pid_keys(table: &[u8], at: usize) -> LineKeys
@@ -25,7 +25,12 @@ pub(crate) fn pid_keys(table: &[u8], at: usize) -> LineKeys
     let yes = is_yes(valid);
     let packet = pid_key(row.ptype, row.stype, row.apid, row.pi1, row.pi2 as u64);
     let structure = structure_key(row.spid);
-    let keys = holding(read.verdict, slot(yes, packet), slot(yes, structure), 1);
+    let keys = holding(
+        read.verdict,
+        yes.then_some(packet),
+        yes.then_some(structure),
+        1,
+    );
     LineKeys {
         keys,
         next: read.next,
@@ -180,7 +185,7 @@ pub(crate) fn mcf_keys(table: &[u8], at: usize) -> LineKeys
     ensures { ColumnsRead Mcf table.now at result }
 {
     let read = read_mcf(table, at);
-    let ident = read.ident;
+    let ident = read.row;
     let keys = holder(read.verdict, curve_key(ident), 1);
     LineKeys {
         keys,

@@ -42,8 +42,7 @@ pub fn kind_rows(
     ensures { kinds.new ≡ sets kinds.old 0
         (tabulate (kinds_at marks.now codes1.now found1.now codes2.now found2.now) 0 n) }
 {
-    let mut i: usize = 0;
-    while i < n {
+    for i in 0..n {
         let kind = kinds_of(
             marks,
             byte_at(marks, i),
@@ -53,6 +52,5 @@ pub fn kind_rows(
             row_at(found2, i),
         );
         put_byte(kinds, i, kind);
-        i += 1;
     }
 }

@@ -3,7 +3,7 @@ use crate::places::say_place;
 use crate::wrong::say_wrong;
 use arrays::half_at;
 use key_texts::{say_quoted, text_column};
-use pointing::{Cause, count_causes, next_cause};
+use pointing::{count_causes, next_cause};
 use std::num::wrapping_add_usize;
 use tables::TABLES;
 use words::reasons::say_reason;
@@ -75,11 +75,11 @@ fn say_first(
     let mut from: usize = 0;
     for k in 0..TOLD {
         match next_cause(halves, bytes, cells, n, i, from) {
-            Cause::Row(j) => {
+            Some(j) => {
                 say_cause(rt, tables, bytes, cells, reason, column, j, k);
                 from = wrapping_add_usize(j, 1);
             }
-            Cause::NoMore => {
+            None => {
                 return;
             }
         }

@@ -7,6 +7,7 @@ use native.Mathlib.Omega.{arith}
 use lib.Dec.{eqb, leb}
 use lib.ListN.{length, get_or, replicate, length-replicate}
 use borrow.Author.Tests.{leb-true, le-leb}
+use Rattle.std.specs.Prelude.{Result, Err}
 use Rattle.laws.specs.Prefix.{flag}
 use Rattle.laws.proofs.Cases.{and_left, and_right}
 use Rattle.laws.proofs.Values.{written_at}
@@ -14,7 +15,11 @@ use Rattle.arrays.specs.Room.{most_places}
 use Rattle.symbols.specs.Arrays.{all_words, all_links}
 use Rattle.kept.specs.Stored as kept
 use Rattle.kept.specs.FirstPass.{Arrays, arrays}
-use Rattle.kept.specs.Keeping.{has_places, KeepsRows}
+use Rattle.kept.specs.Keeping.{has_places, KeepsRows, Keeps}
+use Rattle.kept.specs.declared.KeptCounts.{KeptCounts}
+use Rattle.kept.specs.declared.KeepError.{KeepError}
+use Rattle.kept.specs.declared.KeepError.TheVariants.{Sizes, NoRoom}
+use Rattle.kept.proofs.AnswerLaws.{kept_refused, kept_short}
 use Rattle.kept.specs.Puts.{all_halves, all_bytes}
 use Rattle.judged.specs.Passes.{column_of}
 use Rattle.judged.proofs.Held.{column_at_lem}
@@ -25,7 +30,7 @@ use Rattle.indexing.specs.Indexing.{good_marks, IndexedBy}
 use Rattle.database.specs.Arrays.{all_columns, start_column, database, answers}
 use Rattle.database.specs.GoodRows.{of_tables}
 use Rattle.loading.specs.Index.{Indexed}
-use Rattle.loading.specs.Loaded.{lent, all_lent, IndexMade}
+use Rattle.loading.specs.Loaded.{lent, all_lent, IndexMade, Loads}
 use Rattle.loading.proofs.NumberLaws.{number_is}
 use Rattle.loading.proofs.IndexLaws.{cells_hold, indexed_answers}
 
@@ -102,3 +107,13 @@ no_room words links columns e =
 -- what is lent of the arrays that rows are kept in
 pub same_lent : (s₀ s : Arrays) → s ≡ s₀ → lent s.words s.links s.halves ≡ lent s₀.words s₀.links s₀.halves
 same_lent s₀ s e = ap (λ (x : Arrays). lent x.words x.links x.halves) e
+
+-- what keeping the rows refuses
+pub load_refused : (texts : List (List ℕ)) (words links columns : List ℕ) (s : Arrays) {r : Result KeptCounts KeepError} {error : KeepError}
+    → Keeps texts (arrays words links 0 columns (replicate all_bytes 0)) s r → r ≡ Err error
+    → Loads texts (lent words links columns) (lent s.words s.links s.halves) (Err error)
+unfolding Loads
+load_refused texts words links columns s {error = Sizes error} k e = let z = kept_refused _ _ _ _ k error e in (z.0, same_lent _ _ z.1)
+load_refused texts words links columns s {error = NoRoom} k e =
+    let z = kept_short _ _ _ _ k e in
+    (z.0, no_room words links columns z.1, same_lent _ _ z.2)

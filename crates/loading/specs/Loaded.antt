@@ -1,14 +1,14 @@
 -- What loading tables answers, and what it leaves in the arrays of the database.
-use Rattle.std.specs.Prelude.{ℕ, min, ◌≡◌, refl, Bool, false, ◌&&◌, List, [], leb, length, replicate}
+use Rattle.std.specs.Prelude.{ℕ, min, ◌≡◌, refl, Bool, false, ◌&&◌, List, [], leb, length, replicate, Result, Ok, Err}
 use Rattle.arrays.specs.Room.{most_places}
 use Rattle.symbols.specs.Arrays.{all_words, all_links}
-use Rattle.tables.specs.Sizes.{fit, refused_by, sizes_of}
+use Rattle.tables.specs.Sizes.{fit, size_refusal, sizes_of}
 use Rattle.judged.specs.Passes.{JudgedInto}
 use Rattle.indexing.specs.Indexing.{IndexedBy}
 use Rattle.database.specs.Arrays.{all_columns, database, answers}
 use Rattle.database.specs.GoodRows.{of_tables}
-use Rattle.loading.specs.declared.Loading.{Loading}
-use Rattle.loading.specs.declared.Loading.TheVariants.{Done, TooLong, TooManyRows, NoRoom}
+use Rattle.kept.specs.declared.KeepError.{KeepError}
+use Rattle.kept.specs.declared.KeepError.TheVariants.{Sizes, NoRoom}
 
 -- the arrays of the database
 pub record Lent : Type 0 where
@@ -28,11 +28,10 @@ example : all_lent (lent [] [] []) ≡ false
 example = refl
 
 -- 01: "A refusal writes nothing". Once tables are loaded, the database answers what they do
-unfoldable pub Loads : List (List ℕ) → Lent → Lent → Loading → Type 0
-Loads texts before after Done = (sizes_of texts ≡ fit) × (answers (database texts after.words after.links after.columns) ≡ of_tables texts)
-Loads texts before after (TooLong table) = (sizes_of texts ≡ refused_by 1 table.0) × (after ≡ before)
-Loads texts before after (TooManyRows table) = (sizes_of texts ≡ refused_by 2 table.0) × (after ≡ before)
-Loads texts before after NoRoom = (sizes_of texts ≡ fit) × (all_lent before ≡ false) × (after ≡ before)
+unfoldable pub Loads : List (List ℕ) → Lent → Lent → Result Unit KeepError → Type 0
+Loads texts before after (Ok done) = (sizes_of texts ≡ fit) × (answers (database texts after.words after.links after.columns) ≡ of_tables texts)
+Loads texts before after (Err (Sizes error)) = (sizes_of texts ≡ size_refusal error) × (after ≡ before)
+Loads texts before after (Err NoRoom) = (sizes_of texts ≡ fit) × (all_lent before ≡ false) × (after ≡ before)
 
 -- the rows that are kept are judged, and the good ones indexed
 pub record IndexMade (halves bytes columns : List ℕ) (n : ℕ) : Type 0 where

@@ -7,18 +7,8 @@ ghost use Rattle.loading.specs.Loaded.{lent, IndexMade, Loads};
 use arrays::PLACES;
 use indexing::index_rows;
 use judged::judge_kept;
-use kept::{BYTES, Keeping, keep};
+use kept::{BYTES, KeepError, keep};
 use tables::TABLES;
-use units::TableNumber;
-
-// Done; or refused: the first table that is too large, or an array that is too short.
-#[derive(Clone, Copy)]
-pub enum Loading {
-    Done,
-    TooLong(TableNumber),
-    TooManyRows(TableNumber),
-    NoRoom,
-}
 
 // The rows that are kept are judged, and the good ones indexed.
 fn index_kept(columns: &mut [u16], bytes: &[u8], n: usize)
@@ -29,24 +19,19 @@ fn index_kept(columns: &mut [u16], bytes: &[u8], n: usize)
     index_rows(columns, bytes, &cells, n);
 }
 
-// Reads and judges the tables into the arrays of the database. A refusal leaves these alone.
+// Reads and judges the tables into the arrays of the database. A refusal leaves these alone;
+// it is the one of keeping the rows, since nothing else can fail.
 pub fn load(
     tables: [&[u8]; TABLES],
     words: &mut [u64],
     links: &mut [u16],
     columns: &mut [u16],
-) -> Loading
+) -> Result<(), KeepError>
     ensures { Loads (map (λ x. x.now) tables.entry) (lent words.old links.old columns.old)
         (lent words.new links.new columns.new) result }
 {
     let mut bytes = [0u8; BYTES];
-    match keep(tables, words, links, columns, &mut bytes) {
-        Keeping::TooLong(table) => Loading::TooLong(table),
-        Keeping::TooManyRows(table) => Loading::TooManyRows(table),
-        Keeping::NoRoom => Loading::NoRoom,
-        Keeping::Done(rows, _) => {
-            index_kept(columns, &bytes, rows);
-            Loading::Done
-        }
-    }
+    let kept = keep(tables, words, links, columns, &mut bytes)?;
+    index_kept(columns, &bytes, kept.rows);
+    Ok(())
 }

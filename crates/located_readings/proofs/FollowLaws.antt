@@ -10,6 +10,7 @@ use lib.ListN.{length, get_or, set, length-set}
 use lib.Seq.{get_or-set_same, get_or-set_other}
 use mir.Syntax.{w64}
 use mir.Val.{SFits}
+use Rattle.std.specs.Prelude.{Option, Some, None}
 use Rattle.laws.proofs.Cases.{and_false, false≢true}
 use Rattle.rows.specs.declared.records.PcfRow.{PcfRow}
 use Rattle.outcomes.specs.Values.{part, bits}
@@ -24,9 +25,9 @@ use Rattle.located_readings.specs.declared.follow.Asked.{Asked}
 use Rattle.located_readings.specs.declared.follow.BlockEnd.{BlockEnd}
 
 -- one that can't be read agrees with nothing
-pub never_agrees : (valid : PcfRow → Bool) (a : Asked) (valpar : ℤ) → a.readable ≡ false → asked_agrees valid a valpar ≡ false
+never_agrees : (valid : PcfRow → Bool) (found : Option Asked) (valpar : ℤ) → found ≡ None → asked_agrees valid found valpar ≡ false
 unfolding asked_agrees
-never_agrees valid a valpar e = rw e
+never_agrees valid found valpar e = rw e
 
 -- a string never agrees, nor does a real
 pub string_disagrees : (valid : Bool) (start bytes : ℕ) (valpar : ℤ) → false ≡ agrees (with_validity valid (part start bytes)) valpar
@@ -109,30 +110,30 @@ module _ (rows : Rows) (p : List ℕ) (spid : ℕ) where
           on_free = λ _. refl;
         }
 
-    module _ (t : at.valid.given ≡ true) (m : n < 16) (a : Asked)
-        (is : (valid : PcfRow → Bool) (valpar : ℤ) → asked_agrees valid a valpar ≡ agrees (reading_with rows p spid valid at.valid.name 0) valpar) where
-      next : (left : ℕ) → 16 ≤ left → asked_agrees (valid_within rows p spid (left - (n + 1))) a at.valpar ≡ valid_within rows p spid (left - n) at
+    module _ (t : at.valid.given ≡ true) (m : n < 16) (found : Option Asked)
+        (is : (valid : PcfRow → Bool) (valpar : ℤ) → asked_agrees valid found valpar ≡ agrees (reading_with rows p spid valid at.valid.name 0) valpar) where
+      next : (left : ℕ) → 16 ≤ left → asked_agrees (valid_within rows p spid (left - (n + 1))) found at.valpar ≡ valid_within rows p spid (left - n) at
       next left h =
           let e : left - n - 1 ≡ left - (n + 1) = omega arith in
           is (valid_within rows p spid (left - (n + 1))) at.valpar
           ∙ valid_step rows p spid (left - n) at at refl t (λ z. omega arith) _ (rw e)
 
-      pub follow_unreadable : a.readable ≡ false → Followed rows p spid row values valpars (chain_end n false at)
+      pub follow_unreadable : found ≡ None → Followed rows p spid row values valpars (chain_end n false at)
       follow_unreadable q =
           record {
             few = f.few;
-            whole = λ left h. ended false left h (sym (never_agrees _ a at.valpar q) ∙ next left h);
+            whole = λ left h. ended false left h (sym (never_agrees _ found at.valpar q) ∙ next left h);
             on_free = λ e. absurd (false≢true e);
           }
 
-      agreeing : (left : ℕ) → 16 ≤ left → a.readable ≡ true
+      agreeing : {a : Asked} (left : ℕ) → 16 ≤ left → found ≡ Some a
           → (valid_within rows p spid (left - (n + 1)) a.row && same_integer a.value at.valpar) ≡ valid_within rows p spid (left - n) at
       unfolding asked_agrees
       agreeing left h q = let e = next left h in rw q at e
 
-      pub follow_more : a.readable ≡ true → SFits w64 a.row.valpar → (w z : ℤ) → w ≡ a.value → z ≡ at.valpar
+      pub follow_more : {a : Asked} → found ≡ Some a → SFits w64 a.row.valpar → (w z : ℤ) → w ≡ a.value → z ≡ at.valpar
           → Following row (set values n w) (set valpars n z) a.row (n + 1)
-      follow_more q v w z ew ez =
+      follow_more {a = a} q v w z ew ez =
           record {
             few = omega arith;
             room = length-set values n w ∙ f.room;

@@ -1,5 +1,5 @@
 // A VALID chain read row by row, each row found and decoded once.
-ghost use Rattle.std.specs.Prelude.{◌≡◌, Bool, false, map, ℤ, length};
+ghost use Rattle.std.specs.Prelude.{◌≡◌, Bool, map, ℤ, length};
 ghost use Rattle.rows.specs.declared.records.PcfRow as declared;
 ghost use Rattle.outcomes.specs.Outcome.{and_then};
 ghost use Rattle.outcomes.specs.Values.{value_of};
@@ -10,18 +10,17 @@ ghost use Rattle.located_readings.specs.Asked.{asked_agrees};
 ghost use Rattle.located_readings.specs.Blocks.{chain_end, Followed};
 
 use found_rows::{location_at, pcf_at};
-use outcomes::Value;
+use outcomes::{Refusal, Value};
 use parameters::locate;
-use raw_values::{RawValue, raw_of};
+use raw_values::raw_of;
 use readings::BLOCK_ROWS;
 use rows::records::PcfRow;
 use tables::TABLES;
 use units::Spid;
 
-// What a validity parameter reads in a packet, where that is a number, beside its pcf row.
+// The number that a validity parameter reads in a packet, beside its pcf row.
 #[derive(Clone, Copy)]
 pub(crate) struct Asked {
-    pub readable: bool,
     pub value: i64,
     pub row: PcfRow,
 }
@@ -36,40 +35,25 @@ pub(crate) struct BlockEnd {
     pub row: PcfRow,
 }
 
-// One that can't be read, beside any row.
-fn unreadable(row: PcfRow) -> Asked
-    ensures { result.readable ≡ false }
-{
-    Asked {
-        readable: false,
-        value: 0,
-        row,
-    }
-}
-
-// A value as that of the validity parameter with this pcf row.
-fn value_asked(value: Value, row: PcfRow) -> Asked
+// A value as that of the validity parameter with this pcf row; only a number can be read.
+fn value_asked(value: Value, row: PcfRow) -> Option<Asked>
     ensures { (valid : declared.PcfRow → Bool) (valpar : ℤ) → asked_agrees valid result valpar
         ≡ agrees (with_validity (valid row) (value_of value)) valpar }
 {
     match value {
-        Value::Number(v) => Asked {
-            readable: true,
-            value: v,
-            row,
-        },
-        Value::Part(from, bytes) => unreadable(row),
-        Value::Bits(pattern, width) => unreadable(row),
+        Value::Number(v) => Some(Asked { value: v, row }),
+        Value::Part(from, bytes) => None,
+        Value::Bits(pattern, width) => None,
     }
 }
 
-fn raw_asked(raw: RawValue, row: PcfRow) -> Asked
+fn raw_asked(raw: Result<Value, Refusal>, row: PcfRow) -> Option<Asked>
     ensures { (valid : declared.PcfRow → Bool) (valpar : ℤ) → asked_agrees valid result valpar
         ≡ agrees (and_then (said_raw raw) (with_validity (valid row))) valpar }
 {
     match raw {
-        RawValue::Is(value) => value_asked(value, row),
-        RawValue::Refused(refusal) => unreadable(row),
+        Ok(value) => value_asked(value, row),
+        Err(refusal) => None,
     }
 }
 
@@ -84,7 +68,7 @@ fn end_of(count: usize, free: bool, row: PcfRow) -> BlockEnd
     }
 }
 
-// The validity parameter of a row.
+// The validity parameter of a row, where it can be read.
 fn ask(
     tables: [&[u8]; TABLES],
     words: &[u64],
@@ -93,16 +77,13 @@ fn ask(
     p: &[u8],
     spid: Spid,
     row: PcfRow,
-) -> Asked
+) -> Option<Asked>
     ensures { (valid : declared.PcfRow → Bool) (valpar : ℤ) → asked_agrees valid result valpar
         ≡ agrees (reading_with (answers (database (map (λ x. x.now) tables.entry) words.now links.now columns.now))
         p.now spid.0 valid row.valid.name 0) valpar }
 {
     let name = row.valid.name;
-    let at = locate(words, links, columns, spid, name);
-    if !at.found {
-        return unreadable(row);
-    }
+    let at = locate(words, links, columns, spid, name)?;
     let location = location_at(tables, columns, at.plf);
     let pcf = pcf_at(tables, columns, at.pcf);
     raw_asked(raw_of(p, location, pcf, 0), pcf)
@@ -131,10 +112,9 @@ pub(crate) fn follow(
         if !at.valid.given {
             return end_of(count, true, at);
         }
-        let asked = ask(tables, words, links, columns, p, spid, at);
-        if !asked.readable {
+        let Some(asked) = ask(tables, words, links, columns, p, spid, at) else {
             return end_of(count, false, at);
-        }
+        };
         let value = asked.value;
         let valpar = at.valpar;
         values[count] = value;

@@ -4,11 +4,9 @@
 mod follow;
 
 ghost use Rattle.std.specs.Prelude.{◌≡◌, map};
-ghost use Rattle.outcomes.specs.Outcome.{and_then};
 ghost use Rattle.database.specs.Arrays.{database, answers};
-ghost use Rattle.raw_values.specs.RawValues.{said_raw};
 ghost use Rattle.readings.specs.Readings as spec;
-ghost use Rattle.readings.specs.Readings.{said_reading, with_validity};
+ghost use Rattle.readings.specs.Readings.{said_reading};
 ghost use Rattle.located_readings.specs.Blocks.{Decides};
 
 use crate::follow::follow;
@@ -16,7 +14,7 @@ use found_rows::{location_at, pcf_at};
 use name_bytes::Name;
 use outcomes::Refusal;
 use parameters::locate;
-use raw_values::{RawValue, raw_of};
+use raw_values::raw_of;
 use readings::{BLOCK_ROWS, Reading, valid_chain};
 use rows::records::PcfRow;
 use tables::{MOST_ROWS, TABLES};
@@ -32,15 +30,6 @@ pub(crate) struct Block {
     pub on: bool,
     pub valid: bool,
     pub row: PcfRow,
-}
-
-fn with_validity(raw: RawValue, valid: bool) -> Reading
-    ensures { said_reading result ≡ and_then (said_raw raw) (with_validity valid) }
-{
-    match raw {
-        RawValue::Is(value) => Reading::Is(value, valid),
-        RawValue::Refused(refusal) => Reading::Refused(refusal),
-    }
 }
 
 // Whether readings of a row are valid by the next block of its VALID chain: the block is read, and then asked.
@@ -125,17 +114,17 @@ pub fn read(
     spid: Spid,
     name: Name,
     k: usize,
-) -> Reading
+) -> Result<Reading, Refusal>
     ensures { said_reading result
         ≡ spec.reading (answers (database (map (λ x. x.now) tables.entry) words.now links.now columns.now))
         p.now spid.0 name k }
 {
-    let at = locate(words, links, columns, spid, name);
-    if !at.found {
-        return Reading::Refused(Refusal::NoPlfRow);
-    }
+    let Some(at) = locate(words, links, columns, spid, name) else {
+        return Err(Refusal::NoPlfRow);
+    };
     let location = location_at(tables, columns, at.plf);
     let pcf = pcf_at(tables, columns, at.pcf);
+    let value = raw_of(p, location, pcf, k)?;
     let valid = validity(tables, words, links, columns, p, spid, pcf);
-    with_validity(raw_of(p, location, pcf, k), valid)
+    Ok(Reading { value, valid })
 }

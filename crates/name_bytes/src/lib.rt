@@ -21,10 +21,8 @@ fn put(text: &[u8], to: &mut [u8])
     requires { length text.now ≤ length to.old }
     ensures { to.new ≡ text.now ++ drop (length text.now) to.old }
 {
-    let mut i: usize = 0;
-    while i < text.len() {
+    for i in 0..text.len() {
         to[i] = text[i];
-        i += 1;
     }
 }
 
@@ -65,12 +63,10 @@ fn same_bytes(a: &[u8], b: &[u8]) -> bool
     if a.len() != b.len() {
         return false;
     }
-    let mut i: usize = 0;
-    while i < a.len() {
+    for i in 0..a.len() {
         if a[i] != b[i] {
             return false;
         }
-        i += 1;
     }
     true
 }

@@ -58,8 +58,7 @@ pub fn final_rows(
         (tabulate (final_at kinds.now base.now codes1.now found1.now codes2.now found2.now
         good.now) 0 n) }
 {
-    let mut i: usize = 0;
-    while i < n {
+    for i in 0..n {
         let cell = final_of(
             kinds,
             good,
@@ -70,6 +69,5 @@ pub fn final_rows(
             row_at(found2, i),
         );
         put_half(cells, i, cell);
-        i += 1;
     }
 }

@@ -59,8 +59,7 @@ pub fn firm_rows(
         (tabulate (firm_at kinds.now base.now codes1.now found1.now codes2.now found2.now
         clean.now next.now) 0 n) }
 {
-    let mut i: usize = 0;
-    while i < n {
+    for i in 0..n {
         let firmly = is_firm(
             kinds,
             clean,
@@ -72,6 +71,5 @@ pub fn firm_rows(
             row_at(found2, i),
         );
         put_flag(firm, i, firmly);
-        i += 1;
     }
 }

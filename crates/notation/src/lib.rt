@@ -164,11 +164,9 @@ pub fn parse(text: &[u8]) -> Parsed
         lowers: false,
         exponent: 0,
     };
-    let mut i: usize = 0;
-    while i < text.len() {
+    for i in 0..text.len() {
         s = next_stage(s, text[i]);
         n = with_character(n, s, text[i]);
-        i += 1;
     }
     if is_coefficient(s) {
         return Parsed::Parts(n);

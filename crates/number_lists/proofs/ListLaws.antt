@@ -7,18 +7,18 @@ use lib.ListN.{length, get_or, drop, drop_of_length-le}
 use borrow.Author.Tests.{eq-eqb, ne_eqb, lt-ltb, le-ltb}
 use Rattle.laws.proofs.Lists.{split}
 use Rattle.lines.specs.Columns.{columns_of}
-use Rattle.scripts.specs.declared.operands.Natural.TheVariants as natural
+use Rattle.std.specs.Prelude.{Some, None}
 use Rattle.scripts.specs.Numerals.{natural_in, at_most}
 use Rattle.escapes.specs.Escapes.{before}
 use Rattle.number_lists.specs.Lists.{before_number, row_numbers_in, where_entries, list_in}
 
 module _ (columns : List (List ℕ)) (k : ℕ) where
-  pub number_here : (n : ℕ) → k < length columns → at_most 65535 (natural_in (get_or columns k [])) ≡ natural.Is n
+  pub number_here : (n : ℕ) → k < length columns → at_most 65535 (natural_in (get_or columns k [])) ≡ Some n
       → row_numbers_in (drop k columns) ≡ before n (row_numbers_in (drop (k + 1) columns))
   unfolding row_numbers_in before_number
   number_here n h e = rw (split columns k [] h, e)
 
-  pub number_none : k < length columns → at_most 65535 (natural_in (get_or columns k [])) ≡ natural.Unread → row_numbers_in (drop k columns) ≡ none
+  pub number_none : k < length columns → at_most 65535 (natural_in (get_or columns k [])) ≡ None → row_numbers_in (drop k columns) ≡ none
   unfolding row_numbers_in before_number
   number_none h e = rw (split columns k [] h, e)
 

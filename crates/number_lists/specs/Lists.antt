@@ -1,17 +1,16 @@
 -- The list of row numbers that a question names.
 use Rattle.std.specs.Prelude.{ℕ, ◌≡◌, refl, cond, List, [], ◌∷◌, eqb, ltb, length}
+use Rattle.std.specs.Prelude as rust
 use Rattle.std.proofs.Math.Option.{Option, some, none}
 use Rattle.laws.specs.Text.{ascii}
 use Rattle.numbers.specs.Number.{number_of, answer_of, meaning, spelt, after, digit_on, digit_of}
 use Rattle.lines.specs.Columns.{columns_of, columns_from}
-use Rattle.scripts.specs.declared.operands.Natural.{Natural}
-use Rattle.scripts.specs.declared.operands.Natural.TheVariants as natural
 use Rattle.scripts.specs.Numerals.{natural_in, natural_of, at_most}
 use Rattle.escapes.specs.Escapes.{before}
 
-unfoldable pub before_number : Natural → Option (List ℕ) → Option (List ℕ)
-before_number (natural.Is n) ns = before n ns
-before_number natural.Unread ns = none
+unfoldable pub before_number : rust.Option ℕ → Option (List ℕ) → Option (List ℕ)
+before_number (rust.Some n) ns = before n ns
+before_number rust.None ns = none
 
 -- a number of 16 bits in each column
 unfoldable pub row_numbers_in : List (List ℕ) → Option (List ℕ)

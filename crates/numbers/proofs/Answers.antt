@@ -11,20 +11,21 @@ use lib.Signed.{le_z}
 use borrow.Author.Tests.{ltb-true, ltb-false, lt-ltb, le-ltb, lt-leb}
 use Rattle.laws.proofs.Cases.{cond_cases}
 use Rattle.numbers.specs.Number.{Spelling, spelt, meaning, answer_of}
-use Rattle.numbers.specs.declared.Number.{Number}
-use Rattle.numbers.specs.declared.Number.TheVariants.{Value, NotNumber, Beyond}
+use Rattle.std.specs.Prelude.{Result, Ok, Err}
+use Rattle.numbers.specs.declared.NumberError.{NumberError}
+use Rattle.numbers.specs.declared.NumberError.TheVariants.{NotNumber, Beyond}
 
 -- the answer of a text that goes on with t after what s is
-abbrev pub answered : Spelling → List ℕ → Number
+abbrev pub answered : Spelling → List ℕ → Result ℤ NumberError
 answered s t = answer_of (meaning (spelt s t))
 
 -- a number below 2 ^ 60 in magnitude is answered by itself
-pub answer_small : (v : ℤ) → nat_abs v < 2 ^ 60 → answer_of (some v) ≡ Value v
+pub answer_small : (v : ℤ) → nat_abs v < 2 ^ 60 → answer_of (some v) ≡ Ok v
 unfolding answer_of
 answer_small v h = rw (lt-ltb (nat_abs v) (2 ^ 60) h)
 
 -- any larger one is answered alike
-pub answer_large : (v : ℤ) → 2 ^ 60 ≤ nat_abs v → answer_of (some v) ≡ Beyond
+pub answer_large : (v : ℤ) → 2 ^ 60 ≤ nat_abs v → answer_of (some v) ≡ Err Beyond
 unfolding answer_of
 answer_large v h = rw (le-ltb (nat_abs v) (2 ^ 60) h)
 
@@ -40,10 +41,10 @@ pub record Large (n : Option ℤ) : Type 0 where
   pub large : 2 ^ 60 ≤ nat_abs value
 
 -- what an answer says of the number that a text is
-abbrev pub Says : Number → Option ℤ → Type 0
-Says (Value v) n = Told n v
-Says NotNumber n = n ≡ none
-Says Beyond n = Large n
+abbrev pub Says : Result ℤ NumberError → Option ℤ → Type 0
+Says (Ok v) n = Told n v
+Says (Err NotNumber) n = n ≡ none
+Says (Err Beyond) n = Large n
 
 -- each answer says so of the number that it was given for
 pub answer_says : (n : Option ℤ) → Says (answer_of n) n
@@ -55,15 +56,15 @@ answer_says (some v) =
     (λ t. record { value = v; number = refl; large = ltb-false _ _ t })
 
 -- a text that is answered by a value is that number
-pub value_told : (n : Option ℤ) {v : ℤ} → answer_of n ≡ Value v → Told n v
+pub value_told : (n : Option ℤ) {v : ℤ} → answer_of n ≡ Ok v → Told n v
 value_told n e = subst (λ r. Says r n) e (answer_says n)
 
 -- a text that is answered as no number is none, however long it is
-pub not_number : (n : Option ℤ) → answer_of n ≡ NotNumber → n ≡ none
+pub not_number : (n : Option ℤ) → answer_of n ≡ Err NotNumber → n ≡ none
 not_number n e = subst (λ r. Says r n) e (answer_says n)
 
 -- a text that is answered as beyond is a number, and a large one
-pub beyond_large : (n : Option ℤ) → answer_of n ≡ Beyond → Large n
+pub beyond_large : (n : Option ℤ) → answer_of n ≡ Err Beyond → Large n
 beyond_large n e = subst (λ r. Says r n) e (answer_says n)
 
 -- a number above, and one below, all that is smaller in magnitude

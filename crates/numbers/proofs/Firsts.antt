@@ -11,7 +11,8 @@ use borrow.Author.Tests.{eq-eqb, ne_eqb}
 use Rattle.laws.specs.Text.{char}
 use Rattle.laws.proofs.Lists.{rest}
 use Rattle.numbers.specs.Number.{Spelling, start, minus, leading_zero, hex_mark, digits, after, spelt, meaning, answer_of}
-use Rattle.numbers.specs.declared.Number.TheVariants.{Value, NotNumber}
+use Rattle.std.specs.Prelude.{Ok, Err}
+use Rattle.numbers.specs.declared.NumberError.TheVariants.{NotNumber}
 use Rattle.numbers.proofs.Spellings.{stuck_stays, spelt_next}
 use Rattle.numbers.proofs.Answers.{answered}
 
@@ -63,14 +64,14 @@ module _ (c : ℕ) where
   hex_digit_lem = refl
 
 -- after a minus, 0 alone is a number
-pub minus_zero_lem : (t : List ℕ) → length t ≡ 1 → get_or t 0 0 ≡ char "0" → answered minus t ≡ Value (pos 0)
+pub minus_zero_lem : (t : List ℕ) → length t ≡ 1 → get_or t 0 0 ≡ char "0" → answered minus t ≡ Ok (pos 0)
 unfolding answer_of meaning spelt after
 minus_zero_lem [] h e = absurd (omega arith)
 minus_zero_lem (b ∷ []) h e = rw e
 minus_zero_lem (b ∷ x ∷ t) h e = absurd (omega arith)
 
 -- 0 with anything after it is none: no octal has a minus
-pub minus_zeros : (t : List ℕ) → (length t ≡ 0 → ⊥) → (length t ≡ 1 → ⊥) → get_or t 0 0 ≡ char "0" → answered minus t ≡ NotNumber
+pub minus_zeros : (t : List ℕ) → (length t ≡ 0 → ⊥) → (length t ≡ 1 → ⊥) → get_or t 0 0 ≡ char "0" → answered minus t ≡ Err NotNumber
 unfolding answer_of meaning spelt after
 minus_zeros [] h k e = absurd (h refl)
 minus_zeros (b ∷ []) h k e = absurd (k refl)

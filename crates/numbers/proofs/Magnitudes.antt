@@ -12,7 +12,8 @@ use lib.ListN.{length, get_or, drop, drop_of_length-le}
 use borrow.Author.Tests.{lt-ltb, le-ltb, ltb-true}
 use Rattle.laws.proofs.Cases.{cond_cases₂}
 use Rattle.numbers.specs.Number.{digits, stuck, digit_of, digit_on, after, spelt, meaning, answer_of}
-use Rattle.numbers.specs.declared.Number.TheVariants.{Value, NotNumber, Beyond}
+use Rattle.std.specs.Prelude.{Ok, Err}
+use Rattle.numbers.specs.declared.NumberError.TheVariants.{NotNumber, Beyond}
 use Rattle.numbers.proofs.Spellings.{stuck_stays, spelt_next}
 use Rattle.numbers.proofs.Answers.{answered, answer_small, answer_large}
 use Rattle.numbers.proofs.Signs.{size_minus}
@@ -21,16 +22,16 @@ use Rattle.numbers.proofs.Signs.{size_minus}
 
 module _ (base v : ℕ) where
   -- below 2 ^ 60 the value is answered, with its sign
-  pub whole_small : v < 2 ^ 60 → answer_of (meaning (digits base false v)) ≡ Value (pos v)
+  pub whole_small : v < 2 ^ 60 → answer_of (meaning (digits base false v)) ≡ Ok (pos v)
   unfolding meaning
   whole_small h = answer_small (pos v) h
 
-  pub minus_small : v < 2 ^ 60 → answer_of (meaning (digits base true v)) ≡ Value (neg_ℤ (pos v))
+  pub minus_small : v < 2 ^ 60 → answer_of (meaning (digits base true v)) ≡ Ok (neg_ℤ (pos v))
   unfolding meaning
   minus_small h = answer_small (neg_ℤ (pos v)) (rw (size_minus v) h)
 
   -- from 2 ^ 60 on only that it is beyond
-  pub large : (negative : Bool) → 2 ^ 60 ≤ v → answer_of (meaning (digits base negative v)) ≡ Beyond
+  pub large : (negative : Bool) → 2 ^ 60 ≤ v → answer_of (meaning (digits base negative v)) ≡ Err Beyond
   unfolding meaning
   large false h = answer_large (pos v) h
   large true h = answer_large (neg_ℤ (pos v)) (rw (size_minus v) h)
@@ -77,7 +78,7 @@ module _ (base : ℕ) (negative : Bool) where
     digit_end h = rw (drop_of_length-le t h) (ap answer_of (any_base base v negative))
 
     -- a character that is no digit
-    pub digit_none : i < length t → base ≤ digit_of (get_or t i 0) → answered (digits base negative v) (drop i t) ≡ NotNumber
+    pub digit_none : i < length t → base ≤ digit_of (get_or t i 0) → answered (digits base negative v) (drop i t) ≡ Err NotNumber
     unfolding answer_of meaning
     digit_none h k = rw (spelt_next (digits base negative v) t i h, refused v (get_or t i 0) k, stuck_stays (drop (i + 1) t))
 

@@ -1,9 +1,9 @@
 -- The language of numbers, as a walk over the characters of a text.
-use Rattle.std.specs.Prelude.{ℕ, ◌+◌, ◌-◌, ◌*◌, ◌^◌, ◌≡◌, refl, List, [], ◌∷◌, Bool, true, false, cond, ◌&&◌, ◌||◌, ltb, leb, eqb, ℤ, pos, negsuc, neg_ℤ, nat_abs}
+use Rattle.std.specs.Prelude.{ℕ, ◌+◌, ◌-◌, ◌*◌, ◌^◌, ◌≡◌, refl, List, [], ◌∷◌, Bool, true, false, cond, ◌&&◌, ◌||◌, ltb, leb, eqb, ℤ, pos, negsuc, neg_ℤ, nat_abs, Result, Ok, Err}
 use Rattle.std.proofs.Math.Option.{Option, some, none}
 use Rattle.laws.specs.Text.{ascii, char}
-use Rattle.numbers.specs.declared.Number.{Number}
-use Rattle.numbers.specs.declared.Number.TheVariants.{Value, NotNumber, Beyond}
+use Rattle.numbers.specs.declared.NumberError.{NumberError}
+use Rattle.numbers.specs.declared.NumberError.TheVariants.{NotNumber, Beyond}
 
 -- a character from the first of two to the second
 abbrev pub between : ℕ → ℕ → ℕ → Bool
@@ -63,9 +63,9 @@ unfoldable pub number_of : List ℕ → Option ℤ
 number_of text = meaning (spelt start text)
 
 -- 01 leaves a number free that is longer than any column: one of 2 ^ 60 or more in magnitude is told apart
-unfoldable pub answer_of : Option ℤ → Number
-answer_of none = NotNumber
-answer_of (some v) = cond (ltb (nat_abs v) (2 ^ 60)) (Value v) Beyond
+unfoldable pub answer_of : Option ℤ → Result ℤ NumberError
+answer_of none = Err NotNumber
+answer_of (some v) = cond (ltb (nat_abs v) (2 ^ 60)) (Ok v) (Err Beyond)
 
 pub record Examples : Type 0 where
   -- 01: "0x12F4 is 4,852; 0767 is 503; 08 is reason 6"

@@ -4,10 +4,9 @@
 ghost use Rattle.std.specs.Prelude.{◌≤◌, ◌≡◌};
 ghost use Rattle.numbers.specs.Number.{minus, leading_zero, hex_mark, digits, digit_of, spelt, meaning, number_of, answer_of};
 
-// What a text is: a number, no number, or a number too large for any column (2 ^ 60 or more in magnitude).
-#[derive(Clone, Copy)]
-pub enum Number {
-    Value(i64),
+// Why a text has no value: it is no number, or one too large for any column (2 ^ 60 or more in magnitude).
+#[derive(Clone, Copy, PartialEq, Eq)]
+pub enum NumberError {
     NotNumber,
     Beyond,
 }
@@ -28,21 +27,21 @@ pub fn digit(c: u8) -> u64
 }
 
 // The number of a magnitude and a sign.
-fn signed(magnitude: u64, negative: bool) -> Number
+fn signed(magnitude: u64, negative: bool) -> Result<i64, NumberError>
     ensures { result ≡ answer_of (meaning (digits 10 negative magnitude)) }
 {
     if LIMIT <= magnitude {
-        return Number::Beyond;
+        return Err(NumberError::Beyond);
     }
     if negative {
-        return Number::Value(-(magnitude as i64));
+        return Ok(-(magnitude as i64));
     }
-    Number::Value(magnitude as i64)
+    Ok(magnitude as i64)
 }
 
 // Digits of `base` to the end of the text. From LIMIT on the magnitude stays, so it never wraps, and the characters are
 // still tested.
-fn read_digits(text: &[u8], base: u64, negative: bool) -> Number
+fn read_digits(text: &[u8], base: u64, negative: bool) -> Result<i64, NumberError>
     requires { base ≤ 16 }
     ensures { result ≡ answer_of (meaning (spelt (digits base negative 0) text.now)) }
 {
@@ -51,7 +50,7 @@ fn read_digits(text: &[u8], base: u64, negative: bool) -> Number
     while i < text.len() {
         let d = digit(text[i]);
         if base <= d {
-            return Number::NotNumber;
+            return Err(NumberError::NotNumber);
         }
         i += 1;
         if magnitude < LIMIT {
@@ -62,21 +61,21 @@ fn read_digits(text: &[u8], base: u64, negative: bool) -> Number
 }
 
 // What follows 0x or 0X.
-fn after_hex_mark(text: &[u8]) -> Number
+fn after_hex_mark(text: &[u8]) -> Result<i64, NumberError>
     ensures { result ≡ answer_of (meaning (spelt hex_mark text.now)) }
 {
     if text.len() == 0 {
-        return Number::NotNumber;
+        return Err(NumberError::NotNumber);
     }
     read_digits(text, 16, false)
 }
 
 // What follows a leading 0.
-fn after_zero(text: &[u8]) -> Number
+fn after_zero(text: &[u8]) -> Result<i64, NumberError>
     ensures { result ≡ answer_of (meaning (spelt leading_zero text.now)) }
 {
     if text.len() == 0 {
-        return Number::Value(0);
+        return Ok(0);
     }
     let c = text[0];
     match c {
@@ -86,27 +85,27 @@ fn after_zero(text: &[u8]) -> Number
 }
 
 // What follows a minus: 0 alone, or a decimal that starts with 1 to 9.
-fn after_minus(text: &[u8]) -> Number
+fn after_minus(text: &[u8]) -> Result<i64, NumberError>
     ensures { result ≡ answer_of (meaning (spelt minus text.now)) }
 {
     if text.len() == 0 {
-        return Number::NotNumber;
+        return Err(NumberError::NotNumber);
     }
     if text[0] == b'0' {
         if text.len() == 1 {
-            return Number::Value(0);
+            return Ok(0);
         }
-        return Number::NotNumber;
+        return Err(NumberError::NotNumber);
     }
     read_digits(text, 10, true)
 }
 
 // What a text of any length is, in one walk over it.
-pub fn read_number(text: &[u8]) -> Number
+pub fn read_number(text: &[u8]) -> Result<i64, NumberError>
     ensures { result ≡ answer_of (number_of text.now) }
 {
     if text.len() == 0 {
-        return Number::NotNumber;
+        return Err(NumberError::NotNumber);
     }
     let c = text[0];
     match c {

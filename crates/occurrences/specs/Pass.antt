@@ -1,16 +1,11 @@
 -- The same values, one occurrence after the other.
 use Rattle.std.specs.Prelude.{ℕ, ◌≡◌, refl, true, false, cond, ◌||◌, List, [], ◌∷◌, eqb, ℤ, pos}
 use Rattle.outcomes.specs.Outcome.{Outcome, refused, answer}
-use Rattle.outcomes.specs.Refusals.{refused_by}
 use Rattle.announced.specs.Announced.{raised, violation, after_reading}
 use Rattle.severity.specs.declared.Severity.{Severity}
 use Rattle.severity.specs.declared.Severity.TheVariants.{Soft}
 use Rattle.announced.specs.declared.Progress.{Progress}
 use Rattle.occurrences.specs.declared.Pass.{Pass}
-use Rattle.occurrences.specs.declared.RawNumber.{RawNumber}
-use Rattle.occurrences.specs.declared.RawNumber.TheVariants as number
-use Rattle.occurrences.specs.declared.Checked.{Checked}
-use Rattle.occurrences.specs.declared.Checked.TheVariants as checked
 
 -- after a value that is refused: 30 is off its curve, 31 out of range
 unfoldable pub after_refusal : (number : ℕ) → Pass → Pass
@@ -28,15 +23,6 @@ after_values nbchck severity (value ∷ later) pass = after_values nbchck severi
 -- 01: "then 30, then 31"
 unfoldable pub ended : Pass → Outcome Progress
 ended pass = cond pass.off (refused 30 0) (cond pass.beyond (refused 31 0) (answer pass.progress))
-
--- what the code's cases say
-unfoldable pub said_number : RawNumber → Outcome ℤ
-said_number (number.Is z) = answer z
-said_number (number.Refused refusal) = refused_by refusal
-
-unfoldable pub said_checked : Checked → Outcome Progress
-said_checked (checked.Is progress) = answer progress
-said_checked (checked.Refused refusal) = refused_by refusal
 
 -- a 31 and then a 30: both are kept, and 7, which is soft, still counts
 abbrev start : Pass

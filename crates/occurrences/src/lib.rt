@@ -3,21 +3,20 @@
 
 ghost use Rattle.std.specs.Prelude.{◌≡◌};
 ghost use Rattle.rows.specs.declared.records.PlfRow as declared;
-ghost use Rattle.outcomes.specs.Outcome.{and_then};
+ghost use Rattle.outcomes.specs.Refusals.{said};
 ghost use Rattle.outcomes.specs.Values.{value_of};
-ghost use Rattle.raw_values.specs.RawValues.{said_raw, raw_of, location_of};
+ghost use Rattle.raw_values.specs.RawValues.{raw_of, location_of};
 ghost use Rattle.curve_values.specs.Scale.{on_scale, scale_in};
 ghost use Rattle.severity.specs.Checks.{checks_in, severity_in};
 ghost use Rattle.occurrences.specs.Values.{integer_in};
 ghost use Rattle.occurrences.specs.Progress.{checked_by};
-ghost use Rattle.occurrences.specs.Pass.{after_refusal, after_value, ended, said_number, said_checked};
+ghost use Rattle.occurrences.specs.Pass.{after_refusal, after_value, ended};
 
 use announced::{Progress, after_reading};
-use curve_values::along::CurveResult;
 use curve_values::scale::{Scale, value_on};
 use outcomes::{Refusal, Value, number_of};
 use raw_values::place::Location;
-use raw_values::{RawValue, raw_of};
+use raw_values::raw_of;
 use rows::records::PcfRow;
 use severity::severity_in;
 
@@ -37,36 +36,13 @@ pub struct Manner {
     pub scale: Scale,
 }
 
-// A raw value as an integer, or why there is none.
-#[derive(Clone, Copy)]
-pub enum RawNumber {
-    Is(i64),
-    Refused(Refusal),
-}
-
-// Run and announced after all occurrences, or why the packet is refused.
-#[derive(Clone, Copy)]
-pub enum Checked {
-    Is(Progress),
-    Refused(Refusal),
-}
-
-fn integer_in(value: Value) -> RawNumber
-    ensures { said_number result ≡ integer_in (value_of value) }
+fn integer_in(value: Value) -> Result<i64, Refusal>
+    ensures { said result ≡ integer_in (value_of value) }
 {
     match value {
-        Value::Number(v) => RawNumber::Is(v),
-        Value::Part(from, bytes) => RawNumber::Refused(Refusal::NoPlfRow),
-        Value::Bits(pattern, width) => RawNumber::Refused(Refusal::NoPlfRow),
-    }
-}
-
-fn number_in(raw: RawValue) -> RawNumber
-    ensures { said_number result ≡ and_then (said_raw raw) integer_in }
-{
-    match raw {
-        RawValue::Is(value) => integer_in(value),
-        RawValue::Refused(refusal) => RawNumber::Refused(refusal),
+        Value::Number(v) => Ok(v),
+        Value::Part(from, bytes) => Err(Refusal::NoPlfRow),
+        Value::Bits(pattern, width) => Err(Refusal::NoPlfRow),
     }
 }
 
@@ -109,30 +85,29 @@ fn check_value(
 {
     let progress = pass.progress;
     match value_on(scale, xs, ys, raw) {
-        CurveResult::Is(v) => Pass {
+        Ok(v) => Pass {
             progress: after_reading(nbchck, severity_in(lows, highs, levels, v), progress),
             off: pass.off,
             beyond: pass.beyond,
         },
-        CurveResult::Refused(refusal) => after_refusal(number_of(refusal), pass),
+        Err(refusal) => after_refusal(number_of(refusal), pass),
     }
 }
 
 // 30 before 31.
-fn end_pass(pass: Pass) -> Checked
-    ensures { said_checked result ≡ ended pass }
+fn end_pass(pass: Pass) -> Result<Progress, Refusal>
+    ensures { said result ≡ ended pass }
 {
     if pass.off {
-        return Checked::Refused(Refusal::OffCurve);
+        return Err(Refusal::OffCurve);
     }
     if pass.beyond {
-        return Checked::Refused(Refusal::OutOfRange);
+        return Err(Refusal::OutOfRange);
     }
-    let progress = pass.progress;
-    Checked::Is(progress)
+    Ok(pass.progress)
 }
 
-// By any plf row that locates the parameter here, and its pcf row.
+// Run and announced after all occurrences, by any plf row that locates the parameter here, and its pcf row.
 // A field that leaves the packet is refused wherever it stands, valid or not.
 pub fn check_occurrences(
     p: &[u8],
@@ -145,8 +120,8 @@ pub fn check_occurrences(
     levels: &[u8],
     manner: Manner,
     progress: Progress,
-) -> Checked
-    ensures { (plf : declared.PlfRow) → location ≡ location_of plf → said_checked result
+) -> Result<Progress, Refusal>
+    ensures { (plf : declared.PlfRow) → location ≡ location_of plf → said result
         ≡ checked_by (raw_of p.now plf pcf) plf.nbocc
         (scale_in manner.scale xs.now ys.now) manner.valid
         (checks_in lows.now highs.now levels.now) manner.nbchck progress }
@@ -160,16 +135,11 @@ pub fn check_occurrences(
         off: false,
         beyond: false,
     };
-    let mut k: usize = 0;
-    while k < nbocc as usize {
-        match number_in(raw_of(p, location, pcf, k)) {
-            RawNumber::Is(raw) => {
-                if valid {
-                    pass = check_value(scale, xs, ys, lows, highs, levels, nbchck, raw, pass);
-                }
-                k += 1;
-            }
-            RawNumber::Refused(refusal) => return Checked::Refused(refusal),
+    for k in 0..nbocc as usize {
+        let value = raw_of(p, location, pcf, k)?;
+        let raw = integer_in(value)?;
+        if valid {
+            pass = check_value(scale, xs, ys, lows, highs, levels, nbchck, raw, pass);
         }
     }
     end_pass(pass)

@@ -9,9 +9,9 @@ use lib.IntN.{ℤ, pos, negsuc, nat_abs}
 use lib.ListN.{get_or}
 use lib.Signed.{lt_z}
 use borrow.Author.Tests.{le-ltb, leb-true}
+use Rattle.std.specs.Prelude.{Some, None}
 use Rattle.laws.proofs.Cases.{false≢true, and_left, and_right}
-use Rattle.offered.specs.Offered.{is_within, are_fields, state_with, offered_state, said_offered}
-use Rattle.offered.specs.declared.Offered.TheVariants.{State, NoState}
+use Rattle.offered.specs.Offered.{is_within, are_fields, state_with, offered_state}
 
 pub within_negative : (most : ℕ) (z : ℤ) → lt_z z (pos 0) ≡ true → false ≡ is_within most z
 unfolding is_within
@@ -80,10 +80,10 @@ module _ (zs : List ℤ) (e : are_fields zs ≡ true) where
 
   pub offered_is : {f a c r n : ℕ} → f ≡ nat_abs (get_or zs 0 (pos 0)) → a ≡ nat_abs (get_or zs 1 (pos 0)) → c ≡ nat_abs (get_or zs 2 (pos 0))
       → r ≡ nat_abs (get_or zs 3 (pos 0)) → n ≡ nat_abs (get_or zs 4 (pos 0))
-      → said_offered (State (record { fresh = eqb f 1; apid = a; count = c; run = r; announced = n })) ≡ offered_state zs
-  unfolding offered_state state_with said_offered
+      → Some (record { fresh = eqb f 1; apid = a; count = c; run = r; announced = n }) ≡ offered_state zs
+  unfolding offered_state state_with
   offered_is f a c r n = rw (e, f, a, c, r, n)
 
-pub offered_none : (zs : List ℤ) → are_fields zs ≡ false → said_offered NoState ≡ offered_state zs
-unfolding offered_state said_offered
+pub offered_none : (zs : List ℤ) → are_fields zs ≡ false → None ≡ offered_state zs
+unfolding offered_state
 offered_none zs e = rw e

@@ -1,9 +1,6 @@
 -- The limit state that five numbers are.
-use Rattle.std.specs.Prelude.{ℕ, ◌≡◌, refl, Bool, true, false, cond, ◌&&◌, List, [], ◌∷◌, eqb, leb, ℤ, pos, negsuc, nat_abs, get_or}
-use Rattle.std.proofs.Math.Option.{Option, none, some}
+use Rattle.std.specs.Prelude.{ℕ, ◌≡◌, refl, Bool, true, false, cond, ◌&&◌, List, [], ◌∷◌, eqb, leb, ℤ, pos, negsuc, nat_abs, get_or, Option, Some, None}
 use Rattle.limit_state.specs.declared.state.LimitState.{LimitState}
-use Rattle.offered.specs.declared.Offered.{Offered}
-use Rattle.offered.specs.declared.Offered.TheVariants.{State, NoState}
 
 -- one of 0 to `most`
 unfoldable pub is_within : (most : ℕ) → ℤ → Bool
@@ -29,21 +26,16 @@ state_with zs =
 
 -- none where a number is too large for its place, or negative
 unfoldable pub offered_state : List ℤ → Option LimitState
-offered_state zs = cond (are_fields zs) (some (state_with zs)) none
-
--- what each case says
-unfoldable pub said_offered : Offered → Option LimitState
-said_offered (State s) = some s
-said_offered NoState = none
+offered_state zs = cond (are_fields zs) (Some (state_with zs)) None
 
 pub record Examples : Type 0 where
   pub used : offered_state (pos 0 ∷ pos 10 ∷ pos 16383 ∷ pos 3 ∷ pos 1 ∷ [])
-      ≡ some (record { fresh = false; apid = 10; count = 16383; run = 3; announced = 1 })
-  pub new : offered_state (pos 1 ∷ pos 0 ∷ pos 0 ∷ pos 0 ∷ pos 0 ∷ []) ≡ some (record { fresh = true; apid = 0; count = 0; run = 0; announced = 0 })
+      ≡ Some (record { fresh = false; apid = 10; count = 16383; run = 3; announced = 1 })
+  pub new : offered_state (pos 1 ∷ pos 0 ∷ pos 0 ∷ pos 0 ∷ pos 0 ∷ []) ≡ Some (record { fresh = true; apid = 0; count = 0; run = 0; announced = 0 })
   -- 65,546 is 10 in 16 bits
-  pub apid : offered_state (pos 0 ∷ pos 65546 ∷ pos 0 ∷ pos 0 ∷ pos 0 ∷ []) ≡ none
-  pub two : offered_state (pos 2 ∷ pos 10 ∷ pos 0 ∷ pos 0 ∷ pos 0 ∷ []) ≡ none
-  pub negative : offered_state (pos 0 ∷ pos 10 ∷ pos 0 ∷ negsuc 0 ∷ pos 0 ∷ []) ≡ none
+  pub apid : offered_state (pos 0 ∷ pos 65546 ∷ pos 0 ∷ pos 0 ∷ pos 0 ∷ []) ≡ None
+  pub two : offered_state (pos 2 ∷ pos 10 ∷ pos 0 ∷ pos 0 ∷ pos 0 ∷ []) ≡ None
+  pub negative : offered_state (pos 0 ∷ pos 10 ∷ pos 0 ∷ negsuc 0 ∷ pos 0 ∷ []) ≡ None
 
 pub examples : Examples
 unfolding offered_state are_fields is_within state_with

@@ -2,16 +2,10 @@
 #![tactic(auto)]
 
 ghost use Rattle.std.specs.Prelude.{◌≡◌, ◌<◌, pos, nat_abs, get_or};
-ghost use Rattle.offered.specs.Offered.{is_within, are_fields, said_offered, offered_state};
+ghost use Rattle.offered.specs.Offered.{is_within, are_fields, offered_state};
 
 use curves::ints::{less, size};
 use limit_state::state::LimitState;
-
-#[derive(Clone, Copy)]
-pub enum Offered {
-    State(LimitState),
-    NoState,
-}
 
 fn number_at(numbers: &[i64; 5], k: usize) -> i64
     requires { k < 5 }
@@ -64,18 +58,18 @@ fn size_at(numbers: &[i64; 5], k: usize) -> u64
 }
 
 // Fresh, APID, count, run, announced. Whether a limit step takes the state is not asked here.
-pub fn state_of(numbers: &[i64; 5]) -> Offered
-    ensures { said_offered result ≡ offered_state numbers.now }
+pub fn state_of(numbers: &[i64; 5]) -> Option<LimitState>
+    ensures { result ≡ offered_state numbers.now }
 {
     if !are_fields(numbers) {
-        return Offered::NoState;
+        return None;
     }
     let fresh = size_at(numbers, 0) == 1;
     let apid = size_at(numbers, 1) as u16;
     let count = size_at(numbers, 2) as u16;
     let run = size_at(numbers, 3) as u8;
     let announced = size_at(numbers, 4) as u8;
-    Offered::State(LimitState {
+    Some(LimitState {
         fresh,
         apid,
         count,

@@ -1,6 +1,5 @@
 -- A limit step of what is offered as a state.
-use Rattle.std.specs.Prelude.{ℕ, ◌≡◌, refl, List, []}
-use Rattle.std.proofs.Math.Option.{Option, none, some}
+use Rattle.std.specs.Prelude.{ℕ, ◌≡◌, refl, List, [], Option, Some, None}
 use Rattle.verdicts.specs.Answer.{first_table, too_long, too_many_rows}
 use Rattle.tables.specs.Sizes.{sizes_of}
 use Rattle.outcomes.specs.Outcome.{Outcome, refused}
@@ -14,10 +13,10 @@ no_state texts = asking texts (λ rows. refused 34 0)
 
 -- a limit step of what was offered as a state, none where its numbers are none
 unfoldable pub limit_step_from : List (List ℕ) → (p name : List ℕ) → Option LimitState → Outcome LimitState
-limit_step_from texts p name none = no_state texts
-limit_step_from texts p name (some s) = limit_step_of texts p name s
+limit_step_from texts p name None = no_state texts
+limit_step_from texts p name (Some s) = limit_step_of texts p name s
 
 -- 34 comes before the packet's refusals: a packet of no bytes is under 7
-pub example : limit_step_from [] [] [] none ≡ refused 34 0
+pub example : limit_step_from [] [] [] None ≡ refused 34 0
 unfolding limit_step_from no_state asking after_sizes sizes_of too_long too_many_rows first_table
 example = refl

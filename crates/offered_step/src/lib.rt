@@ -7,21 +7,20 @@ ghost use Rattle.offered.specs.Offered.{offered_state};
 ghost use Rattle.accepting.specs.Answer.{said_step};
 ghost use Rattle.offered_step.specs.OfferedStep.{no_state, limit_step_from};
 
-use accepting::step::{Answer, Stepped};
+use accepting::step::Stepped;
 use calls::limit_step::limit_step;
 use limit_state::state::LimitState;
-use offered::{Offered, state_of};
+use offered::state_of;
 use outcomes::Refusal;
-use tables::{Sizes, TABLES, check_sizes};
+use tables::{TABLES, check_sizes};
 
 // Of numbers that are no state.
 fn refuse_state(tables: [&[u8]; TABLES]) -> Refusal
     ensures { refused_by result ≡ no_state (map (λ x. x.now) tables.entry) }
 {
     match check_sizes(tables) {
-        Sizes::Fit => Refusal::NoState,
-        Sizes::TooLong(table) => Refusal::TableTooLong(table),
-        Sizes::TooManyRows(table) => Refusal::TooManyRows(table),
+        Ok(()) => Refusal::NoState,
+        Err(error) => Refusal::from(error),
     }
 }
 
@@ -36,9 +35,9 @@ pub fn limit_step_from(
         ≡ limit_step_from (map (λ x. x.now) tables.entry) p.now name.now (offered_state numbers.now) }
 {
     match state_of(numbers) {
-        Offered::State(state) => limit_step(tables, p, name, state),
-        Offered::NoState => Stepped {
-            answer: Answer::Refused(refuse_state(tables)),
+        Some(state) => limit_step(tables, p, name, state),
+        None => Stepped {
+            answer: Err(refuse_state(tables)),
             state: LimitState {
                 fresh: true,
                 apid: 0,

@@ -1,6 +1,6 @@
 -- 01's number and place of each refusal.
-use Rattle.std.specs.Prelude.{ℕ, ◌≡◌, refl}
-use Rattle.outcomes.specs.Outcome.{Outcome, refused}
+use Rattle.std.specs.Prelude.{ℕ, ◌≡◌, refl, Ok, Err, Result}
+use Rattle.outcomes.specs.Outcome.{Outcome, refused, answer}
 use Rattle.outcomes.specs.declared.Refusal.{Refusal}
 use Rattle.outcomes.specs.declared.Refusal.TheVariants.{
   TableTooLong,
@@ -79,6 +79,11 @@ refusal_place NoIndex = 0
 -- a call that is refused so
 unfoldable pub refused_by : {A : Type 0} → Refusal → Outcome A
 refused_by refusal = refused (refusal_number refusal) (refusal_place refusal)
+
+-- what a result says: its answer, or its refusal with number and place
+unfoldable pub said : {A : Type 0} → Result A Refusal → Outcome A
+said (Ok a) = answer a
+said (Err refusal) = refused_by refusal
 
 pub example : refused_by {A = ℕ} (FieldLeaves (record { 0 = 14 })) ≡ refused 28 14
 unfolding refused_by refusal_number refusal_place

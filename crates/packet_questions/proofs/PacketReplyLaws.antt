@@ -6,8 +6,7 @@ use lib.ListN.{length}
 use borrow.Author.Tests.{eq-eqb, ne_eqb}
 use Rattle.lines.specs.Columns.{columns_of, column_at}
 use Rattle.calls.specs.Calls.{identify_of}
-use Rattle.scripts.specs.declared.operands.Natural.{Natural}
-use Rattle.scripts.specs.declared.operands.Natural.TheVariants as natural
+use Rattle.std.specs.Prelude as rust
 use Rattle.scripts.specs.Numerals.{natural_in}
 use Rattle.answers.specs.declared.answer.Answer.{Answer}
 use Rattle.answers.specs.Answers.{unreadable}
@@ -15,7 +14,7 @@ use Rattle.replies.specs.Replies.{reply_of, identity_answer}
 use Rattle.packet_questions.specs.PacketReplies.{occurrence_in, by_natural, identify_reply}
 
 module _ (text : List ℕ) (n : ℕ) (e : n ≡ length (columns_of text)) where
-  pub occurrence_none : n ≡ 1 → natural.Is 0 ≡ occurrence_in text
+  pub occurrence_none : n ≡ 1 → rust.Some 0 ≡ occurrence_in text
   unfolding occurrence_in
   occurrence_none h = rw (eq-eqb (length (columns_of text)) 1 (sym e ∙ h))
 
@@ -23,15 +22,15 @@ module _ (text : List ℕ) (n : ℕ) (e : n ≡ length (columns_of text)) where
   unfolding occurrence_in
   occurrence_named m h = rw (ne_eqb (length (columns_of text)) 1 (λ p. m (e ∙ p)), eq-eqb (length (columns_of text)) 2 (sym e ∙ h))
 
-  pub occurrence_unread : (n ≡ 1 → ⊥) → (n ≡ 2 → ⊥) → natural.Unread ≡ occurrence_in text
+  pub occurrence_unread : (n ≡ 1 → ⊥) → (n ≡ 2 → ⊥) → rust.None ≡ occurrence_in text
   unfolding occurrence_in
   occurrence_unread m h = rw (ne_eqb (length (columns_of text)) 1 (λ p. m (e ∙ p)), ne_eqb (length (columns_of text)) 2 (λ p. h (e ∙ p)))
 
-pub by_natural_lem : (f : ℕ → Answer) (o : Natural) (n : ℕ) → o ≡ natural.Is n → f n ≡ by_natural f o
+pub by_natural_lem : (f : ℕ → Answer) (o : rust.Option ℕ) (n : ℕ) → o ≡ rust.Some n → f n ≡ by_natural f o
 unfolding by_natural
 by_natural_lem f o n e = rw e
 
-pub by_unread : (f : ℕ → Answer) (o : Natural) → o ≡ natural.Unread → unreadable ≡ by_natural f o
+pub by_unread : (f : ℕ → Answer) (o : rust.Option ℕ) → o ≡ rust.None → unreadable ≡ by_natural f o
 unfolding by_natural
 by_unread f o e = rw e
 

@@ -4,8 +4,7 @@ use Rattle.laws.specs.Text.{ascii}
 use Rattle.numbers.specs.Number.{number_of, answer_of, meaning, spelt, after, digit_on, digit_of}
 use Rattle.lines.specs.Columns.{columns_of, columns_from, column_at}
 use Rattle.calls.specs.Calls.{identify_of, extract_of, engineer_of}
-use Rattle.scripts.specs.declared.operands.Natural.{Natural}
-use Rattle.scripts.specs.declared.operands.Natural.TheVariants as natural
+use Rattle.std.specs.Prelude as rust
 use Rattle.scripts.specs.Numerals.{natural_in, natural_of}
 use Rattle.answers.specs.declared.answer.Answer.{Answer}
 use Rattle.answers.specs.Answers.{integer_answer, unreadable}
@@ -13,14 +12,14 @@ use Rattle.inside.specs.Inside.{number_answer, width_reply, unsigned_reply, sign
 use Rattle.replies.specs.Replies.{reply_of, identity_answer, reading_answer, engineered_answer}
 
 -- the occurrence after a name, 0 where none is named
-unfoldable pub occurrence_in : List ℕ → Natural
+unfoldable pub occurrence_in : List ℕ → rust.Option ℕ
 occurrence_in text =
-    cond (eqb (length (columns_of text)) 1) (natural.Is 0)
-    (cond (eqb (length (columns_of text)) 2) (natural_in (column_at (columns_of text) 1)) natural.Unread)
+    cond (eqb (length (columns_of text)) 1) (rust.Some 0)
+    (cond (eqb (length (columns_of text)) 2) (natural_in (column_at (columns_of text) 1)) rust.None)
 
-unfoldable pub by_natural : (ℕ → Answer) → Natural → Answer
-by_natural answer (natural.Is n) = answer n
-by_natural answer natural.Unread = unreadable
+unfoldable pub by_natural : (ℕ → Answer) → rust.Option ℕ → Answer
+by_natural answer (rust.Some n) = answer n
+by_natural answer rust.None = unreadable
 
 unfoldable pub identify_reply : List (List ℕ) → (packet text : List ℕ) → Answer
 identify_reply texts packet text = cond (eqb (length text) 0) (reply_of identity_answer (identify_of texts packet)) unreadable
@@ -46,8 +45,8 @@ reply_to k texts packet text =
     (cond (eqb k 10) (string_reply packet text) (line_reply text))))))))
 
 pub record Examples : Type 0 where
-  pub first : occurrence_in (ascii "T1") ≡ natural.Is 0
-  pub third : occurrence_in (ascii "T1\t2") ≡ natural.Is 2
+  pub first : occurrence_in (ascii "T1") ≡ rust.Some 0
+  pub third : occurrence_in (ascii "T1\t2") ≡ rust.Some 2
   pub no_text : identify_reply [] [] (ascii "T1") ≡ unreadable
   pub number : reply_to 6 [] [] (ascii "0767") ≡ integer_answer (pos 503)
 

@@ -10,7 +10,7 @@ use calls::extract::extract;
 use calls::identify::identify;
 use inside::inner::{ask_line, ask_number, ask_signed, ask_string, ask_unsigned, ask_width};
 use replies::packet_replies::{say_engineered, say_identified, say_reading};
-use scripts::operands::{Natural, column_at, column_count, natural_in};
+use scripts::operands::{column_at, column_count, natural_in};
 use tables::TABLES;
 
 fn ask_identify(tables: [&[u8]; TABLES], packet: &[u8], text: &[u8]) -> Answer
@@ -23,25 +23,25 @@ fn ask_identify(tables: [&[u8]; TABLES], packet: &[u8], text: &[u8]) -> Answer
 }
 
 // The occurrence that a question names after a name, 0 where it names none.
-fn occurrence_of(text: &[u8]) -> Natural
+fn occurrence_of(text: &[u8]) -> Option<u64>
     ensures { result ≡ occurrence_in text.now }
 {
     let count = column_count(text);
     if count == 1 {
-        return Natural::Is(0);
+        return Some(0);
     }
     if count == 2 {
         return natural_in(column_at(text, 1));
     }
-    Natural::Unread
+    None
 }
 
 fn ask_extract(tables: [&[u8]; TABLES], packet: &[u8], text: &[u8]) -> Answer
     ensures { result ≡ extract_reply (map (λ x. x.now) tables.entry) packet.now text.now }
 {
     match occurrence_of(text) {
-        Natural::Is(k) => say_reading(extract(tables, packet, column_at(text, 0), k as usize)),
-        Natural::Unread => unread(),
+        Some(k) => say_reading(extract(tables, packet, column_at(text, 0), k as usize)),
+        None => unread(),
     }
 }
 
@@ -49,8 +49,8 @@ fn ask_engineer(tables: [&[u8]; TABLES], packet: &[u8], text: &[u8]) -> Answer
     ensures { result ≡ engineer_reply (map (λ x. x.now) tables.entry) packet.now text.now }
 {
     match occurrence_of(text) {
-        Natural::Is(k) => say_engineered(engineer(tables, packet, column_at(text, 0), k as usize)),
-        Natural::Unread => unread(),
+        Some(k) => say_engineered(engineer(tables, packet, column_at(text, 0), k as usize)),
+        None => unread(),
     }
 }
 

@@ -1,5 +1,6 @@
 -- The rows that packets are identified by, by their numbers.
-use Rattle.std.specs.Prelude.{ℕ, ◌≡◌, refl, [], ◌∷◌}
+use Rattle.std.specs.Prelude as std
+use Rattle.std.specs.Prelude.{ℕ, ◌≡◌, refl, [], ◌∷◌, Some, None}
 use Rattle.std.proofs.Math.Option.{Option, none, some}
 use Rattle.numbers.specs.Number.{digit_of, digit_on, after, spelt, meaning, number_of}
 use Rattle.lines.specs.Columns.{columns_from, columns_of}
@@ -9,8 +10,6 @@ use Rattle.key_symbols.specs.declared.FiveNumbers.{FiveNumbers}
 use Rattle.database.specs.Rows.{Row, Rows}
 use Rattle.database.specs.Packets.{numbers_in, is_packet_row, pid_example}
 use Rattle.database.specs.GoodRows.{among, find}
-use Rattle.packet_rows.specs.declared.Packet.{Packet}
-use Rattle.packet_rows.specs.declared.Packet.TheVariants.{Is, NoRow}
 
 abbrev pub numbers_from : Option Row → Option FiveNumbers
 numbers_from none = none
@@ -20,10 +19,10 @@ numbers_from (some row) = some (numbers_in row)
 unfoldable pub packets_by : Rows → (number : ℕ) → Option FiveNumbers
 packets_by rows number = numbers_from (rows.numbered number)
 
--- what the code's cases say
-unfoldable pub said_packet : Packet → Option FiveNumbers
-said_packet (Is numbers) = some numbers
-said_packet NoRow = none
+-- what the code's Option says
+unfoldable pub said_packet : std.Option FiveNumbers → Option FiveNumbers
+said_packet (Some numbers) = some numbers
+said_packet None = none
 
 pub record Examples : Type 0 where
   pub its_numbers : packets_by (among (pid_example 7 "3;25;10;4660;0;1000" ∷ [])) 7 ≡ some (record { ptype = 3; stype = 25; apid = 10; pi1 = 4660; pi2 = 0 })

@@ -11,39 +11,32 @@ use key_symbols::{FiveNumbers, packet_key};
 use tables::TABLES;
 use units::RowNumber;
 
-// The five numbers of a good VALID Y pid row; or the number is of none.
-#[derive(Clone, Copy)]
-pub enum Packet {
-    Is(FiveNumbers),
-    NoRow,
-}
-
-// Pid row `row`, from 1: it is one of these where the database gives it for its own five numbers.
+// The five numbers of pid row `row`, from 1, if it is good and VALID Y: the database gives it for these numbers.
 pub fn packet_at(
     tables: [&[u8]; TABLES],
     words: &[u64],
     links: &[u16],
     columns: &[u16],
     row: usize,
-) -> Packet
+) -> Option<FiveNumbers>
     ensures { said_packet result
         ≡ packets_by (answers (database (map (λ x. x.now) tables.entry) words.now links.now columns.now)) row }
 {
     if row == 0 {
-        return Packet::NoRow;
+        return None;
     }
     let i = row - 1;
     let number = number_of(columns, i);
     if number.0 != row {
-        return Packet::NoRow;
+        return None;
     }
     let numbers = numbers_at(tables, columns, i);
     let asked = packet_key(numbers);
     if !asked.fits {
-        return Packet::NoRow;
+        return None;
     }
     if holder_of(words, links, columns, asked.key) != row {
-        return Packet::NoRow;
+        return None;
     }
-    Packet::Is(numbers)
+    Some(numbers)
 }

@@ -1,9 +1,9 @@
 -- Laws of the rows of a parameter: what was found of them, and what the places of the database say.
 use mathlib.Core.Path.{◌≡◌}
-use mathlib.Core.Bool.{true, false}
 use mathlib.Core.List.{List}
 use mathlib.Core.Option.{none, some}
 use Prim.Native.Nat.{ℕ}
+use Rattle.std.specs.Prelude.{Option, Some, None}
 use Rattle.name_bytes.specs.declared.Name.{Name}
 use Rattle.outcomes.specs.Outcome.{refused, answer, and_then}
 use Rattle.verdicts.specs.Key.{location, parameter}
@@ -26,11 +26,12 @@ module _ (rows : Rows) (spid : ℕ) (name : Name) where
   unfolding located needed and_then
   both plf pcf e f = rw (e, f)
 
-module _ (texts : List (List ℕ)) (columns : List ℕ) (at : Places) where
-  pub at_found : at.found ≡ true → at_places texts columns at ≡ answer (by_lines (row_at texts columns at.plf).bytes (row_at texts columns at.pcf).bytes)
+module _ (texts : List (List ℕ)) (columns : List ℕ) (found : Option Places) where
+  pub at_found : {at : Places} → found ≡ Some at
+      → at_places texts columns found ≡ answer (by_lines (row_at texts columns at.plf).bytes (row_at texts columns at.pcf).bytes)
   unfolding at_places
-  at_found t = rw t
+  at_found e = rw e
 
-  pub at_missing : at.found ≡ false → at_places texts columns at ≡ refused 26 0
+  pub at_missing : found ≡ None → at_places texts columns found ≡ refused 26 0
   unfolding at_places
-  at_missing f = rw f
+  at_missing e = rw e

@@ -1,5 +1,6 @@
 -- The rows of a parameter: where it is in packets of a SPID, and what it is.
-use Rattle.std.specs.Prelude.{ℕ, ◌≡◌, refl, false, cond, List, []}
+use Rattle.std.specs.Prelude.{ℕ, ◌≡◌, refl, List, [], Some, None}
+use Rattle.std.specs.Prelude as rust
 use Rattle.std.proofs.Math.Option.{Option, none, some}
 use Rattle.laws.specs.Text.{ascii}
 use Rattle.name_bytes.specs.Names.{name_of}
@@ -34,12 +35,13 @@ located rows spid name =
     answer (by_lines plf.bytes pcf.bytes)))
 
 -- the rows at two places of the database, where they were found
-unfoldable pub at_places : (texts : List (List ℕ)) → (columns : List ℕ) → Places → Outcome Located
-at_places texts columns at = cond at.found (answer (by_lines (row_at texts columns at.plf).bytes (row_at texts columns at.pcf).bytes)) (refused 26 0)
+unfoldable pub at_places : (texts : List (List ℕ)) → (columns : List ℕ) → rust.Option Places → Outcome Located
+at_places texts columns None = refused 26 0
+at_places texts columns (Some at) = answer (by_lines (row_at texts columns at.plf).bytes (row_at texts columns at.pcf).bytes)
 
 pub record Examples : Type 0 where
   pub no_rows : located (among []) 7 (name_of (ascii "ONE")) ≡ refused 26 0
-  pub not_found : at_places [] [] record { found = false; plf = 0; pcf = 0 } ≡ refused 26 0
+  pub not_found : at_places [] [] None ≡ refused 26 0
 
 pub examples : Examples
 unfolding located needed and_then among find at_places

@@ -1,7 +1,7 @@
 // The rows of a parameter in a packet.
 #![tactic(auto)]
 
-ghost use Rattle.std.specs.Prelude.{ℕ, ◌≡◌, List, false};
+ghost use Rattle.std.specs.Prelude.{ℕ, ◌≡◌, List};
 ghost use Rattle.database.specs.Arrays.{database, answers};
 ghost use Rattle.parameters.specs.Located.{located, at_places};
 
@@ -10,40 +10,34 @@ use key_symbols::{location_key, parameter_key};
 use name_bytes::Name;
 use units::Spid;
 
-// The places of a parameter's plf row and pcf row, if both are there.
+// The places of a parameter's plf row and pcf row.
 #[derive(Clone, Copy)]
 pub struct Places {
-    pub found: bool,
     pub plf: usize,
     pub pcf: usize,
 }
 
-// 01: "no good plf row for name and SPID" is told by `found`. The tables themselves aren't read.
-pub fn locate(words: &[u64], links: &[u16], columns: &[u16], spid: Spid, name: Name) -> Places
+// 01: "no good plf row for name and SPID", or no pcf row, is none. The tables themselves aren't read.
+pub fn locate(
+    words: &[u64],
+    links: &[u16],
+    columns: &[u16],
+    spid: Spid,
+    name: Name,
+) -> Option<Places>
     ensures { (texts : List (List ℕ)) → at_places texts columns.now result
         ≡ located (answers (database texts words.now links.now columns.now)) spid.0 name }
 {
     let plf = holder_of(words, links, columns, location_key(name, spid));
     if plf == 0 {
-        return nowhere();
+        return None;
     }
     let pcf = holder_of(words, links, columns, parameter_key(name));
     if pcf == 0 {
-        return nowhere();
+        return None;
     }
-    Places {
-        found: true,
+    Some(Places {
         plf: plf - 1,
         pcf: pcf - 1,
-    }
-}
-
-fn nowhere() -> Places
-    ensures { result.found ≡ false }
-{
-    Places {
-        found: false,
-        plf: 0,
-        pcf: 0,
-    }
+    })
 }

@@ -15,11 +15,9 @@ fn one_more(count: u16) -> u16
 pub fn count_ids(marks: &[u8], ids: &[u16], counts: &mut [u16], n: usize)
     ensures { Counted marks.now ids.now counts.old counts.new n }
 {
-    let mut i: usize = 0;
-    while i < n {
+    for i in 0..n {
         let id = half_at(ids, i);
         let count = one_more(half_at(counts, id as usize));
         put_marked(byte_at(marks, i), id, count, counts);
-        i += 1;
     }
 }

@@ -10,9 +10,7 @@ pub fn note_rows(marks: &[u8], ids: &[u16], rows: &mut [u16], n: usize)
     ensures { Noted marks.now ids.now rows.old rows.new (min n 65535) }
 {
     let most = numbered(n);
-    let mut i: usize = 0;
-    while i < most {
+    for i in 0..most {
         put_marked(byte_at(marks, i), half_at(ids, i), (i + 1) as u16, rows);
-        i += 1;
     }
 }

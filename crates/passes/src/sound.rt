@@ -32,11 +32,9 @@ pub fn mark_sound(
     ensures { Filled (sound_at formed.now key1.now key2.now holders.now) sound.old
         sound.new n }
 {
-    let mut i: usize = 0;
-    while i < n {
+    for i in 0..n {
         let one = half_at(holders, half_at(key1, i) as usize);
         let two = half_at(holders, half_at(key2, i) as usize);
         put_byte(sound, i, sound_of(byte_at(formed, i), one, two));
-        i += 1;
     }
 }

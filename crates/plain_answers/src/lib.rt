@@ -11,9 +11,9 @@ ghost use Rattle.accepting.specs.Answer.{said_step};
 ghost use Rattle.plain_answers.specs.Values.{counts_of, of_counts, of_identity, of_value, of_reading, of_engineered, of_state};
 ghost use Rattle.telling.specs.Answers.{told_plainly, with_these_values, plain_of};
 
-use accepting::step::{Answer, Stepped};
+use accepting::step::Stepped;
 use engineering::engineer::Engineered;
-use identification::Identified;
+use identification::Identity;
 use import::Imported;
 use outcomes::{Refusal, Value};
 use polynomials::bits_of;
@@ -22,28 +22,27 @@ use telling::Telling;
 use telling::tell::{tell, tell_refusal};
 use telling::words::{as_flag, as_word};
 
-pub fn tell_imported(imported: Imported) -> Telling
+pub fn tell_imported(imported: Result<Imported, Refusal>) -> Telling
     ensures { told_plainly result ≡ plain_of of_counts (counts_of (import.said_imported imported)) }
 {
     match imported {
-        Imported::Done(rows, good) => {
-            let all = as_word(rows as u64);
-            let fine = as_word(good as u64);
+        Ok(counts) => {
+            let all = as_word(counts.rows as u64);
+            let fine = as_word(counts.good as u64);
             tell([all, fine, 0, 0, 0, 0, 0, 0], 2)
         }
-        Imported::TooLong(table) => tell_refusal(Refusal::TableTooLong(table)),
-        Imported::TooManyRows(table) => tell_refusal(Refusal::TooManyRows(table)),
-        Imported::TooFewCells => tell_refusal(Refusal::TooFewCells),
+        Err(refusal) => tell_refusal(refusal),
     }
 }
 
-pub fn tell_identified(identified: Identified) -> Telling
+pub fn tell_identified(identified: Result<Identity, Refusal>) -> Telling
     ensures { told_plainly result ≡ plain_of of_identity (said_identified identified) }
 {
     match identified {
-        Identified::Is(row, spid, n) => {
-            let number = as_word(row.0 as u64);
-            let packet = as_word(spid.0 as u64);
+        Ok(identity) => {
+            let n = identity.numbers;
+            let number = as_word(identity.row.0 as u64);
+            let packet = as_word(identity.spid.0 as u64);
             let apid = as_word(n.apid as u64);
             let ptype = as_word(n.ptype as u64);
             let stype = as_word(n.stype as u64);
@@ -51,7 +50,7 @@ pub fn tell_identified(identified: Identified) -> Telling
             let pi2 = as_word(n.pi2);
             tell([number, packet, apid, ptype, stype, pi1, pi2, 0], 7)
         }
-        Identified::Refused(refusal) => tell_refusal(refusal),
+        Err(refusal) => tell_refusal(refusal),
     }
 }
 
@@ -73,12 +72,12 @@ fn tell_read(value: Value, valid: bool) -> Telling
     }
 }
 
-pub fn tell_extracted(reading: Reading) -> Telling
+pub fn tell_extracted(reading: Result<Reading, Refusal>) -> Telling
     ensures { told_plainly result ≡ plain_of of_reading (said_reading reading) }
 {
     match reading {
-        Reading::Is(value, valid) => tell_read(value, valid),
-        Reading::Refused(refusal) => tell_refusal(refusal),
+        Ok(read) => tell_read(read.value, read.valid),
+        Err(refusal) => tell_refusal(refusal),
     }
 }
 
@@ -100,19 +99,21 @@ fn tell_value(value: Value) -> Telling
     }
 }
 
-pub fn tell_engineered(engineered: Engineered) -> Telling
+pub fn tell_engineered(engineered: Result<Engineered, Refusal>) -> Telling
     ensures { told_plainly result ≡ plain_of of_engineered (said_engineered engineered) }
 {
     match engineered {
-        Engineered::Is(value) => tell_value(value),
-        Engineered::Double(x) => tell([3, as_word(bits_of(x)), 0, 0, 0, 0, 0, 0], 2),
-        Engineered::Text(row, from, bytes) => {
-            let number = as_word(row.0 as u64);
-            let start = as_word(from.0 as u64);
-            let length = as_word(bytes as u64);
-            tell([2, number, start, length, 0, 0, 0, 0], 4)
-        }
-        Engineered::Refused(refusal) => tell_refusal(refusal),
+        Ok(value) => match value {
+            Engineered::Is(v) => tell_value(v),
+            Engineered::Double(x) => tell([3, as_word(bits_of(x)), 0, 0, 0, 0, 0, 0], 2),
+            Engineered::Text(text) => {
+                let number = as_word(text.row.0 as u64);
+                let start = as_word(text.start.0 as u64);
+                let length = as_word(text.bytes as u64);
+                tell([2, number, start, length, 0, 0, 0, 0], 4)
+            }
+        },
+        Err(refusal) => tell_refusal(refusal),
     }
 }
 
@@ -122,7 +123,7 @@ pub fn tell_stepped(stepped: Stepped) -> Telling
     let state = stepped.state;
     let taken = stepped.answer;
     match taken {
-        Answer::Taken => {
+        Ok(()) => {
             let fresh = as_flag(state.fresh);
             let apid = as_word(state.apid as u64);
             let count = as_word(state.count as u64);
@@ -130,6 +131,6 @@ pub fn tell_stepped(stepped: Stepped) -> Telling
             let announced = as_word(state.announced as u64);
             tell([fresh, apid, count, run, announced, 0, 0, 0], 5)
         }
-        Answer::Refused(refusal) => tell_refusal(refusal),
+        Err(refusal) => tell_refusal(refusal),
     }
 }

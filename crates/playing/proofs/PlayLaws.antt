@@ -4,10 +4,10 @@ use mathlib.Core.Path.{◌≡◌, refl, sym, ap, ◌∙◌}
 use mathlib.Core.List.{List, [], ◌∷◌}
 use native.Mathlib.Omega.{arith}
 use lib.ListN.{length, drop}
+use Rattle.std.specs.Prelude.{Some, None}
 use Rattle.lines.specs.Columns.{part_of}
 use Rattle.archives.specs.Packets.{packets_in, left_in}
 use Rattle.archives.specs.Framing.{framed_at}
-use Rattle.archives.specs.declared.Framed.TheVariants.{Whole, Cut}
 use Rattle.archives.proofs.PacketLaws.{packets_none, left_none}
 use Rattle.archives.proofs.FrameLaws.{cut_says, next_packets, next_left, next_within}
 use Rattle.database.specs.Rows.{Rows}
@@ -35,7 +35,7 @@ module _ (rows : Rows) (name : List ℕ) where
   offered s t p ps e = ap (λ (u : LimitState). after_packets rows name u ps) e
 
   module _ {begun replay : Replay} {bytes : List ℕ} {at : ℕ} (so : PlaysSo rows name begun bytes replay at) where
-    pub plays_more : {after : Replay} {end : ℕ} {packet : List ℕ} → framed_at bytes at ≡ Whole end → packet ≡ part_of bytes at end
+    pub plays_more : {after : Replay} {end : ℕ} {packet : List ℕ} → framed_at bytes at ≡ Some end → packet ≡ part_of bytes at end
         → after.state ≡ state_after replay.state (step_in rows packet name replay.state)
         → after.packets ≡ capped_sum replay.packets 1
         → PlaysSo rows name begun bytes after end
@@ -57,7 +57,7 @@ module _ (rows : Rows) (name : List ℕ) where
         counts : (n m k j : ℕ) → m ≡ capped_sum n 1 → j ≡ suc k → capped_sum m k ≡ capped_sum n j
         counts n m k j e f = omega arith
 
-    pub plays_end : framed_at bytes at ≡ Cut → Plays rows name begun bytes replay at
+    pub plays_end : framed_at bytes at ≡ None → Plays rows name begun bytes replay at
     unfolding after_packets
     plays_end c =
         let f = cut_says bytes at c in

@@ -7,7 +7,7 @@ ghost use Rattle.accepting.specs.Accepted.{state_after};
 ghost use Rattle.stepping.specs.Step.{step_in};
 ghost use Rattle.playing.specs.Plays.{fresh_state, capped_sum, Plays};
 
-use archives::{Framed, packet_at};
+use archives::packet_at;
 use limit_state::state::LimitState;
 use lines::columns::part;
 use showing::packet_lines::Line;
@@ -117,16 +117,12 @@ pub fn play(
 {
     let mut replay = begun;
     let mut at = 0;
-    loop {
-        match packet_at(bytes, at) {
-            Framed::Whole(end) => {
-                let packet = part(bytes, at, end);
-                replay = offer(
-                    rt, tables, words, links, columns, name, packet, showing, replay,
-                );
-                at = end;
-            }
-            Framed::Cut => return Played { replay, used: at },
-        }
+    while let Some(end) = packet_at(bytes, at) {
+        let packet = part(bytes, at, end);
+        replay = offer(
+            rt, tables, words, links, columns, name, packet, showing, replay,
+        );
+        at = end;
     }
+    Played { replay, used: at }
 }

@@ -6,8 +6,8 @@ use Prim.Native.Nat.{ℕ, suc, ◌+◌, ◌-◌, ◌/◌, ◌%◌, ◌≤◌, �
 use native.Mathlib.Omega.{arith}
 use lib.ListN.{length, get_or}
 use borrow.Author.Tests.{ne_eqb}
+use Rattle.std.specs.Prelude.{Some, None}
 use Rattle.laws.specs.Prefix.{all_from}
-use Rattle.pointing.specs.declared.Cause.TheVariants.{Row, NoMore}
 use Rattle.key_rows.specs.KeyRows.{shares_by, counted_by}
 use Rattle.named_rows.specs.NamedRows.{named_at_by, follower_by}
 use Rattle.pointing.specs.Pointing.{points_to, first_of}
@@ -40,7 +40,7 @@ module _ (passes : ℕ → Bool) (lo n : ℕ) where
   left : lo < n → n - lo ≡ suc (n - (lo + 1))
   left h = omega arith
 
-  pub search_here : lo < n → passes lo ≡ true → Row lo ≡ first_of (all_from passes lo (n - lo))
+  pub search_here : lo < n → passes lo ≡ true → Some lo ≡ first_of (all_from passes lo (n - lo))
   unfolding first_of all_from
   search_here h e = rw (left h, e)
 
@@ -48,7 +48,7 @@ module _ (passes : ℕ → Bool) (lo n : ℕ) where
   unfolding all_from
   search_more h e = rw (left h, e)
 
-  pub search_end : n ≤ lo → NoMore ≡ first_of (all_from passes lo (n - lo))
+  pub search_end : n ≤ lo → None ≡ first_of (all_from passes lo (n - lo))
   unfolding first_of all_from
   search_end h = let z : n - lo ≡ 0 = omega arith in rw z
 

@@ -1,9 +1,7 @@
 -- Which rows a row's verdict points to, by the columns that are kept of the rows and the cells of their verdicts.
-use Rattle.std.specs.Prelude.{ℕ, ◌/◌, ◌%◌, ◌≡◌, refl, Bool, false, cond, List, [], ◌∷◌, eqb, get_or}
+use Rattle.std.specs.Prelude.{ℕ, ◌/◌, ◌%◌, ◌≡◌, refl, Bool, false, cond, List, [], ◌∷◌, eqb, get_or, Option, Some, None}
 use Rattle.key_rows.specs.KeyRows.{shares_by, counted_by}
 use Rattle.named_rows.specs.NamedRows.{named_at_by, follower_by}
-use Rattle.pointing.specs.declared.Cause.{Cause}
-use Rattle.pointing.specs.declared.Cause.TheVariants.{Row, NoMore}
 
 -- by the reason of the verdict in its cell row i points to row j
 unfoldable pub points_to : (halves bytes cells : List ℕ) → (i j : ℕ) → Bool
@@ -15,13 +13,13 @@ points_to halves bytes cells i j =
     false)))
 
 -- the first of some rows
-unfoldable pub first_of : List ℕ → Cause
-first_of [] = NoMore
-first_of (j ∷ js) = Row j
+unfoldable pub first_of : List ℕ → Option ℕ
+first_of [] = None
+first_of (j ∷ js) = Some j
 
 pub record Examples : Type 0 where
-  pub some : first_of (3 ∷ 5 ∷ []) ≡ Row 3
-  pub none : first_of [] ≡ NoMore
+  pub some : first_of (3 ∷ 5 ∷ []) ≡ Some 3
+  pub none : first_of [] ≡ None
 
 pub examples : Examples
 unfolding first_of

@@ -9,13 +9,6 @@ use arrays::half_at;
 use key_rows::{is_counted, shares};
 use named_rows::{follows, names_at};
 
-// A row by its place among all rows, from 0; or there is none.
-#[derive(Clone, Copy)]
-pub enum Cause {
-    Row(usize),
-    NoMore,
-}
-
 // Whether the verdict in the cell of row i speaks of row j.
 pub fn points_to(halves: &[u16], bytes: &[u8], cells: &[u16], i: usize, j: usize) -> bool
     ensures { result ≡ points_to halves.now bytes.now cells.now i j }
@@ -38,6 +31,7 @@ pub fn points_to(halves: &[u16], bytes: &[u8], cells: &[u16], i: usize, j: usize
 }
 
 // The first row of n, from a place on, that the verdict of row i speaks of.
+// Rows go by their place among all rows, from 0.
 pub fn next_cause(
     halves: &[u16],
     bytes: &[u8],
@@ -45,17 +39,15 @@ pub fn next_cause(
     n: usize,
     i: usize,
     from: usize,
-) -> Cause
+) -> Option<usize>
     ensures { result ≡ first_of (all_from (points_to halves.now bytes.now cells.now i) from (n - from)) }
 {
-    let mut j = from;
-    while j < n {
+    for j in from..n {
         if points_to(halves, bytes, cells, i, j) {
-            return Cause::Row(j);
+            return Some(j);
         }
-        j += 1;
     }
-    Cause::NoMore
+    None
 }
 
 // How many of n rows the verdict of row i speaks of.

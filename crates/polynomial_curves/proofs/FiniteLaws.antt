@@ -3,6 +3,7 @@ use mathlib.Core.Path.{◌≡◌, refl, subst}
 use mathlib.Core.Bool.{Bool, true, false, cond}
 use mathlib.Core.List.{List}
 use mathlib.Core.Option.{Option, none, some}
+use Rattle.std.specs.Prelude.{Some, None}
 use Prim.Native.Nat.{ℕ, ◌^◌, ◌≤◌}
 use native.Mathlib.Omega.{arith}
 use lib.IntN.{ℤ, nat_abs}
@@ -19,7 +20,6 @@ use Rattle.verdicts.specs.Key.{curve}
 use Rattle.database.specs.Rows.{Row, Rows}
 use Rattle.database.specs.Kinds.{is_polynomial}
 use Rattle.polynomial_curves.specs.Polynomials.{polynomial_in, polynomial_for}
-use Rattle.polynomial_curves.specs.declared.Found.TheVariants.{Is, Nothing}
 
 coefficient_from_lem : (t : List ℕ) (c : Coefficient) → coefficient_of t ≡ c → FromText (coefficient_from c)
 unfolding coefficient_from
@@ -43,19 +43,19 @@ row_texts line =
       pol5 = column_from_lem (column line 6);
     }
 
-module _ (rows : Rows) (curtx : OptionalCurve) (p : Polynomial) (named : polynomial_for rows curtx ≡ Is p) where
+module _ (rows : Rows) (curtx : OptionalCurve) (p : Polynomial) (named : polynomial_for rows curtx ≡ Some p) where
   -- it is a row's
   pub curve_texts : FromTexts p
   unfolding polynomial_for polynomial_in
   curve_texts = go curtx.given (rows.holder (curve curtx.name)) named
     where
-      by : (row : Row) (b : Bool) → cond b (Is (mcf_row row.bytes).polynomial) Nothing ≡ Is p → FromTexts p
+      by : (row : Row) (b : Bool) → cond b (Some (mcf_row row.bytes).polynomial) None ≡ Some p → FromTexts p
       by row true e =
           let q : (mcf_row row.bytes).polynomial ≡ p = cc in
           subst FromTexts q (row_texts row.bytes)
       by row false e = absurd (let z : ◌≡◌ {A = ℕ} 0 1 = cc in omega arith)
 
-      go : (given : Bool) (o : Option Row) → cond given (polynomial_in o) Nothing ≡ Is p → FromTexts p
+      go : (given : Bool) (o : Option Row) → cond given (polynomial_in o) None ≡ Some p → FromTexts p
       go true (some row) e = by row (is_polynomial row) e
       go true none e = absurd (let z : ◌≡◌ {A = ℕ} 0 1 = cc in omega arith)
       go false o e = absurd (let z : ◌≡◌ {A = ℕ} 0 1 = cc in omega arith)

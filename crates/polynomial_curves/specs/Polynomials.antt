@@ -1,5 +1,6 @@
 -- The polynomial that a parameter's CURTX names.
-use Rattle.std.specs.Prelude.{◌≡◌, refl, true, cond, [], ◌∷◌, ℕ}
+use Rattle.std.specs.Prelude.{◌≡◌, refl, true, cond, [], ◌∷◌, ℕ, Some, None}
+use Rattle.std.specs.Prelude as rust
 use Rattle.std.proofs.Math.Option.{Option, none, some}
 use Rattle.std.specs.Float.{binary64}
 use Rattle.std.specs.Float.Ieee.{mul, div, of_int, of_bits}
@@ -7,6 +8,7 @@ use Rattle.laws.specs.Text.{ascii}
 use Rattle.notation.specs.Stages.{on_digit, in_digits, stage_after, stage_from, is_coefficient}
 use Rattle.notation.specs.Scientific.{with_digit, with_character, scientific_from, parsed, parsed_of}
 use Rattle.coefficients.specs.Coefficient.{with_sign, scaled, double_of, valued, coefficient_of}
+use Rattle.polynomials.specs.declared.Polynomial.{Polynomial}
 use Rattle.name_bytes.specs.Names.{curve_name_of, same_bytes}
 use Rattle.lines.specs.Columns.{columns_from, columns_of}
 use Rattle.rows.specs.Values.{coefficient_from, coefficient_or_zero}
@@ -17,17 +19,15 @@ use Rattle.verdicts.specs.Facts.{caf_facts, mcf_facts, facts_of}
 use Rattle.database.specs.Rows.{Row, Rows}
 use Rattle.database.specs.GoodRows.{holds_key, find, among}
 use Rattle.database.specs.Kinds.{is_polynomial}
-use Rattle.polynomial_curves.specs.declared.Found.{Found}
-use Rattle.polynomial_curves.specs.declared.Found.TheVariants.{Is, Nothing}
 
 -- the polynomial of a row that is one
-unfoldable pub polynomial_in : Option Row → Found
-polynomial_in none = Nothing
-polynomial_in (some row) = cond (is_polynomial row) (Is (mcf_row row.bytes).polynomial) Nothing
+unfoldable pub polynomial_in : Option Row → rust.Option Polynomial
+polynomial_in none = None
+polynomial_in (some row) = cond (is_polynomial row) (Some (mcf_row row.bytes).polynomial) None
 
 -- 02, P1: "IDENT shares its keys with caf NUMBR, … and N parameters may name either"
-unfoldable pub polynomial_for : Rows → OptionalCurve → Found
-polynomial_for rows curtx = cond curtx.given (polynomial_in (rows.holder (curve curtx.name))) Nothing
+unfoldable pub polynomial_for : Rows → OptionalCurve → rust.Option Polynomial
+polynomial_for rows curtx = cond curtx.given (polynomial_in (rows.holder (curve curtx.name))) None
 
 -- one row of this table, which is 0.5 + 2 x in mcf
 abbrev in_table : ℕ → Rows
@@ -38,14 +38,14 @@ named = record { given = true; name = curve_name_of (ascii "C") }
 
 pub record Examples : Type 0 where
   pub in_mcf : polynomial_for (in_table 10) named
-      ≡ Is (record {
+      ≡ Some (record {
         pol1 = of_bits binary64 0x3FE0000000000000;
         pol2 = of_bits binary64 0x4000000000000000;
         pol3 = of_bits binary64 0;
         pol4 = of_bits binary64 0;
         pol5 = of_bits binary64 0;
       })
-  pub in_caf : polynomial_for (in_table 4) named ≡ Nothing
+  pub in_caf : polynomial_for (in_table 4) named ≡ None
 
 pub examples : Examples
 unfolding

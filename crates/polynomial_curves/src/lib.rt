@@ -14,34 +14,26 @@ use polynomials::Polynomial;
 use rows::records::OptionalCurve;
 use tables::TABLES;
 
-// A polynomial, or that there is none: no row of this name, or a row of caf.
-#[derive(Clone, Copy)]
-pub enum Found {
-    Is(Polynomial),
-    Nothing,
-}
-
-// By the row of this name.
+// By the row of this name. There is none without such a row, or where it is a row of caf.
 fn polynomial_of(
     tables: [&[u8]; TABLES],
     words: &[u64],
     links: &[u16],
     columns: &[u16],
     name: CurveName,
-) -> Found
+) -> Option<Polynomial>
     ensures { result ≡ polynomial_in ((answers (database (map (λ x. x.now) tables.entry) words.now links.now columns.now)
         ).holder (key.curve name)) }
 {
     let at = holder_of(words, links, columns, curve_key(name));
     if at == 0 {
-        return Found::Nothing;
+        return None;
     }
     if !is_polynomial(columns, at - 1) {
-        return Found::Nothing;
+        return None;
     }
     let row = mcf_at(tables, columns, at - 1);
-    let polynomial = row.polynomial;
-    Found::Is(polynomial)
+    Some(row.polynomial)
 }
 
 // By CURTX, where it is given.
@@ -51,12 +43,12 @@ pub fn find_polynomial(
     links: &[u16],
     columns: &[u16],
     curtx: OptionalCurve,
-) -> Found
+) -> Option<Polynomial>
     ensures { result ≡ polynomial_for (answers (database (map (λ x. x.now) tables.entry) words.now links.now columns.now))
         curtx }
 {
     if !curtx.given {
-        return Found::Nothing;
+        return None;
     }
     let name = curtx.name;
     polynomial_of(tables, words, links, columns, name)

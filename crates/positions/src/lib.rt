@@ -75,9 +75,7 @@ pub fn put_positions(
     ensures { PositionsBy (map (λ x. x.now) tables.entry) halves.now bytes.now
         positions.old positions.new n }
 {
-    let mut i: usize = 0;
-    while i < n {
+    for i in 0..n {
         put_half(positions, i, position_at(tables, halves, bytes, i));
-        i += 1;
     }
 }

@@ -9,7 +9,7 @@ use answers::answer::Answer;
 use calls::limit_step::limit_step;
 use cell_questions::{judge_import, judge_row};
 use comparing::compare::{Verdict, compare};
-use escapes::{Bytes, ROOM, unescape, unescape_row};
+use escapes::{ROOM, unescape, unescape_row};
 use index_questions::answer_by_index;
 use limit_state::state::LimitState;
 use lines::columns::part;
@@ -123,7 +123,7 @@ fn judge_text(
 }
 
 // The bytes of a question's text. That of `row` ends as a row does.
-fn question_text(k: usize, raw: &[u8], out: &mut [u8; ROOM]) -> Bytes
+fn question_text(k: usize, raw: &[u8], out: &mut [u8; ROOM]) -> Option<usize>
     ensures { read_in result out.new ≡ question_bytes k raw.now }
 {
     if k == 1 {
@@ -148,7 +148,7 @@ fn judge_in(
     ensures { result ≡ judged k (map (λ x. x.now) tables.entry) packet.now raw.now state line.now }
 {
     match question_text(k, raw, out) {
-        Bytes::Are(n) => judge_text(
+        Some(n) => judge_text(
             rt,
             name,
             number,
@@ -159,7 +159,7 @@ fn judge_in(
             state,
             line,
         ),
-        Bytes::Unread => Judged {
+        None => Judged {
             verdict: Verdict::Unread,
             state,
         },

@@ -15,21 +15,17 @@ use lib.Signed.{mag}
 use mir.Syntax.{w64}
 use mir.Val.{SFits, to_z, of_z}
 use mir.ValLaws.{to_z_pos}
+use Rattle.std.specs.Prelude.{Option, Some, None, Result, Ok}
 use borrow.Author.Tests.{lt-ltb, le-ltb, eq-eqb, ne_eqb, leb-true, eqb-true}
 use Rattle.laws.proofs.Cases.{cond_cases, bool_cases}
 use Rattle.laws.proofs.Words.{through_word}
 use Rattle.laws.specs.Said.{Said, value, refused as refused_with}
 use Rattle.widths.specs.Width.{bits_of, bits_within, integer_width, real_width, width_of}
-use Rattle.widths.specs.declared.Width.{Width}
-use Rattle.widths.specs.declared.Width.TheVariants as width
 use Rattle.rows.specs.declared.records.PlfRow.{PlfRow}
 use Rattle.rows.specs.declared.records.PcfRow.{PcfRow}
 use Rattle.fields.specs.Field.{field_at, said_unsigned, unsigned_at}
-use Rattle.fields.specs.declared.field.Unsigned.{Unsigned}
-use Rattle.fields.specs.declared.field.Unsigned.TheVariants as UV
+use Rattle.fields.specs.declared.field.FieldError.{FieldError}
 use Rattle.fields.specs.Sign.{complement_of, said_signed, signed_at}
-use Rattle.fields.specs.declared.sign.Signed.{Signed}
-use Rattle.fields.specs.declared.sign.Signed.TheVariants as SV
 use Rattle.string_fields.specs.Text.{string_at}
 use Rattle.fields.proofs.FieldLaws.{field_outside, field_read, unsigned_read}
 use Rattle.fields.proofs.SignLaws.{signed_range}
@@ -198,7 +194,7 @@ pub told : {A : Type 0} (says : A → Said) (at : ℕ) (make : ℤ → Value) (s
 told says at make s r e q = ap (value_at at make) (ap says (sym q) ∙ e)
 
 -- the bits of a real
-pub real_told : (p : List ℕ) (at pfc n : ℕ) (r : Unsigned) → said_unsigned r ≡ unsigned_at p at n → (v : ℕ) → r ≡ UV.Is v → {b w : ℕ}
+pub real_told : (p : List ℕ) (at pfc n : ℕ) (r : Result ℕ FieldError) → said_unsigned r ≡ unsigned_at p at n → (v : ℕ) → r ≡ Ok v → {b w : ℕ}
     → b ≡ real_bits pfc v → w ≡ bits_told pfc → answer (bits b w) ≡ value_at at (real_value pfc) (unsigned_at p at n)
 unfolding said_unsigned value_at real_value
 real_told p at pfc n r s v e q t = rw (q, t) (told said_unsigned at (real_value pfc) (unsigned_at p at n) r s e)
@@ -207,26 +203,26 @@ real_told p at pfc n r s v e q t = rw (q, t) (told said_unsigned at (real_value 
 low_half : (n : ℕ) → n ≤ 64 → 2 ^ (n - 1) ≤ 2 ^ 63
 low_half n h = pow_mono {j = 63} (omega arith)
 
-module _ (p : List ℕ) (at n : ℕ) (r : Signed) (s : said_signed r ≡ signed_at p at n) where
+module _ (p : List ℕ) (at n : ℕ) (r : Result ℤ FieldError) (s : said_signed r ≡ signed_at p at n) where
   signed_fits : (z : ℤ) → value z ≡ signed_at p at n → mag z < 2 ^ 63
   unfolding signed_at
   signed_fits z e = omega (arith, signed_range p at n z e, low_half n (field_read (complement_of n) p at n z e).narrow)
 
-  pub signed_number : (z : ℤ) → r ≡ SV.Is z → answer (number (to_z w64 (of_z w64 z))) ≡ value_at at number (signed_at p at n)
+  pub signed_number : (z : ℤ) → r ≡ Ok z → answer (number (to_z w64 (of_z w64 z))) ≡ value_at at number (signed_at p at n)
   unfolding said_signed value_at
   signed_number z e =
       ap (λ (x : ℤ). answer (number x)) (through_word z (signed_fits z (ap said_signed (sym e) ∙ s)))
       ∙ told said_signed at number (signed_at p at n) r s e
 
-module _ (p : List ℕ) (at n : ℕ) (r : Unsigned) (s : said_unsigned r ≡ unsigned_at p at n) where
-  unsigned_below : (v : ℕ) → n ≤ 32 → r ≡ UV.Is v → v < 2 ^ 32
+module _ (p : List ℕ) (at n : ℕ) (r : Result ℕ FieldError) (s : said_unsigned r ≡ unsigned_at p at n) where
+  unsigned_below : (v : ℕ) → n ≤ 32 → r ≡ Ok v → v < 2 ^ 32
   unfolding said_unsigned
   unsigned_below v h e = lt_of_lt_of_le (unsigned_read p at n v (ap said_unsigned (sym e) ∙ s)).below (pow_mono h)
 
-  pub unsigned_fits : (v : ℕ) → n ≤ 32 → r ≡ UV.Is v → SFits w64 (pos v)
+  pub unsigned_fits : (v : ℕ) → n ≤ 32 → r ≡ Ok v → SFits w64 (pos v)
   unsigned_fits v h e = record { sfits = omega (arith, unsigned_below v h e) }
 
-  pub unsigned_number : (v : ℕ) → n ≤ 32 → r ≡ UV.Is v → answer (number (to_z w64 v)) ≡ value_at at number (unsigned_at p at n)
+  pub unsigned_number : (v : ℕ) → n ≤ 32 → r ≡ Ok v → answer (number (to_z w64 v)) ≡ value_at at number (unsigned_at p at n)
   unfolding said_unsigned value_at
   unsigned_number v h e =
       ap (λ (x : ℤ). answer (number x)) (to_z_pos w64 v (omega (arith, unsigned_below v h e)))
@@ -249,11 +245,11 @@ module _ (p : List ℕ) (plf : PlfRow) (pcf : PcfRow) (k : ℕ) where
   unfolding raw_of
   packet_too_long h = rw (lt-ltb _ _ h)
 
-  module _ (row : PcfRow) (w : Width) (short : length p ≤ 8192) (d : row ≡ pcf) (e : bits_of w ≡ width_of row.ptc row.pfc) where
-    pub raw_in_bits : (n : ℕ) → w ≡ width.Bits n → raw_in p plf row.ptc row.pfc k (some n) ≡ raw_of p plf pcf k
+  module _ (row : PcfRow) (w : Option ℕ) (short : length p ≤ 8192) (d : row ≡ pcf) (e : bits_of w ≡ width_of row.ptc row.pfc) where
+    pub raw_in_bits : (n : ℕ) → w ≡ Some n → raw_in p plf row.ptc row.pfc k (some n) ≡ raw_of p plf pcf k
     unfolding raw_of bits_of
     raw_in_bits n b = rw (← d, le-ltb _ _ short) (ap (raw_in p plf row.ptc row.pfc k) (sym (ap bits_of b) ∙ e))
 
-    pub raw_refused : w ≡ width.Refused → refused 26 0 ≡ raw_of p plf pcf k
+    pub raw_refused : w ≡ None → refused 26 0 ≡ raw_of p plf pcf k
     unfolding raw_of raw_in bits_of
     raw_refused b = rw (← d, le-ltb _ _ short) (ap (raw_in p plf row.ptc row.pfc k) (sym (ap bits_of b) ∙ e))

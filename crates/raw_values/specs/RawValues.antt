@@ -1,5 +1,5 @@
 -- The raw value of an occurrence of a parameter in a packet.
-use Rattle.std.specs.Prelude.{ℕ, ◌+◌, ◌*◌, ◌/◌, ◌≤◌, ◌≡◌, refl, Bool, true, false, cond, ◌||◌, List, [], eqb, ltb, ℤ, pos, length}
+use Rattle.std.specs.Prelude.{ℕ, ◌+◌, ◌*◌, ◌/◌, ◌≤◌, ◌≡◌, refl, Bool, true, false, cond, ◌||◌, List, [], eqb, ltb, ℤ, pos, length, Result, Ok, Err}
 use Rattle.std.proofs.Math.Option.{Option, some, none}
 use Rattle.laws.specs.Said.{Said, value, refused as refused_with, free}
 use Rattle.name_bytes.specs.Names.{name_of}
@@ -15,10 +15,10 @@ use Rattle.rows.specs.declared.records.PcfRow.{PcfRow}
 use Rattle.outcomes.specs.Outcome.{Outcome, refused, answer}
 use Rattle.outcomes.specs.Values.{Value, number, part, bits, value_of}
 use Rattle.outcomes.specs.Refusals.{refused_by}
+use Rattle.outcomes.specs.declared.Refusal.{Refusal}
+use Rattle.outcomes.specs.declared.Value as code
 use Rattle.wire_reals.specs.Reals.{is_real_type, real_bits, bits_told, real_value}
 use Rattle.raw_values.specs.declared.place.Location.{Location}
-use Rattle.raw_values.specs.declared.RawValue.{RawValue}
-use Rattle.raw_values.specs.declared.RawValue.TheVariants.{Is, Refused}
 
 -- 01: "Occurrence k, from 0, starts at bit 8 × OFFBY + OFFBI + k × LGOCC from the packet's first bit"
 unfoldable pub start_of : PlfRow → ℕ → ℕ
@@ -72,10 +72,10 @@ raw_in p plf ptc pfc k (some n) = cond (ltb k plf.nbocc) (field_raw p ptc pfc n 
 unfoldable pub raw_of : List ℕ → PlfRow → PcfRow → (k : ℕ) → Outcome Value
 raw_of p plf pcf k = cond (ltb 8192 (length p)) (refused 20 0) (raw_in p plf pcf.ptc pcf.pfc k (width_of pcf.ptc pcf.pfc))
 
--- the value, or 01's number and place, of each case
-unfoldable pub said_raw : RawValue → Outcome Value
-said_raw (Is v) = answer (value_of v)
-said_raw (Refused refusal) = refused_by refusal
+-- the value, or 01's number and place, of a result
+unfoldable pub said_raw : Result code.Value Refusal → Outcome Value
+said_raw (Ok v) = answer (value_of v)
+said_raw (Err refusal) = refused_by refusal
 
 -- 01: "unsigned 16 at byte 12: 4,660": PTC 3 and PFC 12. A string that starts at a bit is refused,
 -- and so is a second occurrence of one

@@ -13,6 +13,7 @@ use mir.Val.{to_z, of_z}
 use borrow.Author.Tests.{eq-eqb, eqb-true, eqb-false}
 use Rattle.laws.proofs.Cases.{bool_cases, false_of, false≢true}
 use Rattle.laws.proofs.Words.{through_word}
+use Rattle.std.specs.Prelude.{Option, Some, None}
 use Rattle.name_bytes.specs.declared.Name.{Name}
 use Rattle.decoding.specs.Records.{plf_row, pcf_row}
 use Rattle.rows.specs.declared.records.PcfRow.{PcfRow}
@@ -62,16 +63,16 @@ module _ (a b : ℤ) (h : mag a < 2 ^ 63) (k : mag b < 2 ^ 63) where
 -- A reading by the rows of its parameter
 
 module _ (rows : Rows) (p : List ℕ) (spid : ℕ) (valid : PcfRow → Bool) (name : Name) (k : ℕ)
-    (texts : List (List ℕ)) (columns : List ℕ) (at : Places) (is : at_places texts columns at ≡ located rows spid name) where
-  pub read_unlocated : at.found ≡ false → refused 26 0 ≡ reading_with rows p spid valid name k
+    (texts : List (List ℕ)) (columns : List ℕ) (found : Option Places) (is : at_places texts columns found ≡ located rows spid name) where
+  pub read_unlocated : found ≡ None → refused 26 0 ≡ reading_with rows p spid valid name k
   unfolding reading_with and_then
-  read_unlocated f = rw (← is, at_missing texts columns at f)
+  read_unlocated f = rw (← is, at_missing texts columns found f)
 
-  pub read_located : at.found ≡ true → (raw : Outcome Value) (b : Bool) (pcf : PcfRow) → pcf ≡ pcf_row (row_at texts columns at.pcf).bytes
+  pub read_located : {at : Places} → found ≡ Some at → (raw : Outcome Value) (b : Bool) (pcf : PcfRow) → pcf ≡ pcf_row (row_at texts columns at.pcf).bytes
       → raw ≡ raw_of p (plf_row (row_at texts columns at.plf).bytes) pcf k → b ≡ valid pcf
       → and_then raw (with_validity b) ≡ reading_with rows p spid valid name k
   unfolding reading_with and_then by_lines
-  read_located f raw b pcf ec er eb = rw (← is, at_found texts columns at f, er, eb, ec)
+  read_located f raw b pcf ec er eb = rw (← is, at_found texts columns found f, er, eb, ec)
 
 -- Validity, one step at a time
 

@@ -1,5 +1,5 @@
 -- Readings and their validity.
-use Rattle.std.specs.Prelude.{ℕ, zero, suc, ◌≡◌, refl, Bool, true, false, not, cond, ◌&&◌, List, [], ◌∷◌, map, eqb, ℤ, pos, negsuc}
+use Rattle.std.specs.Prelude.{ℕ, zero, suc, ◌≡◌, refl, Bool, true, false, not, cond, ◌&&◌, List, [], ◌∷◌, map, eqb, ℤ, pos, negsuc, Result, Ok, Err}
 use Prim.Native.String.{String}
 use Rattle.laws.specs.Text.{ascii, char}
 use Rattle.numbers.specs.Number.{number_of, meaning, spelt, after, digit_on, digit_of}
@@ -18,6 +18,7 @@ use Rattle.fields.specs.Figures.{packet}
 use Rattle.outcomes.specs.Outcome.{Outcome, refused, answer, and_then}
 use Rattle.outcomes.specs.Values.{Value, number, part, bits, value_of}
 use Rattle.outcomes.specs.Refusals.{refused_by}
+use Rattle.outcomes.specs.declared.Refusal.{Refusal}
 use Rattle.verdicts.specs.Key.{key_words, same_key}
 use Rattle.verdicts.specs.Facts.{facts_of, plf_facts, pcf_facts}
 use Rattle.verdicts.specs.Answer.{most_rows}
@@ -27,7 +28,6 @@ use Rattle.wire_reals.specs.Reals.{is_real_type}
 use Rattle.raw_values.specs.RawValues.{is_string, start_of, value_at, field_raw, raw_in, raw_of}
 use Rattle.parameters.specs.Located.{by_lines, needed, located}
 use Rattle.readings.specs.declared.Reading as code
-use Rattle.readings.specs.declared.Reading.TheVariants.{Is, Refused}
 
 -- a raw value, and whether it is valid
 pub record Reading : Type 0 where
@@ -80,10 +80,10 @@ module _ (rows : Rows) (p : List ℕ) (spid : ℕ) where
   unfoldable pub reading : Name → (k : ℕ) → Outcome Reading
   reading name k = reading_with validity name k
 
--- the values, or 01's number and place, of each case
-unfoldable pub said_reading : code.Reading → Outcome Reading
-said_reading (Is v valid) = answer (record { value = value_of v; valid = valid })
-said_reading (Refused refusal) = refused_by refusal
+-- the values, or 01's number and place, of a result
+unfoldable pub said_reading : Result code.Reading Refusal → Outcome Reading
+said_reading (Ok r) = answer (record { value = value_of r.value; valid = r.valid })
+said_reading (Err refusal) = refused_by refusal
 
 -- An example in 01's packet: TWO, unsigned 16 at byte 12, has VALID ONE, which is signed 8 at byte 10 and -1.
 -- Here ";" stands for TAB

@@ -8,20 +8,20 @@ ghost use Rattle.readings.specs.Readings.{said_reading, with_validity};
 ghost use Rattle.readings.specs.Chain.{valid_along};
 
 use crate::{BLOCK_ROWS, Reading, equals};
-use outcomes::Value;
+use outcomes::{Refusal, Value};
 
 // Whether a reading is valid and equals a VALPAR.
-fn agrees(reading: Reading, valpar: i64) -> bool
+fn agrees(reading: Result<Reading, Refusal>, valpar: i64) -> bool
     ensures { result ≡ spec.agrees (said_reading reading) valpar }
 {
     match reading {
-        Reading::Is(value, valid) => {
-            if valid {
-                return equals(value, valpar);
+        Ok(read) => {
+            if read.valid {
+                return equals(read.value, valpar);
             }
             false
         }
-        Reading::Refused(refusal) => false,
+        Err(refusal) => false,
     }
 }
 
@@ -33,14 +33,14 @@ fn read_along(
     free: bool,
     at: usize,
     left: usize,
-) -> Reading
+) -> Result<Reading, Refusal>
     requires { at + left < 16 }
     ensures { said_reading result ≡ with_validity (valid_along values.now valpars.now free (at + 1) left)
         (number (get_or values.now at (pos 0))) }
 {
-    let value = values[at];
+    let value = Value::Number(values[at]);
     let valid = valid_along(values, valpars, free, at + 1, left);
-    Reading::Is(Value::Number(value), valid)
+    Ok(Reading { value, valid })
 }
 
 // Whether readings of row `at` are valid, by the `left` rows of the block that are left.

@@ -9,16 +9,16 @@ ghost use Rattle.readings.specs.Readings as spec;
 ghost use Rattle.readings.specs.Chain.{block_rows, valid_along};
 
 use crate::along::valid_along;
-use outcomes::{Refusal, Value};
+use outcomes::Value;
 
 // A VALID chain is read in blocks of at most so many rows: most chains are short, and small arrays are soon cleared.
 pub const BLOCK_ROWS: usize = 16;
 
-// A raw value and whether it is valid, or why there is none.
+// A raw value and whether it is valid.
 #[derive(Clone, Copy)]
-pub enum Reading {
-    Is(Value, bool),
-    Refused(Refusal),
+pub struct Reading {
+    pub value: Value,
+    pub valid: bool,
 }
 
 // A string and a real equal no number.

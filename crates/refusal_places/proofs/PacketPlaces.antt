@@ -3,6 +3,8 @@ use mathlib.Core.Path.{◌≡◌, refl, ap, subst}
 use mathlib.Core.Bool.{not, ◌&&◌, ◌||◌}
 use mathlib.Core.List.{List}
 use mathlib.Core.Option.{Option, none, some}
+use Rattle.std.specs.Prelude.{Some, None}
+use Rattle.std.specs.Prelude as rust
 use Prim.Native.Nat.{ℕ, ◌+◌, ◌^◌, ◌≤◌, ◌<◌, ◌*◌}
 use native.Mathlib.Nat.{mul-le-mul, div-le_self}
 use native.Mathlib.Omega.{arith}
@@ -19,7 +21,6 @@ use Rattle.widths.specs.Width.{width_of}
 use Rattle.decoding.specs.Records.{pic_row, plf_row}
 use Rattle.rows.specs.declared.records.IdentificationField.{IdentificationField}
 use Rattle.rows.specs.declared.records.IdentificationField.TheVariants as field
-use Rattle.rows.specs.declared.records.OptionalApid.TheVariants.{Only, Any}
 use Rattle.rows.specs.declared.records.OptionalCurve.{OptionalCurve}
 use Rattle.rows.specs.declared.records.PicRow.{PicRow}
 use Rattle.rows.specs.declared.records.PlfRow.{PlfRow}
@@ -44,9 +45,8 @@ use Rattle.curve_points.specs.Curves.{Curve}
 use Rattle.curve_values.specs.Along.{outcome_of, along}
 use Rattle.curve_values.specs.Scale.{Scale, as_read, on_curve, scale_of, on_scale}
 use Rattle.texts.specs.Texts.{Text, to_of, altxt_of, text_in, text_for}
+use Rattle.polynomials.specs.declared.Polynomial.{Polynomial}
 use Rattle.polynomial_curves.specs.Polynomials.{polynomial_for}
-use Rattle.polynomial_curves.specs.declared.Found.{Found}
-use Rattle.polynomial_curves.specs.declared.Found.TheVariants as found
 use Rattle.engineering.specs.Engineering.{Engineered, as_value, as_text, by_polynomial, numeric_value, by_category, engineered}
 use Rattle.refusal_places.specs.Small.{Small}
 use Rattle.refusal_places.proofs.SmallLaws.{small_answer, no_place, small_place, small_then}
@@ -170,10 +170,10 @@ text_small none raw = no_place 32
 text_small (some row) raw = cond_cases (λ (o : Outcome Text). Small o) (lt_z (to_of row) raw) (λ _. no_place 32) (λ _. small_answer (altxt_of row))
 
 -- a polynomial is answered
-polynomial_small : (f : Found) (raw : ℤ) (other : Outcome Engineered) → Small other → Small (by_polynomial f raw other)
+polynomial_small : (f : rust.Option Polynomial) (raw : ℤ) (other : Outcome Engineered) → Small other → Small (by_polynomial f raw other)
 unfolding by_polynomial
-polynomial_small (found.Is p) raw other h = small_answer _
-polynomial_small found.Nothing raw other h = h
+polynomial_small (Some p) raw other h = small_answer _
+polynomial_small None raw other h = h
 
 category_small : (rows : Rows) (c : Category) (curtx : OptionalCurve) (raw : ℤ) → Small (by_category rows c curtx raw)
 unfolding by_category numeric_value as_value as_text text_for
@@ -194,7 +194,7 @@ module _ (rows : Rows) (ranges : InRanges rows) (p : List ℕ) where
   unfolding pic_row_of
   pic_ranged head =
       cond_cases RangedPic head.flagged
-      (λ _. or_ranged _ _ (ranges.pic (type_of head p) (subtype_of head p) (Only head.apid)) (ranges.pic (type_of head p) (subtype_of head p) Any))
+      (λ _. or_ranged _ _ (ranges.pic (type_of head p) (subtype_of head p) (Some head.apid)) (ranges.pic (type_of head p) (subtype_of head p) None))
       (λ _ row e. absurd (let z : ◌≡◌ {A = ℕ} 0 1 = cc in omega arith))
 
   pub five_small : (head : Head) → Small (five_numbers rows head p)

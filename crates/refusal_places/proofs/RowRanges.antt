@@ -4,6 +4,7 @@ use mathlib.Core.Logic.{⊎_elim}
 use mathlib.Core.Bool.{true}
 use mathlib.Core.List.{List, []}
 use mathlib.Core.Option.{some}
+use Rattle.std.specs.Prelude.{Option}
 use Prim.Native.Nat.{ℕ, ◌^◌, ◌≤◌, ◌<◌}
 use native.Mathlib.Omega.{arith}
 use lib.IntN.{ℤ, pos, negsuc, neg_ℤ, nat_abs}
@@ -26,7 +27,6 @@ use Rattle.rows.specs.declared.records.IdentificationField.TheVariants.{Unused, 
 use Rattle.rows.specs.declared.records.PicRow.{PicRow}
 use Rattle.rows.specs.declared.records.PlfRow.{PlfRow}
 use Rattle.formed.proofs.Meaning.{column_passes, natural_column, integer_column}
-use Rattle.rows.specs.declared.records.OptionalApid.{OptionalApid}
 use Rattle.verdicts.specs.Key.{identification, location}
 use Rattle.verdicts.proofs.OwnerLaws.{owners_of}
 use Rattle.database.specs.Rows.{Row, Rows}
@@ -113,7 +113,7 @@ pic_formed line e =
 
 pub record InRanges (rows : Rows) : Type 0 where
   pub plf : (name : Name) (spid : ℕ) (row : Row) → rows.holder (location name spid) ≡ some row → PlfRanges (plf_row row.bytes)
-  pub pic : (ptype stype : ℕ) (apid : OptionalApid) (row : Row) → rows.holder (identification ptype stype apid) ≡ some row → PicRanges (pic_row row.bytes)
+  pub pic : (ptype stype : ℕ) (apid : Option ℕ) (row : Row) → rows.holder (identification ptype stype apid) ≡ some row → PicRanges (pic_row row.bytes)
 
 pub tables_in_ranges : (texts : List (List ℕ)) → InRanges (of_tables texts)
 unfolding owners_of

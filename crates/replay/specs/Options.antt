@@ -1,20 +1,19 @@
 -- How packets are shown, by the program's option.
-use Rattle.std.specs.Prelude.{ℕ, ◌≡◌, refl, cond, List}
+use Rattle.std.specs.Prelude.{ℕ, ◌≡◌, refl, cond, List, Option, Some, None}
 use Rattle.laws.specs.Text.{ascii}
 use Rattle.name_bytes.specs.Names.{name_of, same_bytes, same_name}
+use Rattle.showing.specs.declared.stretches.Showing.{Showing}
 use Rattle.showing.specs.declared.stretches.Showing.TheVariants.{Runs, Last}
-use Rattle.replay.specs.declared.options.Choice.{Choice}
-use Rattle.replay.specs.declared.options.Choice.TheVariants.{Is, Unknown}
 
-unfoldable pub showing_chosen : List ℕ → Choice
+unfoldable pub showing_chosen : List ℕ → Option Showing
 showing_chosen option =
-    cond (same_name (name_of option) (name_of (ascii "runs"))) (Is Runs)
-    (cond (same_name (name_of option) (name_of (ascii "last"))) (Is Last) Unknown)
+    cond (same_name (name_of option) (name_of (ascii "runs"))) (Some Runs)
+    (cond (same_name (name_of option) (name_of (ascii "last"))) (Some Last) None)
 
 pub record Examples : Type 0 where
-  pub runs : showing_chosen (ascii "runs") ≡ Is Runs
-  pub last : showing_chosen (ascii "last") ≡ Is Last
-  pub other : showing_chosen (ascii "run") ≡ Unknown
+  pub runs : showing_chosen (ascii "runs") ≡ Some Runs
+  pub last : showing_chosen (ascii "last") ≡ Some Last
+  pub other : showing_chosen (ascii "run") ≡ None
 
 pub examples : Examples
 unfolding showing_chosen name_of same_name same_bytes

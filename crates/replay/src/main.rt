@@ -9,7 +9,7 @@ use archive_replay::loaded::replay_tables;
 use directories::{Loaded, SPACE, load_directory, tables_in};
 use files::arguments::{LONGEST, count};
 use lines::columns::part;
-use options::{Choice, chosen};
+use options::chosen;
 use showing::stretches::Showing;
 use std::env::{Env, FillError};
 use std::rt::Files;
@@ -120,8 +120,8 @@ fn replay_by_option(rt: &(impl Print + Eprint + Files + Env), option: &mut [u8; 
     }
     let length = asked.unwrap_or(0);
     match chosen(part(option, 0, length)) {
-        Choice::Is(showing) => replay_as(rt, showing),
-        Choice::Unknown => {
+        Some(showing) => replay_as(rt, showing),
+        None => {
             words(rt, part(option, 0, length));
             words(rt, b": there is no such option\n");
             say_usage(rt);

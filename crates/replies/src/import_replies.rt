@@ -5,23 +5,22 @@ ghost use Rattle.replies.specs.Replies.{imported_answer, cell_answer, only_answe
 
 use answers::answer::{Answer, compose, one, refused, says, two};
 use import::Imported;
+use outcomes::{Refusal, number_of, place_of};
 
 // The counts, and all cells with their positions.
-pub fn say_imported(imported: Imported) -> Answer
+pub fn say_imported(imported: Result<Imported, Refusal>) -> Answer
     ensures { result ≡ imported_answer (said_imported imported) }
 {
     match imported {
-        Imported::Done(rows, good) => compose(
+        Ok(counts) => compose(
             b"# rows, # good:",
             false,
-            two(rows as u64, good as u64),
+            two(counts.rows as u64, counts.good as u64),
             0,
             0,
-            rows,
+            counts.rows,
         ),
-        Imported::TooLong(table) => refused(1, table.0 as u64),
-        Imported::TooManyRows(table) => refused(2, table.0 as u64),
-        Imported::TooFewCells => refused(3, 0),
+        Err(refusal) => refused(number_of(refusal) as u64, place_of(refusal) as u64),
     }
 }
 
@@ -45,13 +44,11 @@ fn say_cell(cell: u16, position: u16) -> Answer
 }
 
 // The cell of the only row.
-pub fn say_only(imported: Imported, cell: u16, position: u16) -> Answer
+pub fn say_only(imported: Result<Imported, Refusal>, cell: u16, position: u16) -> Answer
     ensures { result ≡ only_answer (said_imported imported) cell position }
 {
     match imported {
-        Imported::Done(_, _) => say_cell(cell, position),
-        Imported::TooLong(table) => refused(1, table.0 as u64),
-        Imported::TooManyRows(table) => refused(2, table.0 as u64),
-        Imported::TooFewCells => refused(3, 0),
+        Ok(_) => say_cell(cell, position),
+        Err(refusal) => refused(number_of(refusal) as u64, place_of(refusal) as u64),
     }
 }

@@ -9,13 +9,12 @@ ghost use Rattle.accepting.specs.Answer.{said_step};
 ghost use Rattle.answers.specs.Answers.{refusing};
 ghost use Rattle.replies.specs.Replies.{reply_of, identity_answer, raw_answer, reading_answer, value_answer, engineered_answer, state_answer};
 
-use accepting::step;
 use accepting::step::Stepped;
 use answers::answer::{Answer, compose, one, refused, say_integer, says, two};
 use curves::ints::{less, size};
 use engineering::engineer::Engineered;
 use hex_answers::{say_bits, say_bits_read, say_double};
-use identification::Identified;
+use identification::Identity;
 use limit_state::state::LimitState;
 use outcomes::{Refusal, Value, number_of, place_of};
 use polynomials::bits_of;
@@ -27,24 +26,24 @@ pub fn refused_question(refusal: Refusal) -> Answer
     refused(number_of(refusal) as u64, place_of(refusal) as u64)
 }
 
-pub fn say_identified(identified: Identified) -> Answer
+pub fn say_identified(identified: Result<Identity, Refusal>) -> Answer
     ensures { result ≡ reply_of identity_answer (said_identified identified) }
 {
     match identified {
-        Identified::Is(row, spid, n) => says(
+        Ok(identity) => says(
             b"row #, SPID #, APID #, type #, subtype #, PI1 #, PI2 #",
             false,
             [
-                row.0 as u64,
-                spid.0 as u64,
-                n.apid as u64,
-                n.ptype as u64,
-                n.stype as u64,
-                n.pi1,
-                n.pi2,
+                identity.row.0 as u64,
+                identity.spid.0 as u64,
+                identity.numbers.apid as u64,
+                identity.numbers.ptype as u64,
+                identity.numbers.stype as u64,
+                identity.numbers.pi1,
+                identity.numbers.pi2,
             ],
         ),
-        Identified::Refused(refusal) => refused_question(refusal),
+        Err(refusal) => refused_question(refusal),
     }
 }
 
@@ -78,12 +77,12 @@ fn say_raw(value: Value, valid: bool) -> Answer
     }
 }
 
-pub fn say_reading(reading: Reading) -> Answer
+pub fn say_reading(reading: Result<Reading, Refusal>) -> Answer
     ensures { result ≡ reply_of reading_answer (said_reading reading) }
 {
     match reading {
-        Reading::Is(value, valid) => say_raw(value, valid),
-        Reading::Refused(refusal) => refused_question(refusal),
+        Ok(read) => say_raw(read.value, read.valid),
+        Err(refusal) => refused_question(refusal),
     }
 }
 
@@ -115,14 +114,16 @@ fn say_text(row: u64, from: usize, bytes: usize) -> Answer
     )
 }
 
-pub fn say_engineered(engineered: Engineered) -> Answer
+pub fn say_engineered(engineered: Result<Engineered, Refusal>) -> Answer
     ensures { result ≡ reply_of engineered_answer (said_engineered engineered) }
 {
     match engineered {
-        Engineered::Is(value) => say_value(value),
-        Engineered::Double(x) => say_double(bits_of(x)),
-        Engineered::Text(row, from, bytes) => say_text(row.0 as u64, from.0, bytes),
-        Engineered::Refused(refusal) => refused_question(refusal),
+        Ok(value) => match value {
+            Engineered::Is(v) => say_value(v),
+            Engineered::Double(x) => say_double(bits_of(x)),
+            Engineered::Text(text) => say_text(text.row.0 as u64, text.start.0, text.bytes),
+        },
+        Err(refusal) => refused_question(refusal),
     }
 }
 
@@ -146,7 +147,7 @@ pub fn say_stepped(stepped: Stepped) -> Answer
     let state = stepped.state;
     let taken = stepped.answer;
     match taken {
-        step::Answer::Taken => say_state(state),
-        step::Answer::Refused(refusal) => refused_question(refusal),
+        Ok(()) => say_state(state),
+        Err(reason) => refused_question(reason),
     }
 }

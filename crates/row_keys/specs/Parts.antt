@@ -1,17 +1,15 @@
 -- What a row says of keys, part by part.
-use Rattle.std.specs.Prelude.{◌≡◌, refl, Bool, true, false, not, cond, ℕ, eqb}
+use Rattle.std.specs.Prelude.{◌≡◌, refl, Bool, not, cond, ℕ, eqb, Option, Some, None}
 use Rattle.symbols.specs.declared.Symbol.{Symbol}
 use Rattle.key_symbols.specs.Keyed.{symbol, no_symbol}
-use Rattle.row_keys.specs.declared.records.Slot.{Slot}
 use Rattle.row_keys.specs.declared.records.Named.{Named}
 use Rattle.row_keys.specs.declared.records.Counting.{Counting}
 use Rattle.row_keys.specs.declared.records.RowKeys.{RowKeys}
 
-abbrev pub no_slot : Slot
-no_slot = record { given = false; key = no_symbol }
-
-abbrev pub slot_for : Symbol → Slot
-slot_for s = record { given = true; key = s }
+-- the key that a row may hold or be counted in
+abbrev pub key_in : Option Symbol → Symbol
+key_in None = no_symbol
+key_in (Some s) = s
 
 abbrev pub no_name : Named
 no_name = record { code = 0; key = no_symbol }
@@ -23,7 +21,7 @@ abbrev pub no_count : Counting
 no_count = record { column = 0; number = 0 }
 
 -- a row that holds these keys, and names and counts nothing
-abbrev pub holding : (verdict : ℕ) (first second : Slot) (marks : ℕ) → RowKeys
+abbrev pub holding : (verdict : ℕ) (first second : Option Symbol) (marks : ℕ) → RowKeys
 holding verdict first second marks =
     record {
       verdict = verdict;
@@ -31,17 +29,17 @@ holding verdict first second marks =
       second = second;
       one = no_name;
       two = no_name;
-      group = no_slot;
+      group = None;
       count = no_count;
       marks = marks;
     }
 
 -- of a row with one of reasons 1 to 8
 abbrev pub no_keys : (verdict : ℕ) → RowKeys
-no_keys verdict = holding verdict no_slot no_slot 0
+no_keys verdict = holding verdict None None 0
 
 abbrev pub holder : (verdict : ℕ) → Symbol → (marks : ℕ) → RowKeys
-holder verdict key marks = holding verdict (slot_for key) no_slot marks
+holder verdict key marks = holding verdict (Some key) None marks
 
 abbrev pub with_names : RowKeys → (one two : Named) → RowKeys
 with_names row one two =
@@ -65,11 +63,11 @@ abbrev pub counter : (verdict : ℕ) → Symbol → (column number marks : ℕ) 
 counter verdict key column number marks =
     record {
       verdict = verdict;
-      first = slot_for key;
-      second = no_slot;
+      first = Some key;
+      second = None;
       one = no_name;
       two = no_name;
-      group = no_slot;
+      group = None;
       count = record { column = column; number = number };
       marks = marks;
     }
@@ -79,11 +77,11 @@ abbrev pub member : (verdict : ℕ) → (key group : Symbol) → (code : ℕ) �
 member verdict key group code =
     record {
       verdict = verdict;
-      first = slot_for key;
-      second = no_slot;
+      first = Some key;
+      second = None;
       one = record { code = code; key = group };
       two = no_name;
-      group = slot_for group;
+      group = Some group;
       count = no_count;
       marks = 1;
     }

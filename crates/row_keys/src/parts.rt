@@ -1,8 +1,8 @@
 // What a row says, put together part by part.
 ghost use Rattle.std.specs.Prelude.{◌≡◌, cond, eqb};
-ghost use Rattle.row_keys.specs.Parts.{no_slot, slot_for, no_name, no_keys, holding, holder, naming, counter, member};
+ghost use Rattle.row_keys.specs.Parts.{no_name, no_keys, holding, holder, naming, counter, member};
 
-use crate::records::{Counting, LineKeys, Named, RowKeys, Slot};
+use crate::records::{Counting, LineKeys, Named, RowKeys};
 use symbols::Symbol;
 
 const NO_SYMBOL: Symbol = Symbol {
@@ -11,18 +11,6 @@ const NO_SYMBOL: Symbol = Symbol {
     b: 0,
     c: 0,
 };
-
-pub fn slot(given: bool, key: Symbol) -> Slot
-    ensures { result ≡ cond given (slot_for key) no_slot }
-{
-    if given {
-        return Slot { given: true, key };
-    }
-    Slot {
-        given: false,
-        key: NO_SYMBOL,
-    }
-}
 
 pub fn named(given: bool, code: u8, key: Symbol) -> Named
     ensures { result ≡ cond given (record { code = code; key = key }) no_name }
@@ -37,7 +25,7 @@ pub fn named(given: bool, code: u8, key: Symbol) -> Named
 }
 
 // A row that holds these keys, and names and counts nothing.
-pub fn holding(verdict: u16, first: Slot, second: Slot, marks: u8) -> RowKeys
+pub fn holding(verdict: u16, first: Option<Symbol>, second: Option<Symbol>, marks: u8) -> RowKeys
     ensures { result ≡ holding verdict first second marks }
 {
     let none = Named {
@@ -50,10 +38,7 @@ pub fn holding(verdict: u16, first: Slot, second: Slot, marks: u8) -> RowKeys
         second,
         one: none,
         two: none,
-        group: Slot {
-            given: false,
-            key: NO_SYMBOL,
-        },
+        group: None,
         count: Counting {
             column: 0,
             number: 0,
@@ -66,7 +51,7 @@ pub fn holding(verdict: u16, first: Slot, second: Slot, marks: u8) -> RowKeys
 pub fn holder(verdict: u16, key: Symbol, marks: u8) -> RowKeys
     ensures { result ≡ holder verdict key marks }
 {
-    holding(verdict, slot(true, key), slot(false, key), marks)
+    holding(verdict, Some(key), None, marks)
 }
 
 // The row, and what it names; where the first isn't given the second comes first.
@@ -100,9 +85,8 @@ pub fn member(verdict: u16, key: Symbol, group: Symbol, code: u8) -> RowKeys
 {
     let mut row = holder(verdict, key, 1);
     let named = Named { code, key: group };
-    let counted = slot(true, group);
     row.one = named;
-    row.group = counted;
+    row.group = Some(group);
     row
 }
 
@@ -114,8 +98,7 @@ pub fn blanked(read: LineKeys) -> LineKeys
     if read.keys.verdict == 0 {
         return read;
     }
-    let none = slot(false, NO_SYMBOL);
-    let keys = holding(read.keys.verdict, none, none, 0);
+    let keys = holding(read.keys.verdict, None, None, 0);
     let next = read.next;
     LineKeys { keys, next }
 }

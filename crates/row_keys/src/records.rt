@@ -1,13 +1,6 @@
 // What a row says, as symbols.
 use symbols::Symbol;
 
-// A key that a row holds or is counted in, or none.
-#[derive(Clone, Copy)]
-pub struct Slot {
-    pub given: bool,
-    pub key: Symbol,
-}
-
 // What a column names: the code of its manner of naming, 0 where nothing is named, and the key.
 #[derive(Clone, Copy)]
 pub struct Named {
@@ -27,11 +20,11 @@ pub struct Counting {
 #[derive(Clone, Copy)]
 pub struct RowKeys {
     pub verdict: u16,
-    pub first: Slot,
-    pub second: Slot,
+    pub first: Option<Symbol>,
+    pub second: Option<Symbol>,
     pub one: Named,
     pub two: Named,
-    pub group: Slot,
+    pub group: Option<Symbol>,
     pub count: Counting,
     pub marks: u8,
 }

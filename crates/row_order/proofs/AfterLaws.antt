@@ -12,8 +12,7 @@ use borrow.Author.Tests.{eqb-true, eq-eqb}
 use Rattle.laws.specs.Prefix.{all_from, flag, count_with}
 use Rattle.laws.proofs.Cases.{bool_cases, or_left, or_right}
 use Rattle.laws.proofs.Count.{count_or, count_some, count_within}
-use Rattle.pointing.specs.declared.Cause.{Cause}
-use Rattle.pointing.specs.declared.Cause.TheVariants.{Row, NoMore}
+use Rattle.std.specs.Prelude.{Option, Some, None}
 use Rattle.pointing.specs.Pointing.{points_to}
 use Rattle.row_order.specs.RowOrder.{turn_of, in_turn, first_cause, is_in, on_a_row, way_to, told_before, times_in, Leads, here, on, AllAfter}
 use Rattle.row_order.proofs.TurnLaws.{turn_cases}
@@ -48,7 +47,7 @@ module _ (n : ℕ) where
   room : (told : List ℕ) (j : ℕ) → j < n → is_in j told ≡ false → told_of told < n
   room told j h e = let g = grows told j h e in let w = count_within (λ x. is_in x (j ∷ told)) n in omega arith
 
-module _ (first : ℕ → Cause) (bad : ℕ → Bool) where
+module _ (first : ℕ → Option ℕ) (bad : ℕ → Bool) where
   all_append : (done xs ys : List ℕ) → AllAfter first bad done xs → AllAfter first bad (done ++ xs) ys → AllAfter first bad done (xs ++ ys)
   all_append done [] ys p q = subst (λ (d : List ℕ). AllAfter first bad d ys) (append-nil done) q
   all_append done (x ∷ xs) ys p q =
@@ -58,11 +57,11 @@ module _ (first : ℕ → Cause) (bad : ℕ → Bool) where
       moved [] = refl
       moved (y ∷ d) = ap (λ (l : List ℕ). y ∷ l) (moved d)
 
-  leads_on_lem : {i j k : ℕ} → Leads first i k → first k ≡ Row j → Leads first i j
+  leads_on_lem : {i j k : ℕ} → Leads first i k → first k ≡ Some j → Leads first i j
   leads_on_lem here e = on e here
   leads_on_lem (on f l) e = on f (leads_on_lem l e)
 
-  module _ (naming : ℕ → Bool) (n : ℕ) (bounded : (i j : ℕ) → first i ≡ Row j → j < n) where
+  module _ (naming : ℕ → Bool) (n : ℕ) (bounded : (i j : ℕ) → first i ≡ Some j → j < n) where
     -- rows that count as told were told, or are on the way to row i
     abbrev Known : (told done : List ℕ) → ℕ → Type 0
     Known told done i = (x : ℕ) → is_in x told ≡ true → (is_in x done ≡ true) ⊎ Leads first x i
@@ -76,7 +75,7 @@ module _ (first : ℕ → Cause) (bad : ℕ → Bool) where
         (λ t. inr (subst (λ (z : ℕ). Leads first x z) (eqb-true x i t) here))
         (λ t. k x (subst (λ (s : Bool). (s || is_in x told) ≡ true) t e))
 
-    known_next : (told done : List ℕ) (i j : ℕ) → first i ≡ Row j → Known told done i → Known told done j
+    known_next : (told done : List ℕ) (i j : ℕ) → first i ≡ Some j → Known told done i → Known told done j
     known_next told done i j f k x e = go (k x e)
       where
         go : (is_in x done ≡ true) ⊎ Leads first x i → (is_in x done ≡ true) ⊎ Leads first x j
@@ -88,7 +87,7 @@ module _ (first : ℕ → Cause) (bad : ℕ → Bool) where
     there zero told j h e f = absurd (omega arith)
     there (suc s) told j h e f = times_in_lem j (way_to first naming (suc s) told j) (way_there first naming s told j e f)
 
-    after_one : (steps : ℕ) (told done : List ℕ) (i j : ℕ) → first i ≡ Row j → n ≤ steps + told_of n (i ∷ told) → Known told done i → Base done → bad j ≡ true
+    after_one : (steps : ℕ) (told done : List ℕ) (i j : ℕ) → first i ≡ Some j → n ≤ steps + told_of n (i ∷ told) → Known told done i → Base done → bad j ≡ true
         → (is_in j (done ++ way_to first naming steps (i ∷ told) j) ≡ true) ⊎ Leads first j i
     after_one steps told done i j f m k b e = bool_cases (naming j) named (λ t. inl (in_front j done _ (b j (bounded i j f) e t)))
       where
@@ -120,16 +119,16 @@ module _ (first : ℕ → Cause) (bad : ℕ → Bool) where
         more : (naming i && not (is_in i told)) ≡ true → n ≤ steps + told_of n (i ∷ told)
         more e = let g = grows n told i h (new e) in omega arith
 
-        both : (naming i && not (is_in i told)) ≡ true → (c : Cause) → first i ≡ c
+        both : (naming i && not (is_in i told)) ≡ true → (c : Option ℕ) → first i ≡ c
             → AllAfter first bad done (on_a_row (way_to first naming steps (i ∷ told)) c)
-            × ((j : ℕ) → first i ≡ Row j → bad j ≡ true → (is_in j (done ++ on_a_row (way_to first naming steps (i ∷ told)) c) ≡ true) ⊎ Leads first j i)
-        both e (Row j) f = (
+            × ((j : ℕ) → first i ≡ Some j → bad j ≡ true → (is_in j (done ++ on_a_row (way_to first naming steps (i ∷ told)) c) ≡ true) ⊎ Leads first j i)
+        both e (Some j) f = (
           r j (bounded i j f) (more e) (known_next (i ∷ told) done i j f (known_on told done i k)),
           λ l g q. let z : j ≡ l = cc in
               subst (λ (s : ℕ). (is_in s (done ++ way_to first naming steps (i ∷ told) j) ≡ true) ⊎ Leads first s i) z
               (after_one steps told done i j f (more e) k b (ap bad z ∙ q)),
         )
-        both e NoMore f = (tt, λ l g q. absurd (let c : ◌≡◌ {A = ℕ} 0 1 = cc in omega arith))
+        both e None f = (tt, λ l g q. absurd (let c : ◌≡◌ {A = ℕ} 0 1 = cc in omega arith))
 
         due : (naming i && not (is_in i told)) ≡ true
             → AllAfter first bad done (cond (naming i && not (is_in i told)) (on_a_row (way_to first naming steps (i ∷ told)) (first i) ++ i ∷ []) [])

@@ -10,8 +10,7 @@ use lib.ListN.{get_or}
 use borrow.Author.Tests.{eqb-true, eqb-false}
 use Rattle.laws.specs.Prefix.{all_from, flag}
 use Rattle.laws.proofs.Cases.{bool_cases, and_false}
-use Rattle.pointing.specs.declared.Cause.{Cause}
-use Rattle.pointing.specs.declared.Cause.TheVariants.{Row, NoMore}
+use Rattle.std.specs.Prelude.{Option, Some, None}
 use Rattle.pointing.specs.Pointing.{points_to}
 use Rattle.row_order.specs.RowOrder.{turn_of, in_turn, first_cause, is_in, on_a_row, way_to, told_before, order_of, times_in}
 use Rattle.row_order.proofs.TurnLaws.{turn_cases}
@@ -82,10 +81,10 @@ and_true : (t : Bool) → (t && true) ≡ t
 and_true true = refl
 and_true false = refl
 
-module _ (first : ℕ → Cause) (naming : ℕ → Bool) where
-  on_row : (way : ℕ → List ℕ) (x m : ℕ) → ((j : ℕ) → times_in x (way j) ≤ m) → (c : Cause) → times_in x (on_a_row way c) ≤ m
-  on_row way x m r (Row j) = r j
-  on_row way x m r NoMore = omega arith
+module _ (first : ℕ → Option ℕ) (naming : ℕ → Bool) where
+  on_row : (way : ℕ → List ℕ) (x m : ℕ) → ((j : ℕ) → times_in x (way j) ≤ m) → (c : Option ℕ) → times_in x (on_a_row way c) ≤ m
+  on_row way x m r (Some j) = r j
+  on_row way x m r None = omega arith
 
   last_once : (told : List ℕ) (i x : ℕ) (s : Bool) → eqb x i ≡ s → (naming i && not (is_in i told)) ≡ true → (m : ℕ)
       → m ≤ flag (naming x && not (s || is_in x told)) → m + flag s ≤ flag (naming x && not (is_in x told))
@@ -175,10 +174,10 @@ module _ (first : ℕ → Cause) (naming : ℕ → Bool) where
       some_step n m x (told_before first naming (suc n) m) e (λ q. told_some n m x (let d = eqb-false x m q in omega arith) e)
 
   -- no row past the last is told
-  module _ (n : ℕ) (bounded : (i j : ℕ) → first i ≡ Row j → j < n) (x : ℕ) (past : n ≤ x) where
-    on_none : (way : ℕ → List ℕ) → ((j : ℕ) → j < n → times_in x (way j) ≡ 0) → (i : ℕ) (c : Cause) → first i ≡ c → times_in x (on_a_row way c) ≡ 0
-    on_none way r i (Row j) e = r j (bounded i j e)
-    on_none way r i NoMore e = refl
+  module _ (n : ℕ) (bounded : (i j : ℕ) → first i ≡ Some j → j < n) (x : ℕ) (past : n ≤ x) where
+    on_none : (way : ℕ → List ℕ) → ((j : ℕ) → j < n → times_in x (way j) ≡ 0) → (i : ℕ) (c : Option ℕ) → first i ≡ c → times_in x (on_a_row way c) ≡ 0
+    on_none way r i (Some j) e = r j (bounded i j e)
+    on_none way r i None e = refl
 
     within_step : (steps : ℕ) (told : List ℕ) (i : ℕ) → i < n → ((j : ℕ) → j < n → times_in x (way_to first naming steps (i ∷ told) j) ≡ 0)
         → times_in x (way_to first naming (suc steps) told i) ≡ 0
@@ -216,7 +215,7 @@ module _ (halves bytes cells : List ℕ) (n x : ℕ) where
   abbrev named : ℕ → Bool
   named = in_turn cells 3
 
-  abbrev first : ℕ → Cause
+  abbrev first : ℕ → Option ℕ
   first = first_cause halves bytes cells n
 
   parted : times_in x (order_of halves bytes cells n)

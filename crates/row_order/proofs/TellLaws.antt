@@ -11,8 +11,7 @@ use borrow.Author.Tests.{eqb-true, eqb-false}
 use Rattle.laws.specs.Prefix.{all_from}
 use Rattle.laws.proofs.Cases.{bool_cases}
 use Rattle.arrays.specs.Room.{most_places}
-use Rattle.pointing.specs.declared.Cause.{Cause}
-use Rattle.pointing.specs.declared.Cause.TheVariants.{Row, NoMore}
+use Rattle.std.specs.Prelude.{Option, Some, None}
 use Rattle.pointing.specs.Pointing.{first_of}
 use Rattle.row_order.specs.RowOrder.{in_turn, first_cause, is_in, on_a_row, way_to, told_before, order_of}
 use Rattle.row_order.specs.Telling.{Marks, Told, Tells, TellsAll}
@@ -40,22 +39,22 @@ in_append x (y ∷ a) b = go (eqb x y) (is_in x (a ++ b)) (is_in x a) (is_in x b
     go false t u v e = e
 
 -- the first of n rows is one of them
-pub first_below : (passes : ℕ → Bool) (lo d j : ℕ) → Row j ≡ first_of (all_from passes lo d) → j < lo + d
+pub first_below : (passes : ℕ → Bool) (lo d j : ℕ) → Some j ≡ first_of (all_from passes lo d) → j < lo + d
 unfolding first_of all_from
 first_below passes lo zero j e = absurd (let c : ◌≡◌ {A = ℕ} 0 1 = cc in omega arith)
 first_below passes lo (suc d) j e = go (passes lo) e (λ q. first_below passes (lo + 1) d j q)
   where
-    go : (t : Bool) → Row j ≡ first_of (cond t (lo ∷ all_from passes (lo + 1) d) (all_from passes (lo + 1) d))
-        → (Row j ≡ first_of (all_from passes (lo + 1) d) → j < lo + 1 + d) → j < lo + suc d
+    go : (t : Bool) → Some j ≡ first_of (cond t (lo ∷ all_from passes (lo + 1) d) (all_from passes (lo + 1) d))
+        → (Some j ≡ first_of (all_from passes (lo + 1) d) → j < lo + 1 + d) → j < lo + suc d
     go true e r = let q : j ≡ lo = cc in omega arith
     go false e r = let q : j < lo + 1 + d = r e in omega arith
 
 -- what a search from the first row on finds
-module _ (passes : ℕ → Bool) (n : ℕ) (r : Cause) (found : r ≡ first_of (all_from passes 0 (n - 0))) where
+module _ (passes : ℕ → Bool) (n : ℕ) (r : Option ℕ) (found : r ≡ first_of (all_from passes 0 (n - 0))) where
   pub first_is_lem : r ≡ first_of (all_from passes 0 n)
   first_is_lem = let z : n - 0 ≡ n = omega arith in found ∙ ap (λ (k : ℕ). first_of (all_from passes 0 k)) z
 
-  pub first_row_lem : (j : ℕ) → r ≡ Row j → j < n
+  pub first_row_lem : (j : ℕ) → r ≡ Some j → j < n
   first_row_lem j e = let q : j < 0 + n = first_below passes 0 n j (sym e ∙ first_is_lem) in omega arith
 
 pub not_true : (b : Bool) → not b ≡ true → b ≡ false
@@ -66,7 +65,7 @@ pub not_false : (b : Bool) → not b ≡ false → b ≡ true
 not_false true e = refl
 not_false false e = sym e
 
-module _ (first : ℕ → Cause) (naming : ℕ → Bool) (n : ℕ) where
+module _ (first : ℕ → Option ℕ) (naming : ℕ → Bool) (n : ℕ) where
   -- marks tell whether a row is due
   pub due_same : (marks told : List ℕ) → Marks naming n marks told → (i : ℕ) → i < n → (naming i && eqb (get_or marks i 0) 0) ≡ (naming i && not (is_in i told))
   due_same marks told m i h = go (naming i) (m i h)
@@ -107,7 +106,7 @@ module _ (first : ℕ → Cause) (naming : ℕ → Bool) (n : ℕ) where
   not_due zero told i e = refl
   not_due (suc steps) told i e = rw e
 
-  due_way : (steps : ℕ) (told : List ℕ) (i : ℕ) (c : Cause) → (naming i && not (is_in i told)) ≡ true → first i ≡ c
+  due_way : (steps : ℕ) (told : List ℕ) (i : ℕ) (c : Option ℕ) → (naming i && not (is_in i told)) ≡ true → first i ≡ c
       → way_to first naming (suc steps) told i ≡ on_a_row (way_to first naming steps (i ∷ told)) c ++ i ∷ []
   unfolding way_to
   due_way steps told i c e f = rw (e, f)
@@ -152,7 +151,7 @@ module _ (first : ℕ → Cause) (naming : ℕ → Bool) (n : ℕ) where
           }
 
       module _ (yes : due ≡ true) (some : steps ≡ 0 → ⊥) (room : n ≤ length marks) where
-        way_is : (told : List ℕ) → Marks naming n marks told → (c : Cause) → first i ≡ c
+        way_is : (told : List ℕ) → Marks naming n marks told → (c : Option ℕ) → first i ≡ c
             → on_a_row (way_to first naming (steps - 1) (i ∷ told)) c ++ i ∷ [] ≡ way_to first naming steps told i
         way_is told m c f =
             let z : suc (steps - 1) ≡ steps = omega arith in
@@ -164,7 +163,7 @@ module _ (first : ℕ → Cause) (naming : ℕ → Bool) (n : ℕ) where
           marks_one : (told : List ℕ) → Marks naming n marks told → Marks naming n marks₁ (i ∷ told)
           marks_one told m = subst (λ (l : List ℕ). Marks naming n l (i ∷ told)) (sym m₁) (mark_one marks told m i (omega arith))
 
-          pub tells_last : NoMore ≡ first i → (order' : List ℕ) → order' ≡ set order at i → (end : ℕ) → end ≡ at + 1
+          pub tells_last : None ≡ first i → (order' : List ℕ) → order' ≡ set order at i → (end : ℕ) → end ≡ at + 1
               → Tells first naming n steps i marks order at marks₁ order' end
           tells_last f order' e end q =
               record {
@@ -172,11 +171,11 @@ module _ (first : ℕ → Cause) (naming : ℕ → Bool) (n : ℕ) where
                 size = ap length m₁ ∙ length-set marks i 1;
                 long = ap length e ∙ length-set order at i;
                 tells = λ told m.
-                    subst (λ (w : List ℕ). Told first naming n told w order at marks₁ order' end) (way_is told m NoMore (sym f))
+                    subst (λ (w : List ℕ). Told first naming n told w order at marks₁ order' end) (way_is told m None (sym f))
                     (told_more told [] order marks₁ order order' at at end i (told_none (i ∷ told) marks₁ order at (marks_one told m)) e q);
               }
 
-          pub tells_after : (j : ℕ) → Row j ≡ first i → (marks' order' : List ℕ) (end : ℕ)
+          pub tells_after : (j : ℕ) → Some j ≡ first i → (marks' order' : List ℕ) (end : ℕ)
               → Tells first naming n (steps - 1) j marks₁ order at marks' order' end
               → (order'' : List ℕ) → order'' ≡ set order' end i → (end' : ℕ) → end' ≡ end + 1 → Tells first naming n steps i marks order at marks' order'' end'
           tells_after j f marks' order' end t order'' e end' q =
@@ -185,7 +184,7 @@ module _ (first : ℕ → Cause) (naming : ℕ → Bool) (n : ℕ) where
                 size = t.size ∙ ap length m₁ ∙ length-set marks i 1;
                 long = ap length e ∙ length-set order' end i ∙ t.long;
                 tells = λ told m.
-                    subst (λ (w : List ℕ). Told first naming n told w order at marks' order'' end') (way_is told m (Row j) (sym f))
+                    subst (λ (w : List ℕ). Told first naming n told w order at marks' order'' end') (way_is told m (Some j) (sym f))
                     (told_more told (way_to first naming (steps - 1) (i ∷ told) j) order marks' order' order'' at end end' i
                     (t.tells (i ∷ told) (marks_one told m)) e q);
               }

@@ -10,7 +10,7 @@ ghost use Rattle.row_order.specs.Telling.{Tells, TellsAll};
 
 use arrays::{PLACES, byte_at, half_at, put_byte};
 use lines::columns::keep_at;
-use pointing::{Cause, next_cause};
+use pointing::next_cause;
 
 // Rows of reasons 1 to 8, 13 and 14; of 9, 10 and 12; and of 11.
 const FORMED: u8 = 1;
@@ -101,11 +101,11 @@ fn tell(
     }
     put_byte(told, i, 1);
     match next_cause(halves, bytes, cells, n, i, 0) {
-        Cause::Row(j) => {
+        Some(j) => {
             let end = tell(halves, bytes, cells, n, j, steps - 1, told, order, at);
             put_row(order, end, i)
         }
-        Cause::NoMore => put_row(order, at, i),
+        None => put_row(order, at, i),
     }
 }
 
@@ -124,10 +124,8 @@ fn put_naming(
         order.old from order.new result }
 {
     let mut at = from;
-    let mut i: usize = 0;
-    while i < n {
+    for i in 0..n {
         at = tell(halves, bytes, cells, n, i, n, told, order, at);
-        i += 1;
     }
     at
 }

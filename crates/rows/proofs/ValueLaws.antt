@@ -5,15 +5,20 @@ use mathlib.Core.Bool.{true, false}
 use mathlib.Core.Option.{Option, some, none}
 use Prim.Native.Nat.{ℕ, ◌^◌, ◌≤◌, ◌<◌}
 use native.Mathlib.Omega.{arith}
-use lib.Dec.{T}
+use lib.Dec.{T, ltb}
 use lib.IntN.{ℤ, pos, negsuc, nat_abs}
 use lib.ListN.{length, get_or}
 use lib.Signed.{lt_z, non_neg, mag}
 use mir.Syntax.{w32, w64}
 use mir.Val.{Fits}
-use borrow.Author.Tests.{lt-ltb, le-ltb, ltb-true}
-use Rattle.laws.proofs.Cases.{false≢true}
-use Rattle.numbers.proofs.Answers.{Told, Large}
+use borrow.Author.Tests.{le-ltb, ltb-true}
+use Rattle.laws.proofs.Cases.{bool_cases, false≢true}
+use Rattle.std.specs.Prelude.{Err}
+use Rattle.std.specs.Result.{result_unwrap_or}
+use Rattle.numbers.specs.Number.{answer_of}
+use Rattle.numbers.specs.declared.NumberError.{NumberError}
+use Rattle.numbers.specs.declared.NumberError.TheVariants.{NotNumber, Beyond}
+use Rattle.numbers.proofs.Answers.{Large, not_number, beyond_large}
 use Rattle.rows.specs.Values.{natural_from, integer_from, letter_of, is_given, identification_field}
 use Rattle.rows.specs.declared.records.IdentificationField.TheVariants.{Unused, At}
 
@@ -40,7 +45,7 @@ module _ (default : ℕ) where
 
   -- no number was read, or one that is negative, that fits, or that is too large
   module _ {n : Option ℤ} where
-    pub natural_none : n ≡ none → default ≡ natural_from default n
+    natural_none : n ≡ none → default ≡ natural_from default n
     unfolding natural_from
     natural_none e = rw e
 
@@ -53,26 +58,24 @@ module _ (default : ℕ) where
     pub natural_high : {v : ℤ} → n ≡ some v → lt_z v (pos (2 ^ 32)) ≡ false → default ≡ natural_from default n
     natural_high {v} e f = rw e (natural_over v f)
 
-    pub natural_large : Large n → default ≡ natural_from default n
+    natural_large : Large n → default ≡ natural_from default n
     natural_large w = rw w.number (natural_huge w.value w.large)
+
+  -- no value was read
+  pub natural_unread : (n : Option ℤ) (e : NumberError) → answer_of n ≡ Err e → default ≡ natural_from default n
+  natural_unread n NotNumber h = natural_none (not_number n h)
+  natural_unread n Beyond h = natural_large (beyond_large n h)
 
 -- such a number is cast to 32 bits without loss
 pub natural_fits : (v : ℤ) → lt_z v (pos 0) ≡ false → lt_z v (pos (2 ^ 32)) ≡ true → T (non_neg v) × Fits w32 (nat_abs v)
 natural_fits (pos m) f t = (tt, omega (arith, ltb-true m (2 ^ 32) t))
 natural_fits (negsuc m) f t = absurd (false≢true (sym f))
 
-module _ (default : ℤ) {n : Option ℤ} where
-  pub integer_none : n ≡ none → default ≡ integer_from default n
-  unfolding integer_from
-  integer_none e = rw e
-
-  pub integer_is : {v : ℤ} → Told n v → v ≡ integer_from default n
-  unfolding integer_from
-  integer_is {v} w = rw (w.number, lt-ltb (nat_abs v) (2 ^ 60) w.small)
-
-  pub integer_large : Large n → default ≡ integer_from default n
-  unfolding integer_from
-  integer_large w = rw (w.number, le-ltb (nat_abs w.value) (2 ^ 60) w.large)
+-- what was read as a number, or else the default
+pub integer_read : (default : ℤ) (n : Option ℤ) → result_unwrap_or (answer_of n) default ≡ integer_from default n
+unfolding answer_of integer_from
+integer_read default none = refl
+integer_read default (some v) = bool_cases (ltb (nat_abs v) (2 ^ 60)) (λ t. rw t) (λ t. rw t)
 
 pub letter_none : (text : List ℕ) → length text ≡ 0 → 0 ≡ letter_of text
 unfolding letter_of

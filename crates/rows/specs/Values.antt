@@ -1,5 +1,6 @@
 -- What a column says: a number after its default, a letter, a name that may be missing.
-use Rattle.std.specs.Prelude.{ℕ, ◌^◌, ◌≡◌, refl, List, [], ◌∷◌, Bool, true, false, cond, ltb, eqb, ℤ, pos, negsuc, nat_abs, Float}
+use Rattle.std.specs.Prelude.{ℕ, ◌^◌, ◌≡◌, refl, List, [], ◌∷◌, Bool, true, false, cond, ltb, eqb, ℤ, pos, negsuc, nat_abs, Float, Some, None}
+use Rattle.std.specs.Prelude.{Option as RustOption}
 use Rattle.std.proofs.Math.Option.{Option, some, none}
 use Rattle.laws.specs.Text.{ascii, char}
 use Rattle.numbers.specs.Number.{number_of, meaning, spelt, after, digit_on, digit_of}
@@ -13,8 +14,6 @@ use Rattle.coefficients.specs.declared.Coefficient.TheVariants.{Double, NotCoeff
 use Rattle.name_bytes.specs.Names.{name_of, curve_name_of}
 use Rattle.rows.specs.declared.records.OptionalName.{OptionalName}
 use Rattle.rows.specs.declared.records.OptionalCurve.{OptionalCurve}
-use Rattle.rows.specs.declared.records.OptionalApid.{OptionalApid}
-use Rattle.rows.specs.declared.records.OptionalApid.TheVariants.{Only, Any}
 use Rattle.rows.specs.declared.records.IdentificationField.{IdentificationField}
 use Rattle.rows.specs.declared.records.IdentificationField.TheVariants.{Unused, At}
 use Rattle.rows.specs.declared.letters.Valid.{Valid}
@@ -83,8 +82,8 @@ unfoldable pub optional_curve : List ℕ → OptionalCurve
 optional_curve text = record { given = is_given text; name = curve_name_of text }
 
 -- 01: "an empty APID is a key of its own"
-unfoldable pub optional_apid : List ℕ → OptionalApid
-optional_apid text = cond (is_given text) (Only (natural_or 0 text)) Any
+unfoldable pub optional_apid : List ℕ → RustOption ℕ
+optional_apid text = cond (is_given text) (Some (natural_or 0 text)) None
 
 -- 01: "Offset −1 means unused"
 unfoldable pub identification_field : (offset : ℤ) → (width : ℕ) → IdentificationField

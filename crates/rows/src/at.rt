@@ -4,7 +4,7 @@ ghost use Rattle.lines.specs.Columns.{column_in};
 ghost use Rattle.name_bytes.specs.Names.{name_of, curve_name_of};
 ghost use Rattle.rows.specs.Values.{natural_or, integer_or, coefficient_or_zero, letter_of, optional_name, optional_curve, optional_apid, identification_at};
 
-use crate::records::{IdentificationField, OptionalApid, OptionalCurve, OptionalName};
+use crate::records::{IdentificationField, OptionalCurve, OptionalName};
 use crate::values::{coefficient_or_zero, identification, integer_or, is_given, natural_or};
 use lines::columns::column;
 use name_bytes::{CurveName, Name, curve_name_of, name_of};
@@ -69,14 +69,14 @@ pub fn optional_curve_at(line: &[u8], ends: &[usize], k: usize) -> OptionalCurve
     }
 }
 
-pub fn optional_apid_at(line: &[u8], ends: &[usize], k: usize) -> OptionalApid
+pub fn optional_apid_at(line: &[u8], ends: &[usize], k: usize) -> Option<u32>
     ensures { result ≡ optional_apid (column_in line.now ends.now k) }
 {
     let text = column(line, ends, k);
     if is_given(text) {
-        return OptionalApid::Only(natural_or(text, 0));
+        return Some(natural_or(text, 0));
     }
-    OptionalApid::Any
+    None
 }
 
 // An offset, and its width in another column.

@@ -68,84 +68,100 @@ pub enum CheckType {
     Event,
 }
 
-pub fn valid_of(letter: u8) -> Valid
-    ensures { result ≡ valid_of letter }
-{
-    match letter {
-        b'N' => Valid::No,
-        _ => Valid::Yes,
+impl From<u8> for Valid {
+    ghost from_gives = { λ letter value. value ≡ valid_of letter };
+
+    fn from(letter: u8) -> Valid {
+        match letter {
+            b'N' => Valid::No,
+            _ => Valid::Yes,
+        }
     }
 }
 
-pub fn category_of(letter: u8) -> Category
-    ensures { result ≡ category_of letter }
-{
-    match letter {
-        b'S' => Category::Status,
-        b'T' => Category::Text,
-        _ => Category::Numeric,
+impl From<u8> for Category {
+    ghost from_gives = { λ letter value. value ≡ category_of letter };
+
+    fn from(letter: u8) -> Category {
+        match letter {
+            b'S' => Category::Status,
+            b'T' => Category::Text,
+            _ => Category::Numeric,
+        }
     }
 }
 
-pub fn nature_of(letter: u8) -> Nature
-    ensures { result ≡ nature_of letter }
-{
-    match letter {
-        b'D' => Nature::Dynamic,
-        b'P' => Nature::Expression,
-        b'H' => Nature::HardCoded,
-        b'S' => Nature::Saved,
-        b'C' => Nature::Constant,
-        _ => Nature::Raw,
+impl From<u8> for Nature {
+    ghost from_gives = { λ letter value. value ≡ nature_of letter };
+
+    fn from(letter: u8) -> Nature {
+        match letter {
+            b'D' => Nature::Dynamic,
+            b'P' => Nature::Expression,
+            b'H' => Nature::HardCoded,
+            b'S' => Nature::Saved,
+            b'C' => Nature::Constant,
+            _ => Nature::Raw,
+        }
     }
 }
 
-pub fn format_of(letter: u8) -> Format
-    ensures { result ≡ format_of letter }
-{
-    match letter {
-        b'U' => Format::Unsigned,
-        b'R' => Format::Real,
-        _ => Format::Signed,
+impl From<u8> for Format {
+    ghost from_gives = { λ letter value. value ≡ format_of letter };
+
+    fn from(letter: u8) -> Format {
+        match letter {
+            b'U' => Format::Unsigned,
+            b'R' => Format::Real,
+            _ => Format::Signed,
+        }
     }
 }
 
-pub fn off_ends_of(letter: u8) -> OffEnds
-    ensures { result ≡ off_ends_of letter }
-{
-    match letter {
-        b'P' => OffEnds::Extrapolate,
-        _ => OffEnds::Refuse,
+impl From<u8> for OffEnds {
+    ghost from_gives = { λ letter value. value ≡ off_ends_of letter };
+
+    fn from(letter: u8) -> OffEnds {
+        match letter {
+            b'P' => OffEnds::Extrapolate,
+            _ => OffEnds::Refuse,
+        }
     }
 }
 
-pub fn limit_value_of(letter: u8) -> LimitValue
-    ensures { result ≡ limit_value_of letter }
-{
-    match letter {
-        b'C' => LimitValue::Engineering,
-        _ => LimitValue::Raw,
+impl From<u8> for LimitValue {
+    ghost from_gives = { λ letter value. value ≡ limit_value_of letter };
+
+    fn from(letter: u8) -> LimitValue {
+        match letter {
+            b'C' => LimitValue::Engineering,
+            _ => LimitValue::Raw,
+        }
     }
 }
 
-pub fn limit_coding_of(letter: u8) -> LimitCoding
-    ensures { result ≡ limit_coding_of letter }
-{
-    match letter {
-        b'R' => LimitCoding::Real,
-        b'A' => LimitCoding::Text,
-        _ => LimitCoding::Integer,
+impl From<u8> for LimitCoding {
+    ghost from_gives = { λ letter value. value ≡ limit_coding_of letter };
+
+    fn from(letter: u8) -> LimitCoding {
+        match letter {
+            b'R' => LimitCoding::Real,
+            b'A' => LimitCoding::Text,
+            _ => LimitCoding::Integer,
+        }
     }
 }
 
-pub fn check_type_of(letter: u8) -> CheckType
-    ensures { result ≡ check_type_of letter }
-{
-    match letter {
-        b'H' => CheckType::Hard,
-        b'D' => CheckType::Delta,
-        b'C' => CheckType::Consistency,
-        b'E' => CheckType::Event,
-        _ => CheckType::Soft,
+impl From<u8> for CheckType {
+    ghost from_gives = { λ letter value. value ≡ check_type_of letter };
+
+    fn from(letter: u8) -> CheckType {
+        match letter {
+            b'H' => CheckType::Hard,
+            b'D' => CheckType::Delta,
+            b'C' => CheckType::Consistency,
+            b'E' => CheckType::Event,
+            _ => CheckType::Soft,
+        }
     }
 }

@@ -20,13 +20,6 @@ pub struct OptionalCurve {
     pub name: CurveName,
 }
 
-// An APID in a column that may be empty.
-#[derive(Clone, Copy)]
-pub enum OptionalApid {
-    Only(u32),
-    Any,
-}
-
 // PI1 or PI2 of a pic row: unused, or from the first bit of a byte on, so many bits wide.
 #[derive(Clone, Copy)]
 pub enum IdentificationField {
@@ -45,13 +38,14 @@ pub struct PidRow {
     pub valid: Valid,
 }
 
+// apid: none where its column is empty.
 #[derive(Clone, Copy)]
 pub struct PicRow {
     pub ptype: u32,
     pub stype: u32,
     pub pi1: IdentificationField,
     pub pi2: IdentificationField,
-    pub apid: OptionalApid,
+    pub apid: Option<u32>,
 }
 
 #[derive(Clone, Copy)]

@@ -4,35 +4,28 @@ ghost use Rattle.rows.specs.Values.{natural_or, integer_or, coefficient_or_zero,
 
 use crate::records::IdentificationField;
 use coefficients::{Coefficient, read_coefficient};
-use numbers::{Number, read_number};
+use numbers::read_number;
 use units::ByteOffset;
 
 pub fn natural_or(text: &[u8], default: u32) -> u32
     ensures { result ≡ natural_or default text.now }
 {
-    match read_number(text) {
-        Number::Value(v) => {
-            if v < 0 {
-                return default;
-            }
-            if v < 0x1_0000_0000 {
-                return v as u32;
-            }
-            default
-        }
-        Number::NotNumber => default,
-        Number::Beyond => default,
+    let Ok(v) = read_number(text) else {
+        return default;
+    };
+    if v < 0 {
+        return default;
     }
+    if v < 0x1_0000_0000 {
+        return v as u32;
+    }
+    default
 }
 
 pub(crate) fn integer_or(text: &[u8], default: i64) -> i64
     ensures { result ≡ integer_or default text.now }
 {
-    match read_number(text) {
-        Number::Value(v) => v,
-        Number::NotNumber => default,
-        Number::Beyond => default,
-    }
+    read_number(text).unwrap_or(default)
 }
 
 pub(crate) fn coefficient_or_zero(text: &[u8]) -> f64

@@ -46,13 +46,11 @@ fn columns_verdict(line: &[u8], ends: &[usize], widths: &[u8], marks: &[u8], kin
     ensures { result ≡ reason_from 0 (schema_from widths.now marks.now kinds.now)
         (column_in line.now ends.now) }
 {
-    let mut k: usize = 0;
-    while k < widths.len() {
+    for k in 0..widths.len() {
         let reason = column_reason(column(line, ends, k), widths[k], marks[k], kinds[k]);
         if reason != 0 {
             return verdict_of(reason, (k as u8) + 1);
         }
-        k += 1;
     }
     0
 }

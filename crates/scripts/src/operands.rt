@@ -7,59 +7,43 @@ ghost use Rattle.scripts.specs.Numerals.{natural_in, at_most, integer_text};
 use crate::verb::find_byte;
 use curves::ints::{less, size};
 use lines::columns::{MOST_COLUMNS, part, scan};
-use numbers::{Number, read_number};
-
-#[derive(Clone, Copy)]
-pub enum Natural {
-    Is(u64),
-    Unread,
-}
-
-#[derive(Clone, Copy)]
-pub enum Integer {
-    Is(i64),
-    Unread,
-}
+use numbers::{NumberError, read_number};
 
 // One of 2^60 or more stands for 2^64 - 1.
-pub fn natural_in(text: &[u8]) -> Natural
+pub fn natural_in(text: &[u8]) -> Option<u64>
     ensures { result ≡ natural_in text.now }
 {
     match read_number(text) {
-        Number::Value(v) => {
+        Ok(v) => {
             if less(v, 0) {
-                return Natural::Unread;
+                return None;
             }
-            Natural::Is(size(v))
+            Some(size(v))
         }
-        Number::NotNumber => Natural::Unread,
-        Number::Beyond => Natural::Is(18446744073709551615),
+        Err(NumberError::NotNumber) => None,
+        Err(NumberError::Beyond) => Some(18446744073709551615),
     }
 }
 
 // The same where it is at most so much.
-pub fn natural_to(most: u64, text: &[u8]) -> Natural
+pub fn natural_to(most: u64, text: &[u8]) -> Option<u64>
     ensures { result ≡ at_most most (natural_in text.now) }
 {
-    match natural_in(text) {
-        Natural::Is(n) => {
-            if n <= most {
-                return Natural::Is(n);
-            }
-            Natural::Unread
-        }
-        Natural::Unread => Natural::Unread,
+    let n = natural_in(text)?;
+    if n <= most {
+        return Some(n);
     }
+    None
 }
 
 // One of 2^60 or more in magnitude stands for 2^60, which is in no column's range.
-fn integer_in(text: &[u8]) -> Integer
+fn integer_in(text: &[u8]) -> Option<i64>
     ensures { result ≡ integer_text text.now }
 {
     match read_number(text) {
-        Number::Value(v) => Integer::Is(v),
-        Number::NotNumber => Integer::Unread,
-        Number::Beyond => Integer::Is(1152921504606846976),
+        Ok(v) => Some(v),
+        Err(NumberError::NotNumber) => None,
+        Err(NumberError::Beyond) => Some(1152921504606846976),
     }
 }
 
@@ -84,25 +68,23 @@ pub fn column_at<'a>(text: &'a [u8], k: usize) -> &'a [u8]
     ensures { result.now ≡ column_at (columns_of text.now) k }
 {
     let mut start: usize = 0;
-    let mut i: usize = 0;
-    while i < k {
+    for i in 0..k {
         let end = column_end(text, start);
         if text.len() <= end {
             return &text[..0];
         }
         start = end + 1;
-        i += 1;
     }
     part(text, start, column_end(text, start))
 }
 
-pub fn natural_at(most: u64, text: &[u8], k: usize) -> Natural
+pub fn natural_at(most: u64, text: &[u8], k: usize) -> Option<u64>
     ensures { result ≡ at_most most (natural_in (column_at (columns_of text.now) k)) }
 {
     natural_to(most, column_at(text, k))
 }
 
-pub fn integer_at(text: &[u8], k: usize) -> Integer
+pub fn integer_at(text: &[u8], k: usize) -> Option<i64>
     ensures { result ≡ integer_text (column_at (columns_of text.now) k) }
 {
     integer_in(column_at(text, k))

@@ -27,9 +27,9 @@ use Rattle.index_entries.specs.Loaded.{packets_in}
 use Rattle.searching.specs.Search.{Compared, entry_row, compared_by, search_by}
 
 -- of equal numbers
-pub same_compared : (rows : Rows) (index : List ℕ) {n m : FiveNumbers} {o : Outcome Compared} → o ≡ answer (compared_by rows index n) → n ≡ m
-    → o ≡ answer (compared_by rows index m)
-same_compared rows index e q = e ∙ ap (λ (n : FiveNumbers). answer (compared_by rows index n)) q
+pub same_compared : (rows : Rows) (index : List ℕ) {n m : FiveNumbers} {o : Compared} → o ≡ compared_by rows index n → n ≡ m
+    → answer o ≡ answer (compared_by rows index m)
+same_compared rows index e q = ap answer (e ∙ ap (compared_by rows index) q)
 
 -- the row of a number, in a database: the row after number − 1 others, which has that number
 module _ (d : Database) (number : ℕ) (n : FiveNumbers) where
@@ -59,7 +59,7 @@ module _ (texts : List (List ℕ)) (words links columns index : List ℕ) (n : F
 
   -- nothing is found
   pub none_found : {s : Searched} → s ≡ result → s.found ≡ false
-      → answer (record { identity = refused 25 0; compared = s.compared }) ≡ answer (compared_by rows index n)
+      → record { identity = refused 25 0; compared = s.compared } ≡ compared_by rows index n
   unfolding compared_by entry_row chosen
   none_found e f = let g : result.found ≡ false = ap (λ (s : Searched). s.found) (sym e) ∙ f in rw (e, g) refl
 
@@ -81,8 +81,7 @@ module _ (texts : List (List ℕ)) (words links columns index : List ℕ) (n : F
     entry_from = packet_from packets entry told.0
 
     pub entry_found : {spid : Spid} → spid ≡ (pid_row (row_at texts columns (entry - 1)).bytes).spid
-        → answer (record { identity = answer (record { row = entry; spid = spid.0; numbers = n }); compared = s.compared })
-        ≡ answer (compared_by rows index n)
+        → record { identity = answer (record { row = entry; spid = spid.0; numbers = n }); compared = s.compared } ≡ compared_by rows index n
     unfolding compared_by entry_row chosen
     entry_found q =
         let d = in_database (database texts words links columns) entry n told.1 in

@@ -1,5 +1,6 @@
 -- Which packet it is, by a search of an index of the pid rows.
-use Rattle.std.specs.Prelude.{ℕ, ◌≡◌, refl, cond, List, [], ◌∷◌, map, get_or}
+use Rattle.std.specs.Prelude as std
+use Rattle.std.specs.Prelude.{ℕ, ◌≡◌, refl, cond, List, [], ◌∷◌, map, get_or, Some, None, Result, Ok, Err}
 use Rattle.std.proofs.Math.Option.{Option, none}
 use Rattle.laws.specs.Prefix.{any_with}
 use Rattle.numbers.specs.Number.{digit_of, digit_on, after, spelt, meaning, number_of}
@@ -9,6 +10,7 @@ use Rattle.decoding.specs.Records.{column, pid_row}
 use Rattle.key_symbols.specs.declared.FiveNumbers.{FiveNumbers}
 use Rattle.outcomes.specs.Outcome.{Outcome, refused, answer, and_then}
 use Rattle.outcomes.specs.Refusals.{refused_by}
+use Rattle.outcomes.specs.declared.Refusal.{Refusal}
 use Rattle.headers.specs.Header.{head_of}
 use Rattle.database.specs.Rows.{Row, Rows}
 use Rattle.database.specs.Packets.{numbers_in, is_packet_row, pid_example}
@@ -21,7 +23,7 @@ use Rattle.packet_order.specs.Order.{first_then, in_order, compared}
 use Rattle.packet_index.specs.Index.{is_packet, numbers_at, rising_from, rising, every, missing, is_index}
 use Rattle.packet_index.specs.Search.{search_from, searched}
 use Rattle.searching.specs.declared.Search.{Search}
-use Rattle.searching.specs.declared.Search.TheVariants.{Is, NoPidRow, Refused}
+use Rattle.identification.specs.declared.Identity as found
 
 -- 02, P4: "The answer, 25 included, … tells how many entries were compared"
 pub record Compared : Type 0 where
@@ -47,11 +49,16 @@ search_by rows index p =
     (refused 40 0)
 
 -- 01's number and values of each case
-unfoldable pub said_search : Search → Outcome Compared
-said_search (Is row spid n compared) =
-    answer (record { identity = answer (record { row = row.0; spid = spid.0; numbers = n }); compared = compared })
-said_search (NoPidRow compared) = answer (record { identity = refused 25 0; compared = compared })
-said_search (Refused refusal) = refused_by refusal
+unfoldable pub identity_in : std.Option found.Identity → Outcome Identity
+identity_in (Some id) = answer (record { row = id.row.0; spid = id.spid.0; numbers = id.numbers })
+identity_in None = refused 25 0
+
+abbrev pub compared_in : Search → Compared
+compared_in s = record { identity = identity_in s.found; compared = s.compared }
+
+unfoldable pub said_search : Result Search Refusal → Outcome Compared
+said_search (Ok s) = answer (compared_in s)
+said_search (Err refusal) = refused_by refusal
 
 -- by pid row 7, and by none
 abbrev one_row : Rows

@@ -7,27 +7,25 @@ ghost use Rattle.outcomes.specs.Outcome.{answer, and_then};
 ghost use Rattle.five_numbers.specs.Numbers.{five_numbers};
 ghost use Rattle.packet_index.specs.Index.{is_index};
 ghost use Rattle.index_entries.specs.Loaded.{packets_in};
-ghost use Rattle.searching.specs.Search.{compared_by, search_by, said_search};
+ghost use Rattle.searching.specs.Search.{compared_by, search_by, compared_in, said_search};
 
 use arrays::half_at;
 use five_numbers::{identifiers_of, numbers_of};
 use found_rows::spid_at;
-use headers::{Head, Headed, read_header};
-use identifiers::Fields;
+use headers::{Head, read_header};
+use identification::Identity;
 use index_search::search_index;
 use index_test::is_index;
 use key_symbols::FiveNumbers;
 use outcomes::Refusal;
 use tables::TABLES;
-use units::{RowNumber, Spid};
+use units::RowNumber;
 
-// The pid row's number, its SPID, the five numbers and how many entries were compared; that there is no such row,
-// and how many were; or why the question is refused.
+// Which packet it is, if a pid row has its five numbers; and how many entries were compared.
 #[derive(Clone, Copy)]
-pub enum Search {
-    Is(RowNumber, Spid, FiveNumbers, usize),
-    NoPidRow(usize),
-    Refused(Refusal),
+pub struct Search {
+    pub found: Option<Identity>,
+    pub compared: usize,
 }
 
 // The row that the five numbers choose, in an index.
@@ -40,17 +38,29 @@ fn search_numbers(
     numbers: FiveNumbers,
 ) -> Search
     requires { is_index (packets_in (map (λ x. x.now) tables) words.now links.now columns.now) index.now ≡ true }
-    ensures { said_search result
-        ≡ answer (compared_by (answers (database (map (λ x. x.now) tables.entry) words.now links.now columns.now))
-        index.now numbers) }
+    ensures { compared_in result
+        ≡ compared_by (answers (database (map (λ x. x.now) tables.entry) words.now links.now columns.now))
+        index.now numbers }
 {
     let searched = search_index(tables, words, links, columns, index, numbers);
+    let compared = searched.compared;
     if !searched.found {
-        return Search::NoPidRow(searched.compared);
+        return Search {
+            found: None,
+            compared,
+        };
     }
     let entry = half_at(index, searched.place) as usize;
     let spid = spid_at(tables, columns, entry - 1);
-    Search::Is(RowNumber(entry), spid, numbers, searched.compared)
+    let found = Identity {
+        row: RowNumber(entry),
+        spid,
+        numbers,
+    };
+    Search {
+        found: Some(found),
+        compared,
+    }
 }
 
 // The same for a packet whose header is known.
@@ -62,7 +72,7 @@ fn search_headed(
     index: &[u16],
     p: &[u8],
     head: Head,
-) -> Search
+) -> Result<Search, Refusal>
     requires { is_index (packets_in (map (λ x. x.now) tables) words.now links.now columns.now) index.now ≡ true }
     ensures { said_search result
         ≡ and_then (five_numbers (answers (database (map (λ x. x.now) tables.entry) words.now links.now columns.now))
@@ -70,17 +80,9 @@ fn search_headed(
         (λ n. answer (compared_by (answers (database (map (λ x. x.now) tables.entry) words.now links.now columns.now))
         index.now n)) }
 {
-    match identifiers_of(tables, words, links, columns, p, head) {
-        Fields::Are(pair) => search_numbers(
-            tables,
-            words,
-            links,
-            columns,
-            index,
-            numbers_of(p, head, pair),
-        ),
-        Fields::Refused(refusal) => Search::Refused(refusal),
-    }
+    let pair = identifiers_of(tables, words, links, columns, p, head)?;
+    let numbers = numbers_of(p, head, pair);
+    Ok(search_numbers(tables, words, links, columns, index, numbers))
 }
 
 // The list is tested first, then the header is read.
@@ -91,16 +93,14 @@ pub fn search_in(
     columns: &[u16],
     index: &[u16],
     p: &[u8],
-) -> Search
+) -> Result<Search, Refusal>
     ensures { said_search result
         ≡ search_by (answers (database (map (λ x. x.now) tables.entry) words.now links.now columns.now))
         index.now p.now }
 {
     if !is_index(tables, words, links, columns, index) {
-        return Search::Refused(Refusal::NoIndex);
+        return Err(Refusal::NoIndex);
     }
-    match read_header(p) {
-        Headed::Is(head) => search_headed(tables, words, links, columns, index, p, head),
-        Headed::Refused(refusal) => Search::Refused(refusal),
-    }
+    let head = read_header(p)?;
+    search_headed(tables, words, links, columns, index, p, head)
 }

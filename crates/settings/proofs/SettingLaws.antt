@@ -11,8 +11,7 @@ use borrow.Author.Tests.{eq-eqb, ne_eqb, lt-ltb, le-ltb}
 use Rattle.laws.proofs.Cases.{bool_cases}
 use Rattle.lines.specs.Columns.{columns_of, column_at}
 use Rattle.limit_state.specs.declared.state.LimitState.{LimitState}
-use Rattle.scripts.specs.declared.operands.Natural.{Natural}
-use Rattle.scripts.specs.declared.operands.Natural.TheVariants as natural
+use Rattle.std.specs.Prelude as rust
 use Rattle.escapes.specs.Escapes.{byte_of, where_room, row_bytes, hex_bytes, unescaped}
 use Rattle.scripts.specs.Words.{setting_of}
 use Rattle.scripts.specs.Numerals.{natural_in, at_most}
@@ -59,11 +58,11 @@ module _ (m : Memory) (text : List ℕ) (n : ℕ) (e : n ≡ length (columns_of 
   unfolding add_fill
   fill_run h l = rw (eq-eqb (length (columns_of text)) 3 (sym e ∙ h), le-ltb 255 (byte_in (column_at (columns_of text) 2)) l)
 
-pub run_is : (m : Memory) (t byte count : ℕ) (o : Natural) → o ≡ natural.Is count → added m t (run_bytes byte count) ≡ add_run m t byte o
+pub run_is : (m : Memory) (t byte count : ℕ) (o : rust.Option ℕ) → o ≡ rust.Some count → added m t (run_bytes byte count) ≡ add_run m t byte o
 unfolding add_run
 run_is m t byte count o e = rw e
 
-pub run_unread : (m : Memory) (t byte : ℕ) (o : Natural) → o ≡ natural.Unread → unread m ≡ add_run m t byte o
+pub run_unread : (m : Memory) (t byte : ℕ) (o : rust.Option ℕ) → o ≡ rust.None → unread m ≡ add_run m t byte o
 unfolding add_run
 run_unread m t byte o e = rw e
 

@@ -1,12 +1,11 @@
 -- The lines that set tables, the packet and the limit state.
 use Rattle.std.specs.Prelude.{ℕ, ◌+◌, ◌≡◌, refl, Bool, true, false, cond, List, [], ◌∷◌, ◌++◌, eqb, ltb, length, get_or, replicate}
+use Rattle.std.specs.Prelude as rust
 use Rattle.std.proofs.Math.Option.{Option, some, none}
 use Rattle.laws.specs.Text.{ascii}
 use Rattle.numbers.specs.Number.{number_of, answer_of, meaning, spelt, after, digit_on, digit_of}
 use Rattle.lines.specs.Columns.{columns_of, columns_from, column_at, part_of}
 use Rattle.limit_state.specs.declared.state.LimitState.{LimitState}
-use Rattle.scripts.specs.declared.operands.Natural.{Natural}
-use Rattle.scripts.specs.declared.operands.Natural.TheVariants as natural
 use Rattle.settings.specs.declared.SetLine.{SetLine}
 use Rattle.escapes.specs.Escapes.{byte_of, unescaped, hex_bytes, row_bytes, where_room, before, before_byte, plain}
 use Rattle.scripts.specs.Words.{setting_of}
@@ -45,9 +44,9 @@ byte_in text = cond (eqb (length text) 2) (byte_of (get_or text 0 0) (get_or tex
 unfoldable pub run_bytes : (byte count : ℕ) → List ℕ
 run_bytes byte count = part_of (replicate 65537 byte) 0 count
 
-unfoldable pub add_run : Memory → ℕ → (byte : ℕ) → Natural → KeptMemory
-add_run m t byte (natural.Is count) = added m t (run_bytes byte count)
-add_run m t byte natural.Unread = unread m
+unfoldable pub add_run : Memory → ℕ → (byte : ℕ) → rust.Option ℕ → KeptMemory
+add_run m t byte (rust.Some count) = added m t (run_bytes byte count)
+add_run m t byte rust.None = unread m
 
 -- PLACE|COUNT|BYTE
 unfoldable pub add_fill : Memory → List ℕ → KeptMemory
@@ -72,14 +71,14 @@ set_area k m bytes =
     (cond (eqb k filling) (add_fill m bytes) (added m k bytes)))
 
 -- FRESH|APID|COUNT|RUN|ANNOUNCED
-unfoldable pub state_of : LimitState → Natural → Natural → Natural → Natural → Natural → SetLine
-state_of s (natural.Is fresh) (natural.Is apid) (natural.Is count) (natural.Is run) (natural.Is announced) =
+unfoldable pub state_of : LimitState → rust.Option ℕ → rust.Option ℕ → rust.Option ℕ → rust.Option ℕ → rust.Option ℕ → SetLine
+state_of s (rust.Some fresh) (rust.Some apid) (rust.Some count) (rust.Some run) (rust.Some announced) =
     record { readable = true; state = record { fresh = eqb fresh 1; apid = apid; count = count; run = run; announced = announced } }
-state_of s natural.Unread apid count run announced = record { readable = false; state = s }
-state_of s (natural.Is fresh) natural.Unread count run announced = record { readable = false; state = s }
-state_of s (natural.Is fresh) (natural.Is apid) natural.Unread run announced = record { readable = false; state = s }
-state_of s (natural.Is fresh) (natural.Is apid) (natural.Is count) natural.Unread announced = record { readable = false; state = s }
-state_of s (natural.Is fresh) (natural.Is apid) (natural.Is count) (natural.Is run) natural.Unread = record { readable = false; state = s }
+state_of s rust.None apid count run announced = record { readable = false; state = s }
+state_of s (rust.Some fresh) rust.None count run announced = record { readable = false; state = s }
+state_of s (rust.Some fresh) (rust.Some apid) rust.None run announced = record { readable = false; state = s }
+state_of s (rust.Some fresh) (rust.Some apid) (rust.Some count) rust.None announced = record { readable = false; state = s }
+state_of s (rust.Some fresh) (rust.Some apid) (rust.Some count) (rust.Some run) rust.None = record { readable = false; state = s }
 
 unfoldable pub state_text : LimitState → List ℕ → SetLine
 state_text s text =

@@ -8,10 +8,10 @@ ghost use Rattle.areas.specs.Memory.{memory, kept, added};
 ghost use Rattle.settings.specs.Settings.{setting_bytes, byte_in, add_fill, clear_named, set_area, state_text, settled, set_text, set_bytes, set_line};
 
 use areas::{AREAS, PACKET, append, clear, clear_all};
-use escapes::{Bytes, ROOM, byte_of, read_hex, unescape, unescape_row};
+use escapes::{ROOM, byte_of, read_hex, unescape, unescape_row};
 use limit_state::state::LimitState;
 use lines::columns::part;
-use scripts::operands::{Natural, column_at, column_count, natural_at};
+use scripts::operands::{column_at, column_count, natural_at};
 use scripts::verb::setting_of;
 
 // The places of the words that follow `packet` in the list of settings, and how many words there are.
@@ -62,13 +62,11 @@ fn add_fill(space: &mut [u8], ends: &mut [usize], text: &[u8]) -> bool
     if 255 < byte {
         return false;
     }
-    match natural_at(65537, text, 1) {
-        Natural::Is(count) => {
-            let run = [byte as u8; ROOM];
-            add_run(space, ends, t, &run, count as usize)
-        }
-        Natural::Unread => false,
-    }
+    let Some(count) = natural_at(65537, text, 1) else {
+        return false;
+    };
+    let run = [byte as u8; ROOM];
+    add_run(space, ends, t, &run, count as usize)
 }
 
 // All areas, or the one that is named.
@@ -98,19 +96,19 @@ fn state_in(text: &[u8], state: LimitState) -> SetLine
     if column_count(text) != 5 {
         return none;
     }
-    let Natural::Is(fresh) = natural_at(1, text, 0) else {
+    let Some(fresh) = natural_at(1, text, 0) else {
         return none;
     };
-    let Natural::Is(apid) = natural_at(65535, text, 1) else {
+    let Some(apid) = natural_at(65535, text, 1) else {
         return none;
     };
-    let Natural::Is(count) = natural_at(65535, text, 2) else {
+    let Some(count) = natural_at(65535, text, 2) else {
         return none;
     };
-    let Natural::Is(run) = natural_at(255, text, 3) else {
+    let Some(run) = natural_at(255, text, 3) else {
         return none;
     };
-    let Natural::Is(announced) = natural_at(255, text, 4) else {
+    let Some(announced) = natural_at(255, text, 4) else {
         return none;
     };
     SetLine {
@@ -126,7 +124,7 @@ fn state_in(text: &[u8], state: LimitState) -> SetLine
 }
 
 // The bytes of a line: a table's row, the digits of a packet, or a text.
-fn setting_bytes(k: usize, raw: &[u8], out: &mut [u8; ROOM]) -> Bytes
+fn setting_bytes(k: usize, raw: &[u8], out: &mut [u8; ROOM]) -> Option<usize>
     ensures { read_in result out.new ≡ setting_bytes k raw.now }
 {
     if k < PACKET {
@@ -186,8 +184,8 @@ fn set_in(
         ≡ set_bytes k (memory space.old ends.old) state (setting_bytes k raw.now) }
 {
     match setting_bytes(k, raw, out) {
-        Bytes::Are(n) => set_text(k, part(out, 0, n), space, ends, state),
-        Bytes::Unread => SetLine {
+        Some(n) => set_text(k, part(out, 0, n), space, ends, state),
+        None => SetLine {
             readable: false,
             state,
         },

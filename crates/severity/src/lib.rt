@@ -53,8 +53,7 @@ pub fn severity_in(lows: &[i64], highs: &[i64], levels: &[u8], value: i64) -> Se
     ensures { result ≡ severity_in (checks_in lows.now highs.now levels.now) value }
 {
     let mut soft = false;
-    let mut i: usize = 0;
-    while i < levels.len() {
+    for i in 0..levels.len() {
         let level = levels[i];
         if is_violated(limit_at(lows, i), limit_at(highs, i), value) {
             if level == 2 {
@@ -64,7 +63,6 @@ pub fn severity_in(lows: &[i64], highs: &[i64], levels: &[u8], value: i64) -> Se
                 soft = true;
             }
         }
-        i += 1;
     }
     if soft {
         Severity::Soft

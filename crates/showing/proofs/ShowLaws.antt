@@ -5,9 +5,9 @@ use mathlib.Core.Bool.{Bool, true, false}
 use mathlib.Core.List.{List}
 use lib.Dec.{leb}
 use borrow.Author.Tests.{eq-eqb, ne_eqb}
+use Rattle.std.specs.Prelude.{Ok, Err}
 use Rattle.outcomes.specs.Refusals.{refusal_number, refusal_place}
 use Rattle.outcomes.specs.declared.Refusal.{Refusal}
-use Rattle.accepting.specs.declared.step.Answer.TheVariants.{Taken, Refused}
 use Rattle.accepting.specs.declared.step.Stepped.{Stepped}
 use Rattle.showing.specs.Count.{sequence_count_in}
 use Rattle.showing.specs.Lines.{refusal_in, place_shown, printed_line}
@@ -22,11 +22,11 @@ line_with number count refusal place r =
     record { number = number; count = count; refusal = refusal; place = place; run = r.state.run; announced = r.state.announced }
 
 module _ (number count : ℕ) (r : Stepped) where
-  pub line_taken : r.answer ≡ Taken → line_with number count 0 0 r ≡ printed_line number count r
+  pub line_taken : r.answer ≡ Ok tt → line_with number count 0 0 r ≡ printed_line number count r
   unfolding printed_line refusal_in place_shown
   line_taken e = rw e
 
-  pub line_refused : {refusal : Refusal} {n p : ℕ} → r.answer ≡ Refused refusal → n ≡ refusal_number refusal → p ≡ refusal_place refusal
+  pub line_refused : {refusal : Refusal} {n p : ℕ} → r.answer ≡ Err refusal → n ≡ refusal_number refusal → p ≡ refusal_place refusal
       → line_with number count n p r ≡ printed_line number count r
   unfolding printed_line refusal_in place_shown
   line_refused e f g = rw (e, f, g)

@@ -3,8 +3,8 @@ ghost use Rattle.std.specs.Prelude.{◌≡◌};
 ghost use Rattle.showing.specs.Count.{sequence_count_in};
 ghost use Rattle.showing.specs.Lines.{printed_line};
 
-use accepting::step::{Answer, Stepped};
-use fields::field::{Unsigned, read_unsigned};
+use accepting::step::Stepped;
+use fields::field::read_unsigned;
 use outcomes::{number_of, place_of};
 use units::BitOffset;
 
@@ -25,9 +25,8 @@ pub fn count_of(packet: &[u8]) -> u64
     ensures { result ≡ sequence_count_in packet.now }
 {
     match read_unsigned(packet, BitOffset(18), 14) {
-        Unsigned::Is(count) => count,
-        Unsigned::Outside => 0,
-        Unsigned::NoWidth => 0,
+        Ok(count) => count,
+        Err(_) => 0,
     }
 }
 
@@ -37,7 +36,7 @@ pub fn line_of(number: usize, count: u64, stepped: Stepped) -> Line
     let answer = stepped.answer;
     let state = stepped.state;
     match answer {
-        Answer::Taken => Line {
+        Ok(()) => Line {
             number,
             count,
             refusal: 0,
@@ -45,7 +44,7 @@ pub fn line_of(number: usize, count: u64, stepped: Stepped) -> Line
             run: state.run,
             announced: state.announced,
         },
-        Answer::Refused(refusal) => Line {
+        Err(refusal) => Line {
             number,
             count,
             refusal: number_of(refusal),

@@ -40,8 +40,7 @@ pub(crate) fn match_cells(
     ensures { result ≡ matched_all line.now from (cells_text (take n cells.now) positions.now) }
 {
     let mut at = from;
-    let mut i: usize = 0;
-    while i < n {
+    for i in 0..n {
         if cells.len() <= i {
             return at;
         }
@@ -50,7 +49,6 @@ pub(crate) fn match_cells(
         }
         let after_cell = match_cell(line, at, cells[i]);
         at = match_position(line, after_cell, positions[i]);
-        i += 1;
     }
     at
 }

@@ -19,10 +19,8 @@ pub(crate) fn match_text(line: &[u8], from: usize, text: &[u8]) -> usize
     ensures { result ≡ matched_all line.now from text.now }
 {
     let mut at = from;
-    let mut i: usize = 0;
-    while i < text.len() {
+    for i in 0..text.len() {
         at = match_byte(line, at, text[i]);
-        i += 1;
     }
     at
 }

@@ -5,13 +5,13 @@ ghost use Rattle.parameters.specs.Located.{by_lines};
 ghost use Rattle.stepping.specs.Step.{step_at, step_of, step_headed, step_in};
 ghost use Rattle.accepting.specs.Answer.{Answers};
 
-use accepting::step::{Answer, Stepped, accept, in_time, refuse};
+use accepting::step::{Stepped, accept, in_time, refuse};
 use announced::Progress;
 use checking::parameter::{Subject, check_parameter};
 use database::holder_of;
 use found_rows::ocf_at;
-use headers::{Head, Headed, read_header};
-use identification::{Identified, identify_headed};
+use headers::{Head, read_header};
+use identification::identify_headed;
 use key_symbols::limits_key;
 use limit_state::state::{LimitState, is_state};
 use name_bytes::{Name, name_of};
@@ -38,7 +38,7 @@ fn step_at(
         (row_at (map (λ x. x.now) tables.entry) columns.now subject.at.pcf).bytes)) result }
 {
     match in_time(state, head) {
-        Answer::Taken => {
+        Ok(()) => {
             let progress = Progress {
                 run: state.run,
                 announced: state.announced,
@@ -46,7 +46,7 @@ fn step_at(
             let checked = check_parameter(tables, words, links, columns, p, subject, progress);
             accept(head, checked, state)
         }
-        Answer::Refused(refusal) => refuse(state, refusal),
+        Err(refusal) => refuse(state, refusal),
     }
 }
 
@@ -69,10 +69,9 @@ fn step_of(
     if place == 0 {
         return refuse(state, Refusal::NoLimits);
     }
-    let at = locate(words, links, columns, spid, name);
-    if !at.found {
+    let Some(at) = locate(words, links, columns, spid, name) else {
         return refuse(state, Refusal::NoPlfRow);
-    }
+    };
     let subject = Subject {
         spid,
         name,
@@ -97,10 +96,18 @@ fn step_headed(
         p.now name state head) result }
 {
     match identify_headed(tables, words, links, columns, p, head) {
-        Identified::Is(row, spid, numbers) => {
-            step_of(tables, words, links, columns, p, head, spid, name, state)
-        }
-        Identified::Refused(refusal) => refuse(state, refusal),
+        Ok(identity) => step_of(
+            tables,
+            words,
+            links,
+            columns,
+            p,
+            head,
+            identity.spid,
+            name,
+            state,
+        ),
+        Err(refusal) => refuse(state, refusal),
     }
 }
 
@@ -121,16 +128,7 @@ pub fn step_in(
         return refuse(state, Refusal::NoState);
     }
     match read_header(p) {
-        Headed::Is(head) => step_headed(
-            tables,
-            words,
-            links,
-            columns,
-            p,
-            head,
-            name_of(name),
-            state,
-        ),
-        Headed::Refused(refusal) => refuse(state, refusal),
+        Ok(head) => step_headed(tables, words, links, columns, p, head, name_of(name), state),
+        Err(refusal) => refuse(state, refusal),
     }
 }

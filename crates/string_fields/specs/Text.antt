@@ -1,9 +1,10 @@
 -- Strings: runs of whole bytes of a packet.
-use Rattle.std.specs.Prelude.{◌≡◌, refl, cond, List, [], ◌∷◌, ℕ, ◌+◌, ◌*◌, ◌/◌, ◌%◌, eqb, leb, pos, length, take, drop}
+use Rattle.std.specs.Prelude.{◌≡◌, refl, cond, List, [], ◌∷◌, ℕ, ◌+◌, ◌*◌, ◌/◌, ◌%◌, eqb, leb, pos, length, take, drop, Result, Ok, Err}
 use Rattle.fields.specs.Place.{bit_inside, inside}
 use Rattle.laws.specs.Said.{Said, value, refused, free}
-use Rattle.string_fields.specs.declared.StringAt.{StringAt}
-use Rattle.string_fields.specs.declared.StringAt.TheVariants.{Inside, Outside, OffByte, NoBytes}
+use Rattle.units.specs.declared.ByteOffset.{ByteOffset}
+use Rattle.string_fields.specs.declared.StringError.{StringError}
+use Rattle.string_fields.specs.declared.StringError.TheVariants.{Outside, OffByte, NoBytes}
 
 -- 01: "28, 29 … a bit of the field lies outside; a string not on a byte", "The least number decides"
 -- the byte in which a string of n bytes from bit `at` starts; 01 has no string of 0 bytes
@@ -14,11 +15,11 @@ string_at p at n =
     (cond (eqb (at % 8) 0) (value (pos (at / 8))) (refused 29))
     (refused 28))
 
-unfoldable pub said_string : StringAt → Said
-said_string (Inside from) = value (pos from.0)
-said_string Outside = refused 28
-said_string OffByte = refused 29
-said_string NoBytes = free
+unfoldable pub said_string : Result ByteOffset StringError → Said
+said_string (Ok from) = value (pos from.0)
+said_string (Err Outside) = refused 28
+said_string (Err OffByte) = refused 29
+said_string (Err NoBytes) = free
 
 -- 01: "A string is answered as the part of the packet it is."
 -- n bytes from the byte `from`; nothing where the packet doesn't have them all

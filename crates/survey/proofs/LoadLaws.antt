@@ -1,12 +1,12 @@
 -- What is surveyed over a database that was loaded is surveyed over the tables.
 use Rattle.std.proofs.Common.{◌≡◌, ℕ, true, false, List, subst}
+use Rattle.std.specs.Prelude.{Result, Ok}
+use Rattle.outcomes.specs.declared.Refusal.{Refusal}
 use Rattle.tables.specs.Parts.{tables_in}
 use Rattle.database.specs.Rows.{Rows}
 use Rattle.database.specs.Arrays.{database, answers}
 use Rattle.loading.specs.Loaded.{Lent}
 use Rattle.full_loading.specs.FullLoads.{FullLoads}
-use Rattle.full_loading.specs.declared.FullLoading.{FullLoading}
-use Rattle.full_loading.specs.declared.FullLoading.TheVariants.{Done}
 use Rattle.directories.specs.declared.Loaded.{Loaded}
 use Rattle.directories.specs.Space.{DirectoryInto}
 use Rattle.surveying.specs.declared.asking.Question.{Question}
@@ -16,7 +16,7 @@ use Rattle.surveying.proofs.ArchiveLaws.{surveyed_start}
 use Rattle.survey.specs.OfTables.{OfTables, OfDirectory}
 
 module _ (texts : List (List ℕ)) {name : List ℕ} {question : Question} where
-  pub of_loaded : (before after : Lent) {r : FullLoading} → FullLoads texts before after r → r ≡ Done
+  pub of_loaded : (before after : Lent) {r : Result Unit Refusal} → FullLoads texts before after r → {done : Unit} → r ≡ Ok done
       → {s : Standing} → SurveyedFile (answers (database texts after.words after.links after.columns)) name question s
       → OfTables texts name question s
   unfolding FullLoads

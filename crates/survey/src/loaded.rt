@@ -5,7 +5,7 @@ ghost use Rattle.survey.specs.OfTables.{OfTables};
 
 use crate::archive::survey_archive;
 use database::COLUMNS;
-use full_loading::{FullLoading, load_full};
+use full_loading::load_full;
 use kept::{LINKS, WORDS};
 use outcomes::{Refusal, number_of, place_of};
 use std::rt::Files;
@@ -36,9 +36,7 @@ pub(crate) fn survey_tables(
     let mut links = [0u16; LINKS];
     let mut columns = [0u16; COLUMNS];
     match load_full(tables, &mut words, &mut links, &mut columns) {
-        FullLoading::Done => {
-            survey_archive(rt, tables, &words, &links, &columns, name, file, question)
-        }
-        FullLoading::Refused(refusal) => refuse(rt, refusal),
+        Ok(()) => { survey_archive(rt, tables, &words, &links, &columns, name, file, question) }
+        Err(refusal) => refuse(rt, refusal),
     }
 }

@@ -10,7 +10,7 @@ mod say;
 use directories::SPACE;
 use directory::survey_directory;
 use files::arguments::{LONGEST, count, is_too_long};
-use options::{Choice, chosen};
+use options::chosen;
 use std::env::Env;
 use std::rt::Files;
 use surveying::asking::Question;
@@ -91,8 +91,8 @@ fn survey_by_option(rt: &(impl Print + Files + Env)) {
     }
     let length = asked.unwrap_or(0);
     match chosen(&option[..length]) {
-        Choice::Is(question) => survey_as(rt, question),
-        Choice::Unknown => {
+        Some(question) => survey_as(rt, question),
+        None => {
             words(rt, &option[..length]);
             words(rt, b": there is no such question\n");
             say_usage(rt);

@@ -1,28 +1,22 @@
-// Which question is asked, by the program's last argument.
+// Which question is asked, by the program's last argument; none by a name that is no question's.
 ghost use Rattle.std.specs.Prelude.{◌≡◌};
 ghost use Rattle.survey.specs.Options.{question_chosen};
 
 use name_bytes::{name_of, same_name};
 use surveying::asking::Question;
 
-#[derive(Clone, Copy)]
-pub(crate) enum Choice {
-    Is(Question),
-    Unknown,
-}
-
-pub(crate) fn chosen(option: &[u8]) -> Choice
+pub(crate) fn chosen(option: &[u8]) -> Option<Question>
     ensures { result ≡ question_chosen option.now }
 {
     let name = name_of(option);
     if same_name(name, name_of(b"identify")) {
-        return Choice::Is(Question::Identify);
+        return Some(Question::Identify);
     }
     if same_name(name, name_of(b"extract")) {
-        return Choice::Is(Question::Extract);
+        return Some(Question::Extract);
     }
     if same_name(name, name_of(b"engineer")) {
-        return Choice::Is(Question::Engineer);
+        return Some(Question::Engineer);
     }
-    Choice::Unknown
+    None
 }

@@ -1,4 +1,5 @@
 -- Blocks, one after the other.
+use Rattle.std.specs.Prelude.{Option}
 use Rattle.std.proofs.Common.{◌≡◌, ℕ, ◌-◌, ◌≤◌, min, List, [], ◌∷◌, ◌++◌, length, sym, refl, ap, ◌∙◌, subst, arith}
 use Rattle.lines.specs.Columns.{part_of}
 use Rattle.archives.specs.Packets.{length_said, is_complete, packets_in, left_in}
@@ -7,7 +8,6 @@ use Rattle.archives.proofs.PacketLaws.{packets_none, left_none}
 use Rattle.archives.proofs.BlockLaws.{part_length, part_of_front, new_bytes, packets_next, left_next}
 use Rattle.database.specs.Rows.{Rows}
 use Rattle.surveying.specs.declared.asking.Question.{Question}
-use Rattle.surveying.specs.declared.asking.Told.{Told}
 use Rattle.surveying.specs.declared.counting.Tally.{Tally}
 use Rattle.surveying.specs.declared.archive.Standing.{Standing}
 use Rattle.surveying.specs.Told.{told}
@@ -21,7 +21,7 @@ pub record SurveyedSo (rows : Rows) (name : List ℕ) (question : Question) (so 
   pub left : left_in bytes ≡ part_of block so.from so.to
   pub within : so.to ≤ length block
 
-more : (ask : List ℕ → Told) (t : Tally) (ps qs : List (List ℕ)) → surveyed ask t (ps ++ qs) ≡ surveyed ask (surveyed ask t ps) qs
+more : (ask : List ℕ → Option ℕ) (t : Tally) (ps qs : List (List ℕ)) → surveyed ask t (ps ++ qs) ≡ surveyed ask (surveyed ask t ps) qs
 unfolding surveyed
 more ask t [] qs = refl
 more ask t (p ∷ ps) qs = more ask (noted t (ask p)) ps qs

@@ -1,14 +1,13 @@
 -- The packets of bytes, asked one after the other.
+use Rattle.std.specs.Prelude.{Option, Some, None}
 use Rattle.std.proofs.Common.{◌≡◌, ℕ, ◌≤◌, List, ◌∷◌, length, drop, sym, refl, ap, ◌∙◌, arith}
 use Rattle.lines.specs.Columns.{part_of}
 use Rattle.archives.specs.Packets.{packets_in, left_in}
 use Rattle.archives.specs.Framing.{framed_at}
-use Rattle.archives.specs.declared.Framed.TheVariants.{Whole, Cut}
 use Rattle.archives.proofs.PacketLaws.{packets_none, left_none}
 use Rattle.archives.proofs.FrameLaws.{cut_says, next_packets, next_left, next_within}
 use Rattle.database.specs.Rows.{Rows}
 use Rattle.surveying.specs.declared.asking.Question.{Question}
-use Rattle.surveying.specs.declared.asking.Told.{Told}
 use Rattle.surveying.specs.declared.counting.Tally.{Tally}
 use Rattle.surveying.specs.Told.{told}
 use Rattle.surveying.specs.Surveys.{noted, surveyed, Surveys}
@@ -23,13 +22,13 @@ module _ (rows : Rows) (name : List ℕ) (question : Question) where
   pub surveys_none : {begun : Tally} {bytes : List ℕ} → SurveysSo rows name question begun bytes begun 0
   surveys_none = record { all = refl; left = refl; within = omega arith }
 
-  asked : (f : List ℕ → Told) (tally after : Tally) (p : List ℕ) (ps : List (List ℕ)) → after ≡ noted tally (f p)
+  asked : (f : List ℕ → Option ℕ) (tally after : Tally) (p : List ℕ) (ps : List (List ℕ)) → after ≡ noted tally (f p)
       → surveyed f after ps ≡ surveyed f tally (p ∷ ps)
   unfolding surveyed
   asked f tally after p ps e = ap (λ (t : Tally). surveyed f t ps) e
 
   module _ {begun tally : Tally} {bytes : List ℕ} {at : ℕ} (so : SurveysSo rows name question begun bytes tally at) where
-    pub surveys_more : {end : ℕ} {packet : List ℕ} {after : Tally} {t : Told} → framed_at bytes at ≡ Whole end → packet ≡ part_of bytes at end
+    pub surveys_more : {end : ℕ} {packet : List ℕ} {after : Tally} {t : Option ℕ} → framed_at bytes at ≡ Some end → packet ≡ part_of bytes at end
         → t ≡ told rows name question packet → after ≡ noted tally t → SurveysSo rows name question begun bytes after end
     surveys_more {end} {packet} {after} {t} w q a k =
         let f = told rows name question in
@@ -42,7 +41,7 @@ module _ (rows : Rows) (name : List ℕ) (question : Question) where
           within = next_within bytes at w;
         }
 
-    pub surveys_end : framed_at bytes at ≡ Cut → Surveys rows name question begun bytes tally at
+    pub surveys_end : framed_at bytes at ≡ None → Surveys rows name question begun bytes tally at
     unfolding surveyed
     surveys_end c =
         let f = cut_says bytes at c in

@@ -11,8 +11,8 @@ use curves::ints::size;
 use engineering::engineer::Engineered;
 use extraction::engineer::engineer_in;
 use extraction::extract::extract_in;
-use identification::{Identified, identify_in};
-use outcomes::Value;
+use identification::{Identity, identify_in};
+use outcomes::{Refusal, Value};
 use polynomials::bits_of;
 use readings::Reading;
 use tables::TABLES;
@@ -22,13 +22,6 @@ pub enum Question {
     Identify,
     Extract,
     Engineer,
-}
-
-// What the answer weighs, or that there is none.
-#[derive(Clone, Copy)]
-pub enum Told {
-    Weighs(u64),
-    Refused,
 }
 
 fn weigh(value: Value) -> u64
@@ -41,41 +34,43 @@ fn weigh(value: Value) -> u64
     }
 }
 
-fn tell_identity(identified: Identified) -> Told
+fn tell_identity(identified: Result<Identity, Refusal>) -> Option<u64>
     ensures { result ≡ tell_identity (said_identified identified) }
 {
     match identified {
-        Identified::Is(_, spid, _) => Told::Weighs(spid.0 as u64),
-        Identified::Refused(_) => Told::Refused,
+        Ok(identity) => Some(identity.spid.0 as u64),
+        Err(_) => None,
     }
 }
 
-fn tell_reading(reading: Reading) -> Told
+fn tell_reading(reading: Result<Reading, Refusal>) -> Option<u64>
     ensures { result ≡ tell_reading (said_reading reading) }
 {
     match reading {
-        Reading::Is(value, valid) => {
-            if valid {
-                return Told::Weighs(weigh(value));
+        Ok(read) => {
+            if read.valid {
+                return Some(weigh(read.value));
             }
-            Told::Weighs(0)
+            Some(0)
         }
-        Reading::Refused(_) => Told::Refused,
+        Err(_) => None,
     }
 }
 
-fn tell_engineered(engineered: Engineered) -> Told
+fn tell_engineered(engineered: Result<Engineered, Refusal>) -> Option<u64>
     ensures { result ≡ tell_engineered (said_engineered engineered) }
 {
     match engineered {
-        Engineered::Is(value) => Told::Weighs(weigh(value)),
-        Engineered::Double(x) => Told::Weighs(bits_of(x)),
-        Engineered::Text(_, from, _) => Told::Weighs(from.0 as u64),
-        Engineered::Refused(_) => Told::Refused,
+        Ok(answer) => match answer {
+            Engineered::Is(value) => Some(weigh(value)),
+            Engineered::Double(x) => Some(bits_of(x)),
+            Engineered::Text(text) => Some(text.start.0 as u64),
+        },
+        Err(_) => None,
     }
 }
 
-// Of a parameter its occurrence 0 is asked for.
+// What the answer weighs, none where it is refused. Of a parameter its occurrence 0 is asked for.
 pub(crate) fn ask(
     tables: [&[u8]; TABLES],
     words: &[u64],
@@ -84,7 +79,7 @@ pub(crate) fn ask(
     name: &[u8],
     question: Question,
     packet: &[u8],
-) -> Told
+) -> Option<u64>
     ensures { result ≡ told (answers (database (map (λ x. x.now) tables.entry) words.now links.now columns.now))
         name.now question packet.now }
 {

@@ -3,8 +3,8 @@ ghost use Rattle.std.specs.Prelude.{◌≡◌, map};
 ghost use Rattle.database.specs.Arrays.{database, answers};
 ghost use Rattle.surveying.specs.Surveys.{noted, Surveys};
 
-use crate::asking::{Question, Told, ask};
-use archives::{Framed, packet_at};
+use crate::asking::{Question, ask};
+use archives::packet_at;
 use lines::columns::part;
 use std::num::{wrapping_add_u64, wrapping_add_usize};
 use tables::TABLES;
@@ -23,17 +23,17 @@ pub struct Surveyed {
     pub used: usize,
 }
 
-// One packet more.
-fn note(tally: Tally, told: Told) -> Tally
+// One packet more, by the weight of its answer; none of one that is refused.
+fn note(tally: Tally, told: Option<u64>) -> Tally
     ensures { result ≡ noted tally told }
 {
     match told {
-        Told::Weighs(weight) => Tally {
+        Some(weight) => Tally {
             answered: wrapping_add_usize(tally.answered, 1),
             refused: tally.refused,
             weight: wrapping_add_u64(tally.weight, weight),
         },
-        Told::Refused => Tally {
+        None => Tally {
             answered: tally.answered,
             refused: wrapping_add_usize(tally.refused, 1),
             weight: tally.weight,
@@ -57,15 +57,11 @@ pub(crate) fn survey(
 {
     let mut tally = begun;
     let mut at = 0;
-    loop {
-        match packet_at(bytes, at) {
-            Framed::Whole(end) => {
-                let packet = part(bytes, at, end);
-                let told = ask(tables, words, links, columns, name, question, packet);
-                tally = note(tally, told);
-                at = end;
-            }
-            Framed::Cut => return Surveyed { tally, used: at },
-        }
+    while let Some(end) = packet_at(bytes, at) {
+        let packet = part(bytes, at, end);
+        let told = ask(tables, words, links, columns, name, question, packet);
+        tally = note(tally, told);
+        at = end;
     }
+    Surveyed { tally, used: at }
 }

@@ -1,5 +1,6 @@
 -- The search for a table that is too large, and the count of rows.
-use mathlib.Core.Path.{◌≡◌, refl, sym, ◌∙◌}
+use mathlib.Core.Path.{◌≡◌, refl, sym, ap, ◌∙◌}
+use Rattle.std.specs.Prelude.{Option, Some, None}
 use mathlib.Core.List.{List, [], ◌∷◌}
 use mathlib.Core.Bool.{Bool, true, false, cond}
 use Prim.Native.Nat.{ℕ, zero, suc, ◌+◌, ◌-◌, ◌≤◌, ◌<◌}
@@ -8,12 +9,13 @@ use native.Mathlib.Numerals.{add-one}
 use lib.Dec.{eqb, ltb}
 use lib.ListN.{length, get_or, take, drop, drop_of_length-le, length-take, length-drop}
 use lib.Seq.{drop-drop, take_all}
-use borrow.Author.Tests.{eq-eqb, ne_eqb, ltb-false}
+use borrow.Author.Tests.{ne_eqb, ltb-false}
 use Rattle.laws.proofs.Cases.{cond_cases}
 use Rattle.laws.proofs.Lists.{split}
 use Rattle.lines.specs.Lines.{Line, line_feed, on_first, lead, lines_of, whole}
 use Rattle.verdicts.specs.Answer.{first_table, too_long, too_many_rows, most_rows}
-use Rattle.tables.specs.Sizes.{fit, refused_by, sizes_of, feeds}
+use Rattle.units.specs.declared.TableNumber.{TableNumber}
+use Rattle.tables.specs.Sizes.{fit, refused_by, numbered, sizes_of, feeds}
 
 -- a search over the tables, from table t on
 module _ (test : List ℕ → Bool) (texts : List (List ℕ)) (t : ℕ) where
@@ -59,19 +61,37 @@ module _ (texts : List (List ℕ)) (t : ℕ) (h : t < length texts) where
   unfolding too_many_rows
   few e = ltb-false most_rows _ (table_all (λ text. ltb most_rows (length (lines_of text))) 0 texts t e h)
 
+-- the place that a search found, as a table's number
+pub found_number : (t : ℕ) {n : ℕ} → t + 1 ≡ n → Some (record { 0 = t + 1 }) ≡ numbered n
+found_number t {n = zero} e = absurd (omega arith)
+found_number t {n = suc n} e = rw e
+
+number_is : (n : ℕ) {table : TableNumber} → numbered n ≡ Some table → n ≡ table.0 × eqb n 0 ≡ false
+number_is zero e = cc
+number_is (suc n) e = (ap (λ (x : Option TableNumber). number_or x) e, ne_eqb (suc n) 0 (λ z. omega arith))
+  where
+    number_or : Option TableNumber → ℕ
+    number_or (Some t) = t.0
+    number_or None = 0
+
+no_number : (n : ℕ) → numbered n ≡ None → n ≡ 0
+no_number zero e = refl
+no_number (suc n) e = cc
+
 -- refusals 1 and 2 by the searches
 module _ (texts : List (List ℕ)) where
-  pub sizes_long : {n : ℕ} → n ≡ too_long texts → (n ≡ 0 → ⊥) → refused_by 1 n ≡ sizes_of texts
+  pub sizes_long : {table : TableNumber} → numbered (too_long texts) ≡ Some table → refused_by 1 table.0 ≡ sizes_of texts
   unfolding sizes_of
-  sizes_long {n} e h = rw (← e, ne_eqb n 0 h)
+  sizes_long e = let n = number_is (too_long texts) e in rw (← n.0, n.1)
 
-  pub sizes_many : {n m : ℕ} → n ≡ too_long texts → n ≡ 0 → m ≡ too_many_rows texts → (m ≡ 0 → ⊥) → refused_by 2 m ≡ sizes_of texts
+  pub sizes_many : {table : TableNumber} → numbered (too_long texts) ≡ None → numbered (too_many_rows texts) ≡ Some table
+      → refused_by 2 table.0 ≡ sizes_of texts
   unfolding sizes_of
-  sizes_many {n} {m} e z p h = rw (← e, ← p, eq-eqb n 0 z, ne_eqb m 0 h)
+  sizes_many z e = let n = number_is (too_many_rows texts) e in rw (no_number (too_long texts) z, ← n.0, n.1)
 
-  pub sizes_fit : {n m : ℕ} → n ≡ too_long texts → n ≡ 0 → m ≡ too_many_rows texts → m ≡ 0 → fit ≡ sizes_of texts
+  pub sizes_fit : numbered (too_long texts) ≡ None → numbered (too_many_rows texts) ≡ None → fit ≡ sizes_of texts
   unfolding sizes_of
-  sizes_fit {n} {m} e z p h = rw (← e, ← p, eq-eqb n 0 z, eq-eqb m 0 h)
+  sizes_fit z e = rw (no_number (too_long texts) z, no_number (too_many_rows texts) e)
 
 -- Rows by their line feeds
 

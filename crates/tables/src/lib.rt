@@ -5,10 +5,12 @@ ghost use Rattle.std.specs.Prelude.{◌≡◌, cond, map, [], eqb, ◌≤◌, �
 ghost use Rattle.lines.specs.Lines.{line_feed, lines_of, whole};
 ghost use Rattle.verdicts.specs.Entries.{table_count, carried_at};
 ghost use Rattle.verdicts.specs.Answer.{too_long, too_many_rows};
-ghost use Rattle.tables.specs.Sizes.{said_sizes, sizes_of, feeds};
+ghost use Rattle.outcomes.specs.Refusals.{refusal_number, refusal_place};
+ghost use Rattle.tables.specs.Sizes.{refused_by, numbered, said_sizes, size_refusal, sizes_of, feeds};
 ghost use Rattle.tables.specs.Parts.{table_in, tables_in};
 
 use lines::columns::part;
+use outcomes::Refusal;
 use schemas::Table;
 use units::TableNumber;
 
@@ -46,12 +48,22 @@ const LINE_FEED: u8 = 10;
 // Line feeds are counted in blocks of so many bytes.
 const BLOCK: usize = 128;
 
-// Whether the tables are of a size that any question takes; else the first that isn't.
+// The first table that is of no size to take.
 #[derive(Clone, Copy)]
-pub enum Sizes {
-    Fit,
+pub enum SizeError {
     TooLong(TableNumber),
     TooManyRows(TableNumber),
+}
+
+impl From<SizeError> for Refusal {
+    ghost from_gives = { λ error refusal. size_refusal error ≡ refused_by (refusal_number refusal) (refusal_place refusal) };
+
+    fn from(error: SizeError) -> Refusal {
+        match error {
+            SizeError::TooLong(table) => Refusal::TableTooLong(table),
+            SizeError::TooManyRows(table) => Refusal::TooManyRows(table),
+        }
+    }
 }
 
 // The bytes of the table with this number, from 0; there are none past the last.
@@ -113,10 +125,8 @@ fn feeds_in(block: &[u8]) -> u8
     ensures { result ≡ feeds block.now }
 {
     let mut n: u8 = 0;
-    let mut i: usize = 0;
-    while i < block.len() {
+    for i in 0..block.len() {
         n += feed(block[i]);
-        i += 1;
     }
     n
 }
@@ -149,47 +159,41 @@ pub fn row_count(table: &[u8]) -> usize
     n + 1
 }
 
-// The first table that is too long, from 1; 0 where none is.
-fn too_long(tables: [&[u8]; TABLES]) -> usize
-    ensures { result ≡ too_long (map (λ x. x.now) tables.entry) }
+// The first table that is too long.
+fn too_long(tables: [&[u8]; TABLES]) -> Option<TableNumber>
+    ensures { result ≡ numbered (too_long (map (λ x. x.now) tables.entry)) }
 {
-    let mut t: usize = 0;
-    while t < TABLES {
+    for t in 0..TABLES {
         let table = table_at(tables, t);
         if MOST_BYTES < table.len() {
-            return t + 1;
+            return Some(TableNumber(t + 1));
         }
-        t += 1;
     }
-    0
+    None
 }
 
 // And the first that has too many rows.
-fn too_many_rows(tables: [&[u8]; TABLES]) -> usize
-    ensures { result ≡ too_many_rows (map (λ x. x.now) tables.entry) }
+fn too_many_rows(tables: [&[u8]; TABLES]) -> Option<TableNumber>
+    ensures { result ≡ numbered (too_many_rows (map (λ x. x.now) tables.entry)) }
 {
-    let mut t: usize = 0;
-    while t < TABLES {
+    for t in 0..TABLES {
         let n = row_count(table_at(tables, t));
         if MOST_ROWS < n {
-            return t + 1;
+            return Some(TableNumber(t + 1));
         }
-        t += 1;
     }
-    0
+    None
 }
 
 // Refusals 1 and 2 of any call with tables.
-pub fn check_sizes(tables: [&[u8]; TABLES]) -> Sizes
+pub fn check_sizes(tables: [&[u8]; TABLES]) -> Result<(), SizeError>
     ensures { said_sizes result ≡ sizes_of (map (λ x. x.now) tables.entry) }
 {
-    let long = too_long(tables);
-    if long != 0 {
-        return Sizes::TooLong(TableNumber(long));
+    if let Some(table) = too_long(tables) {
+        return Err(SizeError::TooLong(table));
     }
-    let many = too_many_rows(tables);
-    if many != 0 {
-        return Sizes::TooManyRows(TableNumber(many));
+    if let Some(table) = too_many_rows(tables) {
+        return Err(SizeError::TooManyRows(table));
     }
-    Sizes::Fit
+    Ok(())
 }

@@ -75,10 +75,8 @@ fn sums(a: [usize; QUESTIONS], b: [usize; QUESTIONS]) -> [usize; QUESTIONS]
     ensures { result ≡ tabulate (λ k. plusOf (get_or a k 0) (get_or b k 0)) 0 question_count }
 {
     let mut asked = [0usize; QUESTIONS];
-    let mut k: usize = 0;
-    while k < QUESTIONS {
+    for k in 0..QUESTIONS {
         asked[k] = sum(a, b, k);
-        k += 1;
     }
     asked
 }

@@ -8,13 +8,11 @@ use crate::Telling;
 fn write(answer: &mut [i64; 8], these: [i64; 8], n: usize)
     ensures { answer.new ≡ written answer.old (take n these) }
 {
-    let mut i: usize = 0;
-    while i < 8 {
+    for i in 0..8 {
         if n <= i {
             return;
         }
         answer[i] = these[i];
-        i += 1;
     }
 }
 

@@ -3,6 +3,8 @@ use mathlib.Core.Path.{◌≡◌, refl, ap}
 use mathlib.Core.Bool.{Bool, true, false, cond}
 use mathlib.Core.List.{List, [], ◌∷◌, map}
 use mathlib.Core.Option.{Option, none, some}
+use Rattle.std.specs.Prelude.{Some, None}
+use Rattle.std.specs.Prelude as rust
 use Prim.Native.Nat.{ℕ, zero, suc}
 use native.Mathlib.Omega.{arith}
 use lib.IntN.{ℤ}
@@ -14,8 +16,6 @@ use Rattle.string_fields.specs.Text.{part_at}
 use Rattle.verdicts.specs.Key.{texts}
 use Rattle.verdicts.specs.Places.{text_at}
 use Rattle.calibration.specs.Nearest.{not_above}
-use Rattle.calibration.specs.declared.nearest.Found.{Found}
-use Rattle.calibration.specs.declared.nearest.Found.TheVariants.{At, Nothing}
 use Rattle.outcomes.specs.Outcome.{answer, refused}
 use Rattle.database.specs.Rows.{Row}
 use Rattle.database.specs.Arrays.{Database, row_at, keyed_by, first_column, group_places, answers}
@@ -55,10 +55,10 @@ module _ (tables : List (List ℕ)) (columns places : List ℕ) (raw : ℤ) {t :
       reached true e = absurd (let z : ◌≡◌ {A = ℕ} 0 1 = cc in omega arith)
       reached false e = cc
 
-  of_found : (f : Found) → text_in (found_in (map (row_at tables columns) places) f) raw ≡ answer t → Names tables (map (row_at tables columns) places) t
+  of_found : (f : rust.Option ℕ) → text_in (found_in (map (row_at tables columns) places) f) raw ≡ answer t → Names tables (map (row_at tables columns) places) t
   unfolding found_in text_in
-  of_found Nothing e = absurd (let z : ◌≡◌ {A = ℕ} 0 1 = cc in omega arith)
-  of_found (At i) e = by (get_elem? (map (row_at tables columns) places) i) refl e
+  of_found None e = absurd (let z : ◌≡◌ {A = ℕ} 0 1 = cc in omega arith)
+  of_found (Some i) e = by (get_elem? (map (row_at tables columns) places) i) refl e
     where
       by : (o : Option Row) → get_elem? (map (row_at tables columns) places) i ≡ o → text_in o raw ≡ answer t → Names tables (map (row_at tables columns) places) t
       by none q e = absurd (let z : ◌≡◌ {A = ℕ} 0 1 = cc in omega arith)

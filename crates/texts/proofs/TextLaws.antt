@@ -3,6 +3,7 @@ use mathlib.Core.Path.{◌≡◌, ap, subst}
 use mathlib.Core.Bool.{true, false}
 use mathlib.Core.List.{List, map}
 use mathlib.Core.Option.{some}
+use Rattle.std.specs.Prelude.{Some, None}
 use Prim.Native.Nat.{ℕ, ◌+◌, ◌-◌, ◌≤◌, ◌<◌}
 use native.Mathlib.Omega.{arith}
 use lib.IntN.{ℤ}
@@ -13,7 +14,6 @@ use Rattle.decoding.specs.Records.{txp_row}
 use Rattle.rows.specs.declared.records.TxpRow.{TxpRow}
 use Rattle.verdicts.specs.Key.{texts}
 use Rattle.calibration.specs.Nearest.{not_above}
-use Rattle.calibration.specs.declared.nearest.Found.TheVariants.{At, Nothing}
 use Rattle.calibration.specs.declared.nearest.Side.TheVariants.{NotAbove}
 use Rattle.calibration.proofs.NearestOf.{Nearest, not_above_nearest}
 use Rattle.outcomes.specs.Outcome.{answer, refused}
@@ -42,17 +42,17 @@ module _ (row : Row) {range : TxpRow} (read : range ≡ txp_row row.bytes) where
 
 -- the text of a raw value, by what is found among the FROM of its rows
 module _ (rows : Rows) (name : CurveName) (raw : ℤ) where
-  pub text_none : not_above (map from_of (rows.members (texts name))) raw ≡ Nothing → refused 32 0 ≡ text_for rows name raw
+  pub text_none : not_above (map from_of (rows.members (texts name))) raw ≡ None → refused 32 0 ≡ text_for rows name raw
   unfolding text_for text_in found_in
   text_none e = rw e
 
-  pub text_some : {i : ℕ} {row : Row} {z : ℤ} → not_above (map from_of (rows.members (texts name))) raw ≡ At i
+  pub text_some : {i : ℕ} {row : Row} {z : ℤ} → not_above (map from_of (rows.members (texts name))) raw ≡ Some i
       → get_elem? (rows.members (texts name)) i ≡ some row → z ≡ raw
       → text_in (some row) z ≡ text_for rows name raw
   unfolding text_for found_in
   text_some e r q = rw (e, r, q)
 
 -- what is found among the first n
-pub found_below : (xs : List ℤ) (v : ℤ) (n : ℕ) {i : ℕ} → n ≤ length xs → not_above (take n xs) v ≡ At i → i < n
+pub found_below : (xs : List ℤ) (v : ℤ) (n : ℕ) {i : ℕ} → n ≤ length xs → not_above (take n xs) v ≡ Some i → i < n
 found_below xs v n h e =
     omega (arith, (subst (Nearest NotAbove (take n xs) v (length (take n xs))) e (not_above_nearest (take n xs) v)).0, length-take n xs)

@@ -1,5 +1,6 @@
 -- The text of a raw value.
-use Rattle.std.specs.Prelude.{ℕ, ◌+◌, ◌-◌, ◌≡◌, refl, cond, List, [], ◌∷◌, ◌++◌, map, ℤ, pos}
+use Rattle.std.specs.Prelude.{ℕ, ◌+◌, ◌-◌, ◌≡◌, refl, cond, List, [], ◌∷◌, ◌++◌, map, ℤ, pos, Some, None, Result, Ok, Err}
+use Rattle.std.specs.Prelude as rust
 use Rattle.std.proofs.Math.Option.{Option, none, some}
 use Rattle.std.proofs.Math.ListN.{get_elem?}
 use Rattle.std.specs.Int.Signed.{lt_z}
@@ -14,14 +15,12 @@ use Rattle.rows.specs.declared.records.TxpRow.{TxpRow}
 use Rattle.verdicts.specs.Key.{key_words, same_key, texts}
 use Rattle.verdicts.specs.Facts.{txp_facts, facts_of}
 use Rattle.calibration.specs.Nearest.{passes, nearer, closer, better, nearest_of, not_above}
-use Rattle.calibration.specs.declared.nearest.Found.{Found}
-use Rattle.calibration.specs.declared.nearest.Found.TheVariants.{At, Nothing}
 use Rattle.outcomes.specs.Outcome.{Outcome, answer, refused}
 use Rattle.outcomes.specs.Refusals.{refused_by}
 use Rattle.database.specs.Rows.{Row, Rows}
 use Rattle.database.specs.GoodRows.{is_in_group, among}
-use Rattle.texts.specs.declared.TextResult.{TextResult}
-use Rattle.texts.specs.declared.TextResult.TheVariants.{Is, Refused}
+use Rattle.outcomes.specs.declared.Refusal.{Refusal}
+use Rattle.texts.specs.declared.Text as code
 
 -- a text by its txp row, the place of ALTXT in that table, and how many bytes it has
 pub record Text : Type 0 where
@@ -41,9 +40,9 @@ altxt_of row =
     let line : TxpRow = txp_row row.bytes in record { row = row.number; start = row.start + line.start; bytes = line.end - line.start }
 
 -- the row that was found
-unfoldable pub found_in : List Row → Found → Option Row
-found_in ranges Nothing = none
-found_in ranges (At i) = get_elem? ranges i
+unfoldable pub found_in : List Row → rust.Option ℕ → Option Row
+found_in ranges None = none
+found_in ranges (Some i) = get_elem? ranges i
 
 -- 01: "if TO isn't below it"; "32 … no text"
 unfoldable pub text_in : Option Row → ℤ → Outcome Text
@@ -55,9 +54,9 @@ unfoldable pub text_for : Rows → CurveName → ℤ → Outcome Text
 text_for rows name raw = let ranges : List Row = rows.members (texts name) in text_in (found_in ranges (not_above (map from_of ranges) raw)) raw
 
 -- 01's number and values of each case
-unfoldable pub said_text : TextResult → Outcome Text
-said_text (Is row from bytes) = answer (record { row = row.0; start = from.0; bytes = bytes })
-said_text (Refused refusal) = refused_by refusal
+unfoldable pub said_text : Result code.Text Refusal → Outcome Text
+said_text (Ok t) = answer (record { row = t.row.0; start = t.start.0; bytes = t.bytes })
+said_text (Err refusal) = refused_by refusal
 
 -- the texts X, from 0 to 100, and Y, from 10 to 20, of the name A
 abbrev two : Rows

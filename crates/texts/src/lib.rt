@@ -8,7 +8,7 @@ ghost use Rattle.string_fields.specs.Text.{part_at};
 ghost use Rattle.database.specs.Arrays.{database, row_at, answers};
 ghost use Rattle.texts.specs.Texts.{from_of, text_in, text_for, said_text};
 
-use calibration::nearest::{Found, not_above};
+use calibration::nearest::not_above;
 use curves::ints::less;
 use database::{MOST_MEMBERS, list_members, number_of, start_of};
 use found_rows::txp_at;
@@ -19,25 +19,35 @@ use string_fields::string_part;
 use tables::TABLES;
 use units::{ByteOffset, RowNumber, TableOffset};
 
-// A text as its txp row, and ALTXT's place in that table and its length; or why there is none.
+// A text as its txp row, and ALTXT's place in that table and its length.
 // `text_part` hands back the bytes of such a text.
 #[derive(Clone, Copy)]
-pub enum TextResult {
-    Is(RowNumber, TableOffset, usize),
-    Refused(Refusal),
+pub struct Text {
+    pub row: RowNumber,
+    pub start: TableOffset,
+    pub bytes: usize,
 }
 
 // ALTXT of the row at a place, where TO isn't below the raw value.
-fn text_of(tables: [&[u8]; TABLES], columns: &[u16], place: usize, raw: i64) -> TextResult
+fn text_of(
+    tables: [&[u8]; TABLES],
+    columns: &[u16],
+    place: usize,
+    raw: i64,
+) -> Result<Text, Refusal>
     ensures { said_text result ≡ text_in (some (row_at (map (λ x. x.now) tables.entry) columns.now place)) raw }
 {
     let row = txp_at(tables, columns, place);
     let to = row.to;
     if less(to, raw) {
-        return TextResult::Refused(Refusal::NoText);
+        return Err(Refusal::NoText);
     }
-    let from = TableOffset(start_of(columns, place) + row.start);
-    TextResult::Is(number_of(columns, place), from, row.end - row.start)
+    let start = TableOffset(start_of(columns, place) + row.start);
+    Ok(Text {
+        row: number_of(columns, place),
+        start,
+        bytes: row.end - row.start,
+    })
 }
 
 // FROM of the rows at these places.
@@ -51,13 +61,11 @@ fn fill_froms(
     ensures { froms.new ≡ sets froms.old 0
         (map (λ i. from_of (row_at (map (λ x. x.now) tables.entry) columns.now i)) places.now) }
 {
-    let mut i: usize = 0;
-    while i < places.len() {
+    for i in 0..places.len() {
         let place = places[i];
         let row = txp_at(tables, columns, place);
         let from = row.from;
         froms[i] = from;
-        i += 1;
     }
 }
 
@@ -69,7 +77,7 @@ pub fn text_value(
     columns: &[u16],
     name: CurveName,
     raw: i64,
-) -> TextResult
+) -> Result<Text, Refusal>
     ensures { said_text result
         ≡ text_for (answers (database (map (λ x. x.now) tables.entry) words.now links.now columns.now)) name raw }
 {
@@ -78,11 +86,11 @@ pub fn text_value(
     let mut froms = [0i64; MOST_MEMBERS];
     fill_froms(tables, columns, &places[..count], &mut froms);
     match not_above(&froms[..count], raw) {
-        Found::At(i) => {
+        Some(i) => {
             let place = places[i];
             text_of(tables, columns, place, raw)
         }
-        Found::Nothing => TextResult::Refused(Refusal::NoText),
+        None => Err(Refusal::NoText),
     }
 }
 

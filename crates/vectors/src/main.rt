@@ -12,7 +12,7 @@ ghost use Rattle.vectors.specs.Files.{unread_file, OfFile};
 use areas::SPACE;
 use files::arguments::{LONGEST, argument, count};
 use files::errors::say_error;
-use files::source::{Got, read_file};
+use files::source::read_file;
 use lines::columns::part;
 use running::run;
 use scripts::verb::QUESTIONS;
@@ -57,7 +57,7 @@ fn ask_into(rt: &(impl Print + Files), name: &[u8], buffer: &mut [u8; MOST_TEXT]
 {
     let text: &mut [u8] = buffer;
     match read_file(rt, name, text) {
-        Got::Bytes(count) => {
+        Ok(Some(count)) => {
             if count < MOST_TEXT {
                 return ask_text(rt, name, part(text, 0, count));
             }
@@ -65,11 +65,11 @@ fn ask_into(rt: &(impl Print + Files), name: &[u8], buffer: &mut [u8; MOST_TEXT]
             words(rt, b": it is too long\n");
             unread_file()
         }
-        Got::Missing => {
+        Ok(None) => {
             say_failed(rt, name, ErrorKind::NotFound);
             unread_file()
         }
-        Got::Failed(error) => {
+        Err(error) => {
             say_failed(rt, name, error);
             unread_file()
         }

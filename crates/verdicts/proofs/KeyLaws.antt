@@ -9,8 +9,7 @@ use lib.ListN.{get_or, drop}
 use Rattle.name_bytes.specs.declared.Name.{Name}
 use Rattle.name_bytes.specs.declared.CurveName.{CurveName}
 use Rattle.name_bytes.proofs.NameLaws.{same_is, same_self}
-use Rattle.rows.specs.declared.records.OptionalApid.{OptionalApid}
-use Rattle.rows.specs.declared.records.OptionalApid.TheVariants.{Only, Any}
+use Rattle.std.specs.Prelude.{Option, Some, None}
 use Rattle.verdicts.specs.Key.{Key, packet, structure, identification, location, parameter, curve, point, texts, range, limits, check, key_words, same_key}
 
 -- Words read back
@@ -26,8 +25,8 @@ abbrev integer_from : ℕ → ℕ → ℤ
 integer_from sign n = cond (eqb sign 0) (pos n) (negsuc n)
 
 -- an APID, where one is given
-abbrev apid_from : ℕ → ℕ → OptionalApid
-apid_from given apid = cond (eqb given 0) Any (Only apid)
+abbrev apid_from : ℕ → ℕ → Option ℕ
+apid_from given apid = cond (eqb given 0) None (Some apid)
 
 -- the key of key space t, in the order of the constructors, that has these words
 abbrev key_from : ℕ → List ℕ → Key
@@ -52,8 +51,8 @@ key_back : (k : Key) → key_of (key_words k) ≡ k
 unfolding key_words
 key_back (packet ptype stype apid pi1 pi2) = refl
 key_back (structure spid) = refl
-key_back (identification ptype stype (Only apid)) = refl
-key_back (identification ptype stype Any) = refl
+key_back (identification ptype stype (Some apid)) = refl
+key_back (identification ptype stype None) = refl
 key_back (location name spid) = refl
 key_back (parameter name) = refl
 key_back (curve numbr) = refl

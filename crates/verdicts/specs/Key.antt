@@ -1,10 +1,8 @@
 -- Keys: what rows are unique by, and what names refer to.
-use Rattle.std.specs.Prelude.{ℕ, Bool, List, [], ◌∷◌, ℤ, pos, negsuc}
+use Rattle.std.specs.Prelude.{ℕ, Bool, List, [], ◌∷◌, ℤ, pos, negsuc, Option, Some, None}
 use Rattle.name_bytes.specs.declared.Name.{Name}
 use Rattle.name_bytes.specs.declared.CurveName.{CurveName}
 use Rattle.name_bytes.specs.Names.{same_bytes}
-use Rattle.rows.specs.declared.records.OptionalApid.{OptionalApid}
-use Rattle.rows.specs.declared.records.OptionalApid.TheVariants.{Only, Any}
 
 -- one constructor for each key space, under the phrase of 01 that lays it down
 pub data Key : Type 0 where
@@ -13,7 +11,7 @@ pub data Key : Type 0 where
   -- pid: "and so is SPID"
   structure : (spid : ℕ) → Key
   -- pic: "Key: TYPE, STYPE, APID; an empty APID is a key of its own"
-  identification : ℕ → ℕ → OptionalApid → Key
+  identification : ℕ → ℕ → Option ℕ → Key
   -- plf: "Key NAME, SPID"
   location : Name → (spid : ℕ) → Key
   -- pcf: "Key NAME"
@@ -43,9 +41,9 @@ abbrev integer_words : ℤ → List ℕ → List ℕ
 integer_words (pos n) more = 0 ∷ n ∷ more
 integer_words (negsuc n) more = 1 ∷ n ∷ more
 
-abbrev apid_words : OptionalApid → List ℕ
-apid_words (Only apid) = 1 ∷ apid ∷ []
-apid_words Any = 0 ∷ []
+abbrev apid_words : Option ℕ → List ℕ
+apid_words (Some apid) = 1 ∷ apid ∷ []
+apid_words None = 0 ∷ []
 
 unfoldable pub key_words : Key → List ℕ
 key_words (packet ptype stype apid pi1 pi2) = 0 ∷ ptype ∷ stype ∷ apid ∷ pi1 ∷ pi2 ∷ []

@@ -1,13 +1,12 @@
 -- The width of a field by its type code and format code: 01's table "Field widths by type".
-use Rattle.std.specs.Prelude.{ℕ, ◌+◌, ◌*◌, ◌≡◌, refl, cond, ◌||◌, ◌&&◌, leb, eqb}
+use Rattle.std.specs.Prelude.{Some, None, ℕ, ◌+◌, ◌*◌, ◌≡◌, refl, cond, ◌||◌, ◌&&◌, leb, eqb}
+use Rattle.std.specs.Prelude as std
 use Rattle.std.proofs.Math.Option.{Option, some, none}
-use Rattle.widths.specs.declared.Width.{Width}
-use Rattle.widths.specs.declared.Width.TheVariants.{Bits, Refused}
 
--- what each case says: a width in bits, or that 01 has no such pair
-unfoldable pub bits_of : Width → Option ℕ
-bits_of (Bits n) = some n
-bits_of Refused = none
+-- what the code's Option says: a width in bits, or that 01 has no such pair
+unfoldable pub bits_of : std.Option ℕ → Option ℕ
+bits_of (Some n) = some n
+bits_of None = none
 
 -- so many bits where n is from lowest to highest
 unfoldable pub bits_within : ℕ → ℕ → ℕ → ℕ → Option ℕ

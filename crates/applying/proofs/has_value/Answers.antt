@@ -7,10 +7,10 @@ use Rattle.readings.specs.Readings.{equals}
 use Rattle.applying.specs.Checks.{has_value}
 use Rattle.applying.proofs.has_value.Goals as goal
 
-pub returns-in-Is : goal.returns-in-Is
+pub returns-in-Ok : goal.returns-in-Ok
 unfolding has_value said_raw
-returns-in-Is c = c.equals.ensures ∙ ap (equals _) (to_z-of_z c.ranges.valpar) ∙ rw c.in-Is.is
+returns-in-Ok c = c.equals.ensures ∙ ap (equals _) (to_z-of_z c.ranges.valpar) ∙ rw c.in-Ok.is
 
-pub returns-in-Refused : goal.returns-in-Refused
+pub returns-in-Err : goal.returns-in-Err
 unfolding has_value said_raw refused_by
-returns-in-Refused c = rw c.in-Refused.is
+returns-in-Err c = rw c.in-Err.is

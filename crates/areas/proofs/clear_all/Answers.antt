@@ -10,9 +10,6 @@ pub loop-t-init : goal.loop-t-init
 unfolding first_cleared
 loop-t-init c = (omega arith, refl, refl)
 
-pub clear-requires : goal.clear-requires
-clear-requires c = tt
-
 pub loop-t-preserved : goal.loop-t-preserved
 unfolding first_cleared
 loop-t-preserved c = (omega arith, c.clear.auto.ends ∙ c.loop-t.invariant.1, c.clear.ensures ∙ rw add-one (ap (λ (e : List ℕ). cleared e c.loop-t.t) c.loop-t.invariant.2))

@@ -1,5 +1,4 @@
 -- The invariant: the first i places are written.
-use Prim.Native.Nat.{◌-◌}
 use Rattle.laws.proofs.Values.{Writing}
 use lib.ListN.{get_or}
 use Rattle.chain_steps.specs.Chains.{no_row}
@@ -8,6 +7,3 @@ use Rattle.base_verdicts.proofs.next_rows.Given as goal
 
 abbrev pub invariant-loop-i : goal.invariant-loop-i
 invariant-loop-i l = Writing (λ k. next_of l.sound (get_or l.codes k 0) (get_or l.found k no_row)) l.n l.initial.next l.next l.i
-
-abbrev pub decreases-loop-i : goal.decreases-loop-i
-decreases-loop-i l = l.n - l.i

@@ -14,12 +14,6 @@ pub loop-t-init : goal.loop-t-init
 unfolding rows_before
 loop-t-init c = (omega arith, omega arith, refl)
 
-pub table_at-requires : goal.table_at-requires
-table_at-requires c = tt
-
-pub row_count-rows-requires : goal.row_count-rows-requires
-row_count-rows-requires c = tt
-
 pub overflow_add-rows : goal.overflow_add-rows
 overflow_add-rows c =
     let few : c.row_count-rows.result ≤ most_rows = let n : length c.args.tables ≡ table_count = search rules in

@@ -12,14 +12,11 @@ pub returns-then-n-gt-TABLES : goal.returns-then-n-gt-TABLES
 returns-then-n-gt-TABLES c = c.none-then-n-gt-TABLES.ensures ∙ no_table _ _ (λ h k. omega arith)
 
 pub fitting-requires : goal.fitting-requires
-fitting-requires c = (sym c.check_sizes.ensures ∙ ap said_sizes c.in-Fit.is, omega arith)
+fitting-requires c = (sym c.check_sizes.ensures ∙ ap said_sizes c.in-Ok.is, omega arith)
 
-pub returns-in-Fit : goal.returns-in-Fit
-returns-in-Fit c = let e = sym c.check_sizes.ensures ∙ ap said_sizes c.in-Fit.is in
+pub returns-in-Ok : goal.returns-in-Ok
+returns-in-Ok c = let e = sym c.check_sizes.ensures ∙ ap said_sizes c.in-Ok.is in
     fitting_cells _ _ _ e (omega arith) (omega arith) c.fitting.ensures.start_value c.fitting.ensures.end_value
 
-pub returns-in-TooLong : goal.returns-in-TooLong
-returns-in-TooLong c = c.none-in-TooLong.ensures ∙ refused_cells _ _ (sym c.check_sizes.ensures ∙ ap said_sizes c.in-TooLong.is)
-
-pub returns-in-TooManyRows : goal.returns-in-TooManyRows
-returns-in-TooManyRows c = c.none-in-TooManyRows.ensures ∙ refused_cells _ _ (sym c.check_sizes.ensures ∙ ap said_sizes c.in-TooManyRows.is)
+pub returns-in-Err : goal.returns-in-Err
+returns-in-Err c = c.none-in-Err.ensures ∙ refused_cells _ _ _ (sym c.check_sizes.ensures ∙ ap said_sizes c.in-Err.is)

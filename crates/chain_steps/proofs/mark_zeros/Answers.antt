@@ -6,12 +6,6 @@ use Rattle.chain_steps.proofs.mark_zeros.Goals as goal
 pub loop-i-init : goal.loop-i-init
 loop-i-init c = write_start _ _ _
 
-pub half_at-cell-requires : goal.half_at-cell-requires
-half_at-cell-requires c = tt
-
-pub put_flag-requires : goal.put_flag-requires
-put_flag-requires c = tt
-
 pub loop-i-preserved : goal.loop-i-preserved
 loop-i-preserved c = write_flag _ _ _ _ _ c.loop-i.invariant _ _ _ c.loop-i-test.true c.put_flag.ensures
     (ap (λ k. eqb k 0) c.half_at-cell.ensures) refl

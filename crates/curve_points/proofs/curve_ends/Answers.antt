@@ -2,23 +2,11 @@
 use Rattle.curve_points.proofs.CurveLaws.{ends_none, ends_polynomial, ends_some}
 use Rattle.curve_points.proofs.curve_ends.Goals as goal
 
-pub curve_key-requires : goal.curve_key-requires
-curve_key-requires c = tt
-
-pub holder_of-at-requires : goal.holder_of-at-requires
-holder_of-at-requires c = tt
-
 pub returns-then-at-eq0 : goal.returns-then-at-eq0
 returns-then-at-eq0 c = ends_none _ _ _ _ _ c.curve_key.ensures c.holder_of-at.ensures.0 c.if-at-eq0.true
 
-pub is_polynomial-requires : goal.is_polynomial-requires
-is_polynomial-requires c = tt
-
 pub returns-then-is_polynomial : goal.returns-then-is_polynomial
 returns-then-is_polynomial c = ends_polynomial _ _ _ _ _ c.curve_key.ensures c.holder_of-at.ensures.0 c.if-at-eq0.false c.is_polynomial.ensures c.if-is_polynomial.true
-
-pub caf_at-row-requires : goal.caf_at-row-requires
-caf_at-row-requires c = tt
 
 pub returns : goal.returns
 returns c = ends_some _ _ _ _ _ c.curve_key.ensures c.holder_of-at.ensures.0 c.if-at-eq0.false c.is_polynomial.ensures c.if-is_polynomial.false

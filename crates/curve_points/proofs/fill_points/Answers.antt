@@ -11,9 +11,6 @@ use Rattle.curve_points.proofs.fill_points.Goals as goal
 pub loop-i-init : goal.loop-i-init
 loop-i-init c = (omega arith, fill_start _ _ _, fill_start _ _ _)
 
-pub cap_at-row-requires : goal.cap_at-row-requires
-cap_at-row-requires c = tt
-
 pub loop-i-preserved : goal.loop-i-preserved
 loop-i-preserved c =
     let x-word : (to_z w64 (of_z w64 c.cap_at-row.result.xvals) ≡ c.cap_at-row.result.xvals) = let f : SFits w64 c.cap_at-row.result.xvals = search rules in

@@ -1,6 +1,6 @@
 -- The invariant: with the rows left, the arrays are as they are with all of them.
 use mathlib.Core.List.{map}
-use Prim.Native.Nat.{◌-◌, ◌≤◌}
+use Prim.Native.Nat.{◌≤◌}
 use lib.ListN.{length}
 use Rattle.database.specs.Arrays.{row_at}
 use Rattle.curve_points.specs.Curves.{xvals_of, yvals_of}
@@ -12,6 +12,3 @@ invariant-loop-i l =
     (l.i ≤ length l.places)
     × Filling (λ p. xvals_of (row_at (map (λ x. x.now) l.tables) l.columns p)) l.places l.initial.xs l.xs l.i
     × Filling (λ p. yvals_of (row_at (map (λ x. x.now) l.tables) l.columns p)) l.places l.initial.ys l.ys l.i
-
-abbrev pub decreases-loop-i : goal.decreases-loop-i
-decreases-loop-i l = length l.places - l.i

@@ -7,12 +7,6 @@ use Rattle.database.proofs.GatherLaws.{Listed, listed, listed_room, listed_part,
 use Rattle.curve_points.proofs.CurveLaws.{points_are}
 use Rattle.curve_points.proofs.gather_points.Goals as goal
 
-pub curve_key-requires : goal.curve_key-requires
-curve_key-requires c = tt
-
-pub list_members-count-requires : goal.list_members-count-requires
-list_members-count-requires c = tt
-
 pub slice_bounds-places-end : goal.slice_bounds-places-end
 slice_bounds-places-end c =
     let points : (Listed (map (λ x. x.now) c.args.tables) c.args.words.now c.args.links.now c.args.columns.now (curve c.args.name) c.list_members-count.new.places c.list_members-count.result) = listed _ _ _ _ _ c.curve_key.ensures (c.list_members-count.ensures.value, (c.list_members-count.ensures.places_after, c.list_members-count.ensures.upper_bound)) in
@@ -27,9 +21,6 @@ pub fill_points-requires : goal.fill_points-requires
 fill_points-requires c =
     let points : (Listed (map (λ x. x.now) c.args.tables) c.args.words.now c.args.links.now c.args.columns.now (curve c.args.name) c.list_members-count.new.places c.list_members-count.result) = listed _ _ _ _ _ c.curve_key.ensures (c.list_members-count.ensures.value, (c.list_members-count.ensures.places_after, c.list_members-count.ensures.upper_bound)) in
     let l = points in omega (arith, listed_part l, l.few)
-
-pub curve_ends-ends-requires : goal.curve_ends-ends-requires
-curve_ends-ends-requires c = tt
 
 pub returns : goal.returns
 returns c =

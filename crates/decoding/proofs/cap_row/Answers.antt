@@ -2,15 +2,6 @@
 use Rattle.laws.proofs.Words.{kept}
 use Rattle.decoding.proofs.cap_row.Goals as goal
 
-pub curve_at-requires : goal.curve_at-requires
-curve_at-requires c = tt
-
-pub integer_at-requires : goal.integer_at-requires
-integer_at-requires c = tt
-
-pub integer_at-requires-2 : goal.integer_at-requires-2
-integer_at-requires-2 c = tt
-
 pub returns : goal.returns
 returns c = λ i. record {
   numbr = c.curve_at.ensures i;

@@ -26,9 +26,6 @@ loop-i-preserved-then-raw-i-eq32 c = let l = c.loop-i in
       ap (joined (take l.n l.out)) (sym (blank_here raw l.i (omega arith) c.if-raw-i-eq32.true)) ∙ l.invariant.4,
     )
 
-pub byte_at-byte-requires : goal.byte_at-byte-requires
-byte_at-byte-requires c = tt
-
 pub returns-then-byte-gt255 : goal.returns-then-byte-gt255
 unfolding read_in
 returns-then-byte-gt255 c = let l = c.loop-i in

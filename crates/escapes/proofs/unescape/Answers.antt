@@ -16,9 +16,6 @@ returns-then-out-raw c = record { out_after = sym (fits_not _ _ _ (omega arith))
 pub loop-i-init : goal.loop-i-init
 loop-i-init c = (omega arith, omega arith, refl, omega arith, joined_first _)
 
-pub byte_at-byte-requires : goal.byte_at-byte-requires
-byte_at-byte-requires c = tt
-
 pub returns-then-byte-gt255 : goal.returns-then-byte-gt255
 unfolding read_in
 returns-then-byte-gt255 c = let l = c.loop-i in
@@ -45,9 +42,6 @@ loop-i-preserved-then-c-eq92 c = let l = c.loop-i in
       l.invariant.3,
       sym (joined_more l.out l.n _ _ (omega arith)) ∙ ap (joined (take l.n l.out)) (sym p) ∙ l.invariant.4,
     )
-
-pub plain-requires : goal.plain-requires
-plain-requires c = tt
 
 pub loop-i-preserved : goal.loop-i-preserved
 loop-i-preserved c = let l = c.loop-i in

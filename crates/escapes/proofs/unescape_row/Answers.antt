@@ -3,7 +3,7 @@ use mathlib.Core.List.{List}
 use Prim.Native.Nat.{ℕ}
 use lib.ListN.{length}
 use Rattle.escapes.specs.Escapes.{unescaped, where_room, NoMoreThan, ended_row}
-use Rattle.escapes.specs.declared.Bytes.TheVariants.{Are}
+use Rattle.std.specs.Prelude.{Some}
 use Rattle.escapes.proofs.EscapeLaws.{open-some, open-read, ended_read}
 use mathlib.Core.Path.{sym, ◌∙◌, ap}
 use native.Mathlib.Omega.{arith}
@@ -22,16 +22,17 @@ pub returns-then-is_open : goal.returns-then-is_open
 returns-then-is_open c = c.unescape.ensures.out_after ∙ ap (λ (l : List ℕ). where_room (length c.args.out.now) l (unescaped l)) c.part.ensures
     ∙ open-read (length c.args.out.now) c.args.raw.now (omega arith) (sym c.is_open.ensures ∙ c.if-is_open.true)
 
+pub returns-in_err-n : goal.returns-in_err-n
+unfolding read_in ended_row
+returns-in_err-n c = let e = rw c.in_err-n.was at c.unescape-2.ensures.out_after in
+    rw c.from_residual.ensures
+    (ended_read (length c.args.out.now) c.args.raw.now (omega arith) (sym c.is_open.ensures ∙ c.if-is_open.false) e)
+
 pub end_row-requires : goal.end_row-requires
-end_row-requires c = let g : NoMoreThan (Are c.in-Are.n) (length c.args.raw.now) = rw c.in-Are.is at c.unescape-2.ensures.no_more_than in
+end_row-requires c = let g : NoMoreThan (Some c.in_ok-n.n) (length c.args.raw.now) = rw c.in_ok-n.was at c.unescape-2.ensures.no_more_than in
     omega (arith, g)
 
-pub returns-in-Are : goal.returns-in-Are
+pub returns : goal.returns
 unfolding read_in
-returns-in-Are c = let e = rw c.in-Are.is at c.unescape-2.ensures.out_after in
+returns c = let e = rw c.in_ok-n.was at c.unescape-2.ensures.out_after in
     c.end_row.ensures ∙ ended_read (length c.args.out.now) c.args.raw.now (omega arith) (sym c.is_open.ensures ∙ c.if-is_open.false) e
-
-pub returns-in-Unread : goal.returns-in-Unread
-unfolding read_in ended_row
-returns-in-Unread c = let e = rw c.in-Unread.is at c.unescape-2.ensures.out_after in
-    ended_read (length c.args.out.now) c.args.raw.now (omega arith) (sym c.is_open.ensures ∙ c.if-is_open.false) e

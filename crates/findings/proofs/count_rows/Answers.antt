@@ -4,24 +4,6 @@ use Rattle.findings.proofs.count_rows.Goals as goal
 pub loop-i-init : goal.loop-i-init
 loop-i-init c = write_start _ _ _
 
-pub half_at-id-requires : goal.half_at-id-requires
-half_at-id-requires c = tt
-
-pub half_at-tally-requires : goal.half_at-tally-requires
-half_at-tally-requires c = tt
-
-pub byte_at-requires : goal.byte_at-requires
-byte_at-requires c = tt
-
-pub half_at-requires : goal.half_at-requires
-half_at-requires c = tt
-
-pub count_of-cell-requires : goal.count_of-cell-requires
-count_of-cell-requires c = tt
-
-pub put_half-requires : goal.put_half-requires
-put_half-requires c = tt
-
 pub loop-i-preserved : goal.loop-i-preserved
 loop-i-preserved c = write_put _ _ _ _ _ c.loop-i.invariant _ _ c.loop-i-test.true c.put_half.ensures
     (rw (

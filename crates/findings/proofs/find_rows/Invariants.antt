@@ -1,5 +1,4 @@
 -- The invariant: the first i places are written.
-use Prim.Native.Nat.{◌-◌}
 use Rattle.laws.proofs.Values.{Writing}
 use Rattle.passes.specs.Marked.{under}
 use Rattle.findings.specs.Found.{row_linked}
@@ -7,6 +6,3 @@ use Rattle.findings.proofs.find_rows.Given as goal
 
 abbrev pub invariant-loop-i : goal.invariant-loop-i
 invariant-loop-i l = Writing (λ k. row_linked (under l.holders l.names k)) l.n l.initial.found l.found l.i
-
-abbrev pub decreases-loop-i : goal.decreases-loop-i
-decreases-loop-i l = l.n - l.i

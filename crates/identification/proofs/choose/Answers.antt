@@ -25,4 +25,4 @@ unfolding said_identified
 returns c =
     let fit : ((c.packet_key-asked.result.key ≡ symbol_of (packet_of c.args.numbers)) × (key_fits (packet_of c.args.numbers) ≡ true)) = let t = not-false _ c.if-not-asked.false in (c.packet_key-asked.ensures.1 t, sym c.packet_key-asked.ensures.0 ∙ t) in
     choice_some _ _ (holder_some _ _ _ _ _ _ fit.0 fit.1 _ c.holder_of-at.ensures.0 c.if-at-eq0.false)
-    (c.number_of.ensures ∙ number_alone _ _ _) c.spid_at-spid.ensures
+    (c.number_of-row.ensures ∙ number_alone _ _ _) c.spid_at-spid.ensures

@@ -1,9 +1,10 @@
 -- By the field's case.
-use Rattle.identifiers.specs.Identifiers.{said_field, identifier_at}
+use Rattle.identifiers.specs.Identifiers.{identifier_at}
+use Rattle.outcomes.specs.Refusals.{said}
 use Rattle.identifiers.proofs.read_field.Goals as goal
 
 pub returns-in-Unused : goal.returns-in-Unused
-unfolding said_field identifier_at
+unfolding said identifier_at
 returns-in-Unused c = rw c.in-Unused.is
 
 pub returns-in-At : goal.returns-in-At

@@ -7,11 +7,11 @@ use Rattle.import.proofs.import_kept.Goals as goal
 
 pub returns-then-cells-n : goal.returns-then-cells-n
 unfolding AnswersBy
-returns-then-cells-n c = (omega arith, refl, refl)
+returns-then-cells-n c = (refl, omega arith, refl, refl)
 
 pub returns-then-positions-n : goal.returns-then-positions-n
 unfolding AnswersBy
-returns-then-positions-n c = (omega arith, refl, refl)
+returns-then-positions-n c = (refl, omega arith, refl, refl)
 
 pub slice_bounds-good_rows-end-2 : goal.slice_bounds-good_rows-end-2
 slice_bounds-good_rows-end-2 c = sym (length-take-le _ _ (omega arith))

@@ -2,9 +2,6 @@
 use Rattle.index_columns.proofs.ColumnLaws.{all_put}
 use Rattle.index_columns.proofs.put_index.Goals as goal
 
-pub placed-rows-requires : goal.placed-rows-requires
-placed-rows-requires c = tt
-
 pub returns : goal.returns
 returns c = rw (← c.placed-rows.ensures)
     (all_put c.args.columns.now c.args.tables.now c.args.holders.now c.args.firsts.now c.args.nexts.now c.placed-rows.result _ _ _ _ _

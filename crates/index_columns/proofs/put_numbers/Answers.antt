@@ -9,15 +9,6 @@ pub loop-i-init : goal.loop-i-init
 unfolding row_number_at
 loop-i-init c = (put_start _ _ _ _, refl, omega arith)
 
-pub put_half-requires : goal.put_half-requires
-put_half-requires c = tt
-
-pub byte_at-requires : goal.byte_at-requires
-byte_at-requires c = tt
-
-pub byte_at-requires-in-loop-i : goal.byte_at-requires-in-loop-i
-byte_at-requires-in-loop-i c = tt
-
 pub loop-i-preserved : goal.loop-i-preserved
 loop-i-preserved c = (
   put_next _ _ _ _ _ _ c.loop-i.invariant.0 _ _ c.loop-i-test.true c.put_half.ensures c.loop-i.invariant.1,

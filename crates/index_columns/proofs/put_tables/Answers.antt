@@ -5,15 +5,6 @@ use Rattle.index_columns.proofs.put_tables.Goals as goal
 pub loop-i-init : goal.loop-i-init
 loop-i-init c = put_start _ _ _ _
 
-pub byte_at-requires : goal.byte_at-requires
-byte_at-requires c = tt
-
-pub wide-requires : goal.wide-requires
-wide-requires c = tt
-
-pub put_half-requires : goal.put_half-requires
-put_half-requires c = tt
-
 pub loop-i-preserved : goal.loop-i-preserved
 loop-i-preserved c = put_next _ _ _ _ _ _ c.loop-i.invariant _ _ c.loop-i-test.true c.put_half.ensures
     (c.wide.ensures ∙ c.byte_at.ensures)

@@ -2,11 +2,7 @@
 use Rattle.index_columns.proofs.PutLaws.{Putting}
 use Rattle.database.specs.Arrays.{table_column}
 use lib.ListN.{get_or}
-use Prim.Native.Nat.{◌-◌}
 use Rattle.index_columns.proofs.put_tables.Given as goal
 
 abbrev pub invariant-loop-i : goal.invariant-loop-i
 invariant-loop-i l = Putting (λ k. get_or l.tables k 0) table_column l.n l.initial.columns l.columns l.i
-
-abbrev pub decreases-loop-i : goal.decreases-loop-i
-decreases-loop-i l = l.n - l.i

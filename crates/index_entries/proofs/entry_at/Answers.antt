@@ -1,9 +1,9 @@
--- A packet, or no row.
-use Rattle.index_entries.proofs.EntryLaws.{is_entry, no_entry_lem}
+-- A row of a table, or none.
+use Rattle.index_entries.proofs.EntryLaws.{row_taken, row_left}
 use Rattle.index_entries.proofs.entry_at.Goals as goal
 
-pub returns-in-Is : goal.returns-in-Is
-returns-in-Is c = is_entry _ _ c.packet_at-found.ensures c.in-Is.is c.is_row-packet.ensures
+pub returns-then-is_row : goal.returns-then-is_row
+returns-then-is_row c = row_taken _ _ c.packet_at-found.ensures c.is_row.ensures c.if-is_row.true
 
-pub returns-in-NoRow : goal.returns-in-NoRow
-returns-in-NoRow c = no_entry_lem _ _ c.packet_at-found.ensures c.in-NoRow.is
+pub returns : goal.returns
+returns c = row_left _ _ _ c.packet_at-found.ensures c.is_row.ensures c.if-is_row.false

@@ -7,12 +7,12 @@ use Rattle.index_questions.proofs.IndexReplyLaws.{entries_fit}
 use Rattle.index_questions.proofs.index_lent.Goals as goal
 
 pub index_first-requires : goal.index_first-requires
-index_first-requires c = omega (arith, entries_fit _ _ (sym c.entries_lent.ensures ∙ c.in-Is.is))
+index_first-requires c = omega (arith, entries_fit _ _ (sym c.entries_lent.ensures ∙ c.in-Some.is))
 
-pub returns-in-Is : goal.returns-in-Is
+pub returns-in-Some : goal.returns-in-Some
 unfolding index_in
-returns-in-Is c = c.index_first.ensures ∙ by_natural_lem _ _ c.in-Is.room (sym c.entries_lent.ensures ∙ c.in-Is.is)
+returns-in-Some c = c.index_first.ensures ∙ by_natural_lem _ _ c.in-Some.room (sym c.entries_lent.ensures ∙ c.in-Some.is)
 
-pub returns-in-Unread : goal.returns-in-Unread
+pub returns-in-None : goal.returns-in-None
 unfolding index_in
-returns-in-Unread c = c.unread.ensures ∙ by_unread _ _ (sym c.entries_lent.ensures ∙ c.in-Unread.is)
+returns-in-None c = c.unread.ensures ∙ by_unread _ _ (sym c.entries_lent.ensures ∙ c.in-None.is)

@@ -1,18 +1,18 @@
 -- Case by case.
 use Rattle.outcomes.specs.Refusals.{refused_by}
-use Rattle.searching.specs.Search.{said_search}
+use Rattle.searching.specs.Search.{identity_in, said_search}
 use Rattle.replies.specs.Replies.{reply_of}
 use Rattle.index_questions.specs.IndexReplies.{found_answer, compared_answer}
 use Rattle.index_questions.proofs.say_search.Goals as goal
 
-pub returns-in-Is : goal.returns-in-Is
-unfolding reply_of compared_answer found_answer said_search
-returns-in-Is c = rw c.in-Is.is c.says.ensures
+pub returns-in-Some : goal.returns-in-Some
+unfolding reply_of compared_answer found_answer identity_in said_search
+returns-in-Some c = rw (c.in-Ok.is, c.in-Some.is) c.says.ensures
 
-pub returns-in-NoPidRow : goal.returns-in-NoPidRow
-unfolding reply_of compared_answer found_answer said_search
-returns-in-NoPidRow c = rw c.in-NoPidRow.is c.says-in-NoPidRow.ensures
+pub returns-in-None : goal.returns-in-None
+unfolding reply_of compared_answer found_answer identity_in said_search
+returns-in-None c = rw (c.in-Ok.is, c.in-None.is) c.says-in-None.ensures
 
-pub returns-in-Refused : goal.returns-in-Refused
+pub returns-in-Err : goal.returns-in-Err
 unfolding reply_of said_search refused_by
-returns-in-Refused c = rw c.in-Refused.is c.refused_question.ensures
+returns-in-Err c = rw c.in-Err.is c.refused_question.ensures

@@ -7,13 +7,13 @@ use borrow.Author.Rules.{rules}
 use Rattle.index_questions.proofs.search_read.Goals as goal
 
 pub search_first-requires : goal.search_first-requires
-search_first-requires c = let fits = rw c.in-Are.is at c.read_list.ensures.no_more_than in
+search_first-requires c = let fits = rw c.in-Some.is at c.read_list.ensures.no_more_than in
     omega (arith, fits)
 
-pub returns-in-Are : goal.returns-in-Are
+pub returns-in-Some : goal.returns-in-Some
 unfolding read_in
-returns-in-Are c = c.search_first.ensures ∙ search_list _ _ _ _ _ (search rules) (rw c.in-Are.is at c.read_list.ensures.out_after)
+returns-in-Some c = c.search_first.ensures ∙ search_list _ _ _ _ _ (search rules) (rw c.in-Some.is at c.read_list.ensures.out_after)
 
-pub returns-in-Unread : goal.returns-in-Unread
+pub returns-in-None : goal.returns-in-None
 unfolding read_in
-returns-in-Unread c = c.unread.ensures ∙ search_unread _ _ _ _ (search rules) (rw c.in-Unread.is at c.read_list.ensures.out_after)
+returns-in-None c = c.unread.ensures ∙ search_unread _ _ _ _ (search rules) (rw c.in-None.is at c.read_list.ensures.out_after)

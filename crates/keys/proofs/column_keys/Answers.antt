@@ -1,39 +1,6 @@
 -- Each table's keys.
 use Rattle.keys.proofs.column_keys.Goals as goal
 
-pub pid_keys-requires : goal.pid_keys-requires
-pid_keys-requires c = tt
-
-pub pic_keys-requires : goal.pic_keys-requires
-pic_keys-requires c = tt
-
-pub plf_keys-requires : goal.plf_keys-requires
-plf_keys-requires c = tt
-
-pub pcf_keys-requires : goal.pcf_keys-requires
-pcf_keys-requires c = tt
-
-pub caf_keys-requires : goal.caf_keys-requires
-caf_keys-requires c = tt
-
-pub cap_keys-requires : goal.cap_keys-requires
-cap_keys-requires c = tt
-
-pub txf_keys-requires : goal.txf_keys-requires
-txf_keys-requires c = tt
-
-pub txp_keys-requires : goal.txp_keys-requires
-txp_keys-requires c = tt
-
-pub ocf_keys-requires : goal.ocf_keys-requires
-ocf_keys-requires c = tt
-
-pub ocp_keys-requires : goal.ocp_keys-requires
-ocp_keys-requires c = tt
-
-pub mcf_keys-requires : goal.mcf_keys-requires
-mcf_keys-requires c = tt
-
 pub returns-in-Pid : goal.returns-in-Pid
 returns-in-Pid c = rw c.in-Pid.is c.pid_keys.ensures
 

@@ -4,12 +4,6 @@ use Rattle.keys.specs.Held.{keys_of}
 use Rattle.keys.proofs.CaseLaws.{row_blanked}
 use Rattle.keys.proofs.line_keys.Goals as goal
 
-pub column_keys-requires : goal.column_keys-requires
-column_keys-requires c = tt
-
-pub blanked-requires : goal.blanked-requires
-blanked-requires c = tt
-
 pub returns : goal.returns
 unfolding keys_of
 returns c = record { keys_value = c.blanked.ensures.keys_value ∙ rw c.column_keys.ensures.keys (row_blanked _ _); next_value = c.blanked.ensures.next_value ∙ c.column_keys.ensures.next }

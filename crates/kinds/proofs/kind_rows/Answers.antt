@@ -4,27 +4,6 @@ use Rattle.kinds.proofs.kind_rows.Goals as goal
 pub loop-i-init : goal.loop-i-init
 loop-i-init c = write_start _ _ _
 
-pub byte_at-requires : goal.byte_at-requires
-byte_at-requires c = tt
-
-pub byte_at-requires-in-loop-i : goal.byte_at-requires-in-loop-i
-byte_at-requires-in-loop-i c = tt
-
-pub row_at-requires : goal.row_at-requires
-row_at-requires c = tt
-
-pub byte_at-requires-in-loop-i-2 : goal.byte_at-requires-in-loop-i-2
-byte_at-requires-in-loop-i-2 c = tt
-
-pub row_at-requires-in-loop-i : goal.row_at-requires-in-loop-i
-row_at-requires-in-loop-i c = tt
-
-pub kinds_of-kind-requires : goal.kinds_of-kind-requires
-kinds_of-kind-requires c = tt
-
-pub put_byte-requires : goal.put_byte-requires
-put_byte-requires c = tt
-
 pub loop-i-preserved : goal.loop-i-preserved
 loop-i-preserved c = write_put _ _ _ _ _ c.loop-i.invariant _ _ c.loop-i-test.true c.put_byte.ensures
     (rw (

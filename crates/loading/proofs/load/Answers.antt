@@ -1,25 +1,14 @@
 -- By what keeping the rows answers.
-use Rattle.kept.proofs.AnswerLaws.{kept_long, kept_many, kept_short, kept_done}
+use Rattle.std.proofs.lemmas.Result.{err_from_is_err_and}
+use Rattle.kept.proofs.AnswerLaws.{kept_done}
 use Rattle.loading.specs.Loaded.{Loads}
-use Rattle.loading.proofs.LoadedLaws.{load_answers, no_room, same_lent}
+use Rattle.loading.proofs.LoadedLaws.{load_answers, load_refused}
 use Rattle.loading.proofs.load.Goals as goal
 
-pub returns-in-TooLong : goal.returns-in-TooLong
-unfolding Loads
-returns-in-TooLong c = let z = kept_long _ _ _ _ c.keep.ensures _ c.in-TooLong.is in
-    (z.0, same_lent _ _ z.1)
+pub returns-in_err-kept : goal.returns-in_err-kept
+returns-in_err-kept c = let p = err_from_is_err_and c.from_residual.result c.from_residual.ensures.1 in rw (p.1, p.2) (load_refused _ c.args.words.now c.args.links.now c.args.columns.now _ c.keep.ensures c.in_err-kept.was)
 
-pub returns-in-TooManyRows : goal.returns-in-TooManyRows
+pub returns : goal.returns
 unfolding Loads
-returns-in-TooManyRows c = let z = kept_many _ _ _ _ c.keep.ensures _ c.in-TooManyRows.is in
-    (z.0, same_lent _ _ z.1)
-
-pub returns-in-NoRoom : goal.returns-in-NoRoom
-unfolding Loads
-returns-in-NoRoom c = let z = kept_short _ _ _ _ c.keep.ensures c.in-NoRoom.is in
-    (z.0, no_room c.args.words.now c.args.links.now c.args.columns.now z.1, same_lent _ _ z.2)
-
-pub returns-in-Done : goal.returns-in-Done
-unfolding Loads
-returns-in-Done c = let k = kept_done _ _ _ _ c.keep.ensures _ _ c.in-Done.is in
+returns c = let k = kept_done _ _ _ _ c.keep.ensures _ c.in_ok-kept.was in
     (k.fits, load_answers _ _ _ _ _ k _ c.index_kept.ensures)

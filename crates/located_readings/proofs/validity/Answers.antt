@@ -15,9 +15,6 @@ pub loop-blocks-init : goal.loop-blocks-init
 unfolding validity
 loop-blocks-init c = refl
 
-pub valid_block-block-requires : goal.valid_block-block-requires
-valid_block-block-requires c = tt
-
 pub returns-then-not-block : goal.returns-then-not-block
 returns-then-not-block c = block_last _ _ _ _ _ (c.valid_block-block.ensures (16 * c.loop-blocks.blocks) (omega arith) ∙ c.loop-blocks.invariant) (not_true _ c.if-not-block.true)
 

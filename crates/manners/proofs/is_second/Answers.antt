@@ -3,12 +3,6 @@ use Rattle.manners.specs.Manners.{weight}
 use Rattle.manners.proofs.MarkLaws.{second_column_lem, second_other}
 use Rattle.manners.proofs.is_second.Goals as goal
 
-pub naming_column-requires : goal.naming_column-requires
-naming_column-requires c = tt
-
-pub meets-requires : goal.meets-requires
-meets-requires c = tt
-
 pub returns-then-naming_column-eq-SECOND_COLUMN : goal.returns-then-naming_column-eq-SECOND_COLUMN
 unfolding weight
 returns-then-naming_column-eq-SECOND_COLUMN c = second_column_lem _ _ _ c.naming_column.ensures c.if-naming_column-eq-SECOND_COLUMN.true _ c.meets.ensures

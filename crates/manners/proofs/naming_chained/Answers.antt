@@ -7,9 +7,6 @@ use Rattle.manners.proofs.MannerLaws.{by_code}
 use Rattle.manners.proofs.MarkLaws.{bit_back}
 use Rattle.manners.proofs.naming_chained.Goals as goal
 
-pub at_or-requires : goal.at_or-requires
-at_or-requires c = tt
-
 pub returns : goal.returns
 unfolding manners
 returns c = ap (λ (n : ℕ). eqb n 1) (c.at_or.ensures ∙ by_code (λ m. bit m.chained) _) ∙ bit_back _

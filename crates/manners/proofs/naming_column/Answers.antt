@@ -4,9 +4,6 @@ use Rattle.manners.specs.Manners.{manners}
 use Rattle.manners.proofs.MannerLaws.{by_code}
 use Rattle.manners.proofs.naming_column.Goals as goal
 
-pub at_or-requires : goal.at_or-requires
-at_or-requires c = tt
-
 pub returns : goal.returns
 unfolding manners
 returns c = c.at_or.ensures ∙ by_code (λ m. m.column) _

@@ -4,9 +4,6 @@ use Rattle.manners.specs.Manners.{manners, weight, kind_weight}
 use Rattle.manners.proofs.MannerLaws.{by_code}
 use Rattle.manners.proofs.naming_kind.Goals as goal
 
-pub at_or-requires : goal.at_or-requires
-at_or-requires c = tt
-
 pub returns : goal.returns
 unfolding manners weight
 returns c = c.at_or.ensures ∙ by_code (λ m. kind_weight m.kind) _

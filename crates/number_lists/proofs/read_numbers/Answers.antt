@@ -8,9 +8,6 @@ use Rattle.number_lists.proofs.ListLaws.{number_here, number_none, numbers_end, 
 use Rattle.scripts.proofs.NumeralLaws.{most_is}
 use Rattle.number_lists.proofs.read_numbers.Goals as goal
 
-pub column_count-count-requires : goal.column_count-count-requires
-column_count-count-requires c = tt
-
 pub returns-then-out-count : goal.returns-then-out-count
 unfolding read_in
 returns-then-out-count c = record { out_after = sym (entries_not _ _ _ (omega (arith, c.column_count-count.ensures))); no_more_than = tt }
@@ -18,20 +15,21 @@ returns-then-out-count c = record { out_after = sym (entries_not _ _ _ (omega (a
 pub loop-k-init : goal.loop-k-init
 loop-k-init c = (omega arith, refl, c.column_count-count.ensures, omega arith, joined_first _)
 
-pub natural_at-requires : goal.natural_at-requires
-natural_at-requires c = tt
-
-pub returns-in_default : goal.returns-in_default
+pub returns-in_err-row-clause-out_after : goal.returns-in_err-row-clause-out_after
 unfolding read_in
-returns-in_default c = let columns = columns_of c.args.text.now in
-    let unread = number_none columns c.loop-k.k (omega arith) (sym c.natural_at.ensures ∙ c.in_default.is) in record { out_after = sym (entries_fit _ columns _ (omega arith) ∙ sym c.loop-k.invariant.4 ∙ joined_none _ unread); no_more_than = tt }
+returns-in_err-row-clause-out_after c = let columns = columns_of c.args.text.now in
+    let unread = number_none columns c.loop-k.k (omega arith) (sym c.natural_at.ensures ∙ c.in_err-row.was) in
+    rw c.from_residual.ensures (sym (entries_fit _ columns _ (omega arith) ∙ sym c.loop-k.invariant.4 ∙ joined_none _ unread))
+
+pub returns-in_err-row-clause-no_more_than : goal.returns-in_err-row-clause-no_more_than
+returns-in_err-row-clause-no_more_than c = rw c.from_residual.ensures tt
 
 pub overflow_cast-out : goal.overflow_cast-out
-overflow_cast-out c = omega (arith, most_is 65535 _ _ (sym c.natural_at.ensures ∙ c.in-Is.is))
+overflow_cast-out c = omega (arith, most_is 65535 _ _ (sym c.natural_at.ensures ∙ c.in_ok-row.was))
 
 pub loop-k-preserved : goal.loop-k-preserved
 loop-k-preserved c = let columns = columns_of c.args.text.now in
-    let here = number_here columns c.loop-k.k _ (omega arith) (sym c.natural_at.ensures ∙ c.in-Is.is) in (
+    let here = number_here columns c.loop-k.k _ (omega arith) (sym c.natural_at.ensures ∙ c.in_ok-row.was) in (
       omega arith,
       simp length-set c.loop-k.invariant.1,
       c.loop-k.invariant.2,

@@ -1,5 +1,5 @@
 -- The invariant: the numbers that are written and those still to be read are the numbers of the columns.
-use Prim.Native.Nat.{◌-◌, ◌≤◌}
+use Prim.Native.Nat.{◌≤◌}
 use mathlib.Core.Path.{◌≡◌}
 use lib.ListN.{length, take, drop}
 use Rattle.lines.specs.Columns.{columns_of}
@@ -10,6 +10,3 @@ use Rattle.number_lists.proofs.read_numbers.Given as goal
 abbrev pub invariant-loop-k : goal.invariant-loop-k
 invariant-loop-k l = (l.k ≤ l.count) × (length l.out ≡ length l.initial.out) × (l.count ≡ length (columns_of l.text)) × (l.count ≤ length l.initial.out)
     × (joined (take l.k l.out) (row_numbers_in (drop l.k (columns_of l.text))) ≡ row_numbers_in (columns_of l.text))
-
-abbrev pub decreases-loop-k : goal.decreases-loop-k
-decreases-loop-k l = l.count - l.k

@@ -6,14 +6,14 @@ use mir.Val.{SFits, to_z, of_z}
 use mir.Syntax.{w64}
 use borrow.Author.Rules.{rules}
 use Rattle.rows.specs.declared.records.PlfRow.{PlfRow}
-use Rattle.outcomes.specs.Outcome.{Outcome, answer, and_then}
-use Rattle.outcomes.specs.Values.{Value}
-use Rattle.outcomes.specs.Refusals.{refused_by}
+use Rattle.outcomes.specs.Outcome.{answer, and_then}
+use Rattle.outcomes.specs.Refusals.{said, refused_by}
+use Rattle.outcomes.proofs.OutcomeLaws.{passed_on}
 use Rattle.raw_values.specs.RawValues.{raw_of, location_of}
 use Rattle.raw_values.specs.declared.place.Location.{Location}
 use Rattle.occurrences.specs.Values.{integer_in}
 use Rattle.occurrences.specs.Progress.{progress_by, checked_by}
-use Rattle.occurrences.specs.Pass.{said_number, said_checked}
+use Rattle.occurrences.proofs.NumberLaws.{number_answered, unread, no_integer}
 use Rattle.occurrences.proofs.PassLaws.{passing_start, passing_refused, passing_valid, passing_invalid, passing_done, passing_all}
 use Rattle.occurrences.proofs.check_occurrences.Goals.{then-valid, else-valid}
 use Rattle.occurrences.proofs.check_occurrences.Goals as goal
@@ -26,28 +26,11 @@ occurrences-are location plf d = ap (λ (l : Location). l.nbocc) d
 pub loop-k-init : goal.loop-k-init
 loop-k-init c = (omega arith, λ plf d. passing_start _ _ _ _ _ _ _)
 
-pub raw_of-requires : goal.raw_of-requires
-raw_of-requires c = tt
-
-pub number_in-requires : goal.number_in-requires
-number_in-requires c = tt
-
-pub check_value-pass-requires : goal.check_value-pass-requires
-check_value-pass-requires c = tt
-
-pub overflow_add-k : goal.overflow_add-k
-overflow_add-k c =
-    let few : c.args.location.nbocc < 2 ^ 32 = search rules in
-    let h : c.loop-k.k + 1 < 2 ^ 64 = omega (arith, c.loop-k-test.true, few) in
-    search (rules, h)
-
 pub loop-k-preserved : goal.loop-k-preserved
-unfolding said_number
 loop-k-preserved c =
-    let number_is : ((plf : PlfRow) → c.args.location ≡ location_of plf → and_then (raw_of c.args.p.now plf c.args.pcf c.loop-k.k) integer_in ≡ said_number c.number_in.result) = λ plf d. sym (c.number_in.ensures ∙ ap (λ (raw : Outcome Value). and_then raw integer_in) (c.raw_of.ensures plf d)) in
-    let word : to_z w64 (of_z w64 c.in-Is.raw) ≡ c.in-Is.raw = let f : SFits w64 c.in-Is.raw = search rules in
+    let word : to_z w64 (of_z w64 c.in_ok-raw.raw) ≡ c.in_ok-raw.raw = let f : SFits w64 c.in_ok-raw.raw = search rules in
     to_z-of_z f in
-    let integer_is : ((plf : PlfRow) → c.args.location ≡ location_of plf → and_then (raw_of c.args.p.now plf c.args.pcf c.loop-k.k) integer_in ≡ answer (to_z w64 (of_z w64 c.in-Is.raw))) = λ plf d. number_is plf d ∙ ap said_number c.in-Is.is ∙ ap answer (sym word) in (
+    let integer_is : ((plf : PlfRow) → c.args.location ≡ location_of plf → and_then (raw_of c.args.p.now plf c.args.pcf c.loop-k.k) integer_in ≡ answer (to_z w64 (of_z w64 c.in_ok-raw.raw))) = λ plf d. number_answered (c.raw_of.ensures plf d) c.in_ok-value.was c.integer_in.ensures c.in_ok-raw.was ∙ ap answer (sym word) in (
       omega arith,
       λ plf d. elim c.if-valid.branch [
         | then-valid w ↦ passing_valid _ _ _ _ _ _ _ _ _ (c.loop-k.invariant.1 plf d) c.loop-k-test.true (integer_is plf d) w.if-valid.true (w.pass-is ∙ w.check_value-pass.ensures)
@@ -55,15 +38,18 @@ loop-k-preserved c =
       ],
     )
 
-pub returns-in-Refused : goal.returns-in-Refused
-unfolding checked_by said_checked said_number refused_by progress_by
-returns-in-Refused c plf d =
-    let number_is : ((plf : PlfRow) → c.args.location ≡ location_of plf → and_then (raw_of c.args.p.now plf c.args.pcf c.loop-k.k) integer_in ≡ said_number c.number_in.result) = λ plf d. sym (c.number_in.ensures ∙ ap (λ (raw : Outcome Value). and_then raw integer_in) (c.raw_of.ensures plf d)) in
-    passing_refused _ _ _ _ _ _ _ _ _ (c.loop-k.invariant.1 plf d) c.loop-k-test.true (number_is plf d ∙ ap said_number c.in-Refused.is)
+pub returns-in_err-value : goal.returns-in_err-value
+unfolding checked_by said refused_by progress_by
+returns-in_err-value c plf d = ap said (passed_on _ c.from_residual.ensures)
+    ∙ passing_refused _ _ _ _ _ _ _ _ _ (c.loop-k.invariant.1 plf d) c.loop-k-test.true (unread (c.raw_of.ensures plf d) c.in_err-value.was)
     ∙ passing_all _ _ _ _ _ _ _ (occurrences-are _ plf d)
 
-pub end_pass-requires : goal.end_pass-requires
-end_pass-requires c = tt
+pub returns-in_err-raw : goal.returns-in_err-raw
+unfolding checked_by said refused_by progress_by
+returns-in_err-raw c plf d = ap said (passed_on _ c.from_residual-in_err-raw.ensures)
+    ∙ passing_refused _ _ _ _ _ _ _ _ _ (c.loop-k.invariant.1 plf d) c.loop-k-test.true
+    (no_integer (c.raw_of.ensures plf d) c.in_ok-value.was c.integer_in.ensures c.in_err-raw.was)
+    ∙ passing_all _ _ _ _ _ _ _ (occurrences-are _ plf d)
 
 pub returns : goal.returns
 unfolding checked_by progress_by

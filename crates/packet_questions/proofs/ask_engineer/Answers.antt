@@ -4,11 +4,11 @@ use Rattle.packet_questions.proofs.PacketReplyLaws.{by_natural_lem, by_unread}
 use Rattle.packet_questions.specs.PacketReplies.{engineer_reply}
 use Rattle.packet_questions.proofs.ask_engineer.Goals as goal
 
-pub returns-in-Is : goal.returns-in-Is
+pub returns-in-Some : goal.returns-in-Some
 unfolding engineer_reply
-returns-in-Is c = rw (c.say_engineered.ensures, c.engineer.ensures, c.column_at.ensures)
-    (by_natural_lem _ _ c.in-Is.k (sym c.occurrence_of.ensures ∙ c.in-Is.is))
+returns-in-Some c = rw (c.say_engineered.ensures, c.engineer.ensures, c.column_at.ensures)
+    (by_natural_lem _ _ c.in-Some.k (sym c.occurrence_of.ensures ∙ c.in-Some.is))
 
-pub returns-in-Unread : goal.returns-in-Unread
+pub returns-in-None : goal.returns-in-None
 unfolding engineer_reply
-returns-in-Unread c = c.unread.ensures ∙ by_unread _ _ (sym c.occurrence_of.ensures ∙ c.in-Unread.is)
+returns-in-None c = c.unread.ensures ∙ by_unread _ _ (sym c.occurrence_of.ensures ∙ c.in-None.is)

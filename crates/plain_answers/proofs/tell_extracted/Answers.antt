@@ -5,10 +5,10 @@ use Rattle.plain_answers.specs.Values.{of_reading}
 use Rattle.telling.proofs.TellingLaws.{plain_refused, plain_values}
 use Rattle.plain_answers.proofs.tell_extracted.Goals as goal
 
-pub returns-in-Is : goal.returns-in-Is
+pub returns-in-Ok : goal.returns-in-Ok
 unfolding said_reading
-returns-in-Is c = plain_values of_reading _ (ap said_reading c.in-Is.is) c.tell_read.ensures refl
+returns-in-Ok c = plain_values of_reading _ (ap said_reading c.in-Ok.is) c.tell_read.ensures refl
 
-pub returns-in-Refused : goal.returns-in-Refused
+pub returns-in-Err : goal.returns-in-Err
 unfolding said_reading
-returns-in-Refused c = plain_refused of_reading _ (ap said_reading c.in-Refused.is) c.tell_refusal.ensures
+returns-in-Err c = plain_refused of_reading _ (ap said_reading c.in-Err.is) c.tell_refusal.ensures

@@ -7,9 +7,9 @@ use Rattle.telling.proofs.TellingLaws.{plain_refused, plain_values}
 use borrow.Author.Rules.{rules}
 use Rattle.plain_answers.proofs.tell_identified.Goals as goal
 
-pub returns-in-Is : goal.returns-in-Is
+pub returns-in-Ok : goal.returns-in-Ok
 unfolding said_identified of_identity
-returns-in-Is c = plain_values of_identity _ (ap said_identified c.in-Is.is) c.tell.ensures
+returns-in-Ok c = plain_values of_identity _ (ap said_identified c.in-Ok.is) c.tell.ensures
     (kept c.as_word-number.ensures (search rules)
     (kept c.as_word-packet.ensures (search rules)
     (kept c.as_word-apid.ensures (search rules)
@@ -18,6 +18,6 @@ returns-in-Is c = plain_values of_identity _ (ap said_identified c.in-Is.is) c.t
     (kept c.as_word-pi1.ensures (search rules)
     (kept c.as_word-pi2.ensures (search rules) refl)))))))
 
-pub returns-in-Refused : goal.returns-in-Refused
+pub returns-in-Err : goal.returns-in-Err
 unfolding said_identified
-returns-in-Refused c = plain_refused of_identity _ (ap said_identified c.in-Refused.is) c.tell_refusal.ensures
+returns-in-Err c = plain_refused of_identity _ (ap said_identified c.in-Err.is) c.tell_refusal.ensures

@@ -7,6 +7,3 @@ use Rattle.pointing.proofs.next_cause.Given as goal
 
 abbrev pub invariant-loop-j : goal.invariant-loop-j
 invariant-loop-j l = all_from (points_to l.halves l.bytes l.cells l.i) l.j (l.n - l.j) ≡ all_from (points_to l.halves l.bytes l.cells l.i) l.from (l.n - l.from)
-
-abbrev pub decreases-loop-j : goal.decreases-loop-j
-decreases-loop-j l = l.n - l.j

@@ -6,8 +6,5 @@ use Rattle.polynomial_curves.proofs.find_polynomial.Goals as goal
 pub returns-then-not-curtx : goal.returns-then-not-curtx
 returns-then-not-curtx c = found_free _ _ (not-true _ c.if-not-curtx.true)
 
-pub polynomial_of-requires : goal.polynomial_of-requires
-polynomial_of-requires c = tt
-
 pub returns : goal.returns
 returns c = found_named _ _ (not-false _ c.if-not-curtx.false) c.polynomial_of.ensures

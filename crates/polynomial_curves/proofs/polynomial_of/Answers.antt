@@ -2,24 +2,12 @@
 use Rattle.polynomial_curves.proofs.PolynomialLaws.{found_none, found_other, found_polynomial}
 use Rattle.polynomial_curves.proofs.polynomial_of.Goals as goal
 
-pub curve_key-requires : goal.curve_key-requires
-curve_key-requires c = tt
-
-pub holder_of-at-requires : goal.holder_of-at-requires
-holder_of-at-requires c = tt
-
 pub returns-then-at-eq0 : goal.returns-then-at-eq0
 returns-then-at-eq0 c = found_none _ _ _ _ _ c.curve_key.ensures c.holder_of-at.ensures.0 c.if-at-eq0.true
-
-pub is_polynomial-requires : goal.is_polynomial-requires
-is_polynomial-requires c = tt
 
 pub returns-then-not-is_polynomial : goal.returns-then-not-is_polynomial
 returns-then-not-is_polynomial c = found_other _ _ _ _ _ c.curve_key.ensures c.holder_of-at.ensures.0 c.if-at-eq0.false c.is_polynomial.ensures
     c.if-not-is_polynomial.true
-
-pub mcf_at-row-requires : goal.mcf_at-row-requires
-mcf_at-row-requires c = tt
 
 pub returns : goal.returns
 returns c = found_polynomial _ _ _ _ _ c.curve_key.ensures c.holder_of-at.ensures.0 c.if-at-eq0.false c.is_polynomial.ensures

@@ -6,11 +6,11 @@ use Rattle.escapes.specs.Escapes.{read_in}
 use Rattle.questions.specs.Questions.{judged_text}
 use Rattle.questions.proofs.judge_in.Goals as goal
 
-pub returns-in-Are : goal.returns-in-Are
+pub returns-in-Some : goal.returns-in-Some
 unfolding read_in
-returns-in-Are g c = c.judge_text.ensures ∙ ap (judged_text _ _ _ _ _) c.part.ensures
-    ∙ judged_some _ _ _ _ _ _ _ (read_part c.in-Are.n c.question_text.new.out (rw c.in-Are.is at c.question_text.ensures))
+returns-in-Some g c = c.judge_text.ensures ∙ ap (judged_text _ _ _ _ _) c.part.ensures
+    ∙ judged_some _ _ _ _ _ _ _ (read_part c.in-Some.n c.question_text.new.out (rw c.in-Some.is at c.question_text.ensures))
 
-pub returns-in-Unread : goal.returns-in-Unread
+pub returns-in-None : goal.returns-in-None
 unfolding read_in
-returns-in-Unread g c = judged_none _ _ _ _ _ _ (sym (rw c.in-Unread.is at c.question_text.ensures))
+returns-in-None g c = judged_none _ _ _ _ _ _ (sym (rw c.in-None.is at c.question_text.ensures))

@@ -12,12 +12,12 @@ returns-then-p-gt-PACKET_BYTES c plf d = packet_too_long _ plf _ _ c.if-p-gt-PAC
 
 pub occurrence_raw-requires : goal.occurrence_raw-requires
 unfolding bits_of
-occurrence_raw-requires c = (c.if-p-gt-PACKET_BYTES.false, width_wide _ _ _ (sym c.width_of.ensures ∙ ap bits_of c.in-Bits.is))
+occurrence_raw-requires c = (c.if-p-gt-PACKET_BYTES.false, width_wide _ _ _ (sym c.width_of.ensures ∙ ap bits_of c.in-Some.is))
 
-pub returns-in-Bits : goal.returns-in-Bits
-returns-in-Bits c plf d = c.occurrence_raw.ensures plf d
-    ∙ raw_in_bits _ plf _ _ _ _ c.if-p-gt-PACKET_BYTES.false refl c.width_of.ensures _ c.in-Bits.is
+pub returns : goal.returns
+returns c plf d = c.occurrence_raw.ensures plf d
+    ∙ raw_in_bits _ plf _ _ _ _ c.if-p-gt-PACKET_BYTES.false refl c.width_of.ensures _ c.in-Some.is
 
-pub returns-in-Refused : goal.returns-in-Refused
+pub returns-in_default : goal.returns-in_default
 unfolding said_raw refused_by refusal_number refusal_place
-returns-in-Refused c plf d = raw_refused _ plf _ _ _ _ c.if-p-gt-PACKET_BYTES.false refl c.width_of.ensures c.in-Refused.is
+returns-in_default c plf d = raw_refused _ plf _ _ _ _ c.if-p-gt-PACKET_BYTES.false refl c.width_of.ensures c.in_default.is

@@ -13,17 +13,17 @@ returns-then-not-is_due t c = tells_not _ _ _ _ _ _ _ _ c.requires.0 _ c.is_due.
 pub tell-end-requires : goal.tell-end-requires
 tell-end-requires t c = (
   omega (arith, c.decreases, c.if-steps-eq0.false),
-  (first_row_lem _ _ _ c.next_cause.ensures _ c.in-Row.is, omega (arith, c.put_byte.auto.bytes, c.requires.1), omega (arith, c.requires.2)),
+  (first_row_lem _ _ _ c.next_cause.ensures _ c.in-Some.is, omega (arith, c.put_byte.auto.bytes, c.requires.1), omega (arith, c.requires.2)),
 )
 
-pub returns-in-Row : goal.returns-in-Row
-returns-in-Row t c =
+pub returns-in-Some : goal.returns-in-Some
+returns-in-Some t c =
     tells_after _ _ _ _ _ _ _ _ c.requires.0 _ c.is_due.ensures c.if-not-is_due.false c.if-steps-eq0.false c.requires.1
-    _ c.put_byte.ensures _ (sym c.in-Row.is ∙ first_is_lem _ _ _ c.next_cause.ensures) _ _ _ c.tell-end.ensures
+    _ c.put_byte.ensures _ (sym c.in-Some.is ∙ first_is_lem _ _ _ c.next_cause.ensures) _ _ _ c.tell-end.ensures
     _ c.put_row.ensures.1 _ c.put_row.ensures.0
 
-pub returns-in-NoMore : goal.returns-in-NoMore
-returns-in-NoMore t c =
+pub returns-in-None : goal.returns-in-None
+returns-in-None t c =
     tells_last _ _ _ _ _ _ _ _ c.requires.0 _ c.is_due.ensures c.if-not-is_due.false c.if-steps-eq0.false c.requires.1
-    _ c.put_byte.ensures (sym c.in-NoMore.is ∙ first_is_lem _ _ _ c.next_cause.ensures)
-    _ c.put_row-in-NoMore.ensures.1 _ c.put_row-in-NoMore.ensures.0
+    _ c.put_byte.ensures (sym c.in-None.is ∙ first_is_lem _ _ _ c.next_cause.ensures)
+    _ c.put_row-in-None.ensures.1 _ c.put_row-in-None.ensures.0

@@ -6,15 +6,6 @@ use Rattle.schemas.proofs.columns_verdict.Goals as goal
 pub loop-k-init : goal.loop-k-init
 loop-k-init c = checking_start _ _
 
-pub column-requires : goal.column-requires
-column-requires c = tt
-
-pub column_reason-reason-requires : goal.column_reason-reason-requires
-column_reason-reason-requires c = tt
-
-pub verdict_of-requires : goal.verdict_of-requires
-verdict_of-requires c = tt
-
 pub returns-then-reason-ne0 : goal.returns-then-reason-ne0
 returns-then-reason-ne0 c = let is = c.column_reason-reason.ensures ∙ ap (column_reason _) c.column.ensures in
     c.verdict_of.ensures ∙ checking_stop _ _ _ c.requires _ _ c.loop-k.invariant

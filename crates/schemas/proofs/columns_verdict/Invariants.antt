@@ -1,6 +1,4 @@
 -- The columns passed have no reason, and what is left gives the verdict of all (`Checking`).
-use Prim.Native.Nat.{◌-◌}
-use lib.ListN.{length}
 use Rattle.lines.specs.Columns.{column_in}
 use Rattle.schemas.specs.Constants.{schema_from}
 use Rattle.schemas.proofs.ShapeLaws.{Checking}
@@ -8,6 +6,3 @@ use Rattle.schemas.proofs.columns_verdict.Given as goal
 
 abbrev pub invariant-loop-k : goal.invariant-loop-k
 invariant-loop-k l = Checking (schema_from l.widths l.marks l.kinds) (column_in l.line l.ends) l.k
-
-abbrev pub decreases-loop-k : goal.decreases-loop-k
-decreases-loop-k l = length l.widths - l.k

@@ -20,16 +20,16 @@ unfolding unread
 returns-then-byte-gt255 c = let b = c.byte_in-byte.ensures.0 ∙ ap byte_in c.column_at-2.ensures in
     fill_byte _ _ _ c.column_count.ensures c.if-column_count-ne3.false (rw b at c.if-byte-gt255.true)
 
-pub returns-in-Is : goal.returns-in-Is
+pub returns : goal.returns
 unfolding run_bytes
-returns-in-Is c = let b = c.byte_in-byte.ensures.0 ∙ ap byte_in c.column_at-2.ensures in
+returns c = let b = c.byte_in-byte.ensures.0 ∙ ap byte_in c.column_at-2.ensures in
     let t = c.setting_of-t.ensures ∙ ap setting_of c.column_at.ensures in
-    c.add_run.ensures ∙ run_is _ _ _ _ _ (sym c.natural_at.ensures ∙ c.in-Is.is)
+    c.add_run.ensures ∙ run_is _ _ _ _ _ (sym c.natural_at.ensures ∙ c.in-Some.is)
     ∙ ap₂ (λ (t b : ℕ). add_run (record { space = c.args.space.now; ends = c.args.ends.now }) t b
     (at_most 65537 (natural_in (column_at (columns_of c.args.text.now) 1)))) t b
     ∙ fill_run _ _ _ c.column_count.ensures c.if-column_count-ne3.false (omega (arith, b))
 
-pub returns-in-Unread : goal.returns-in-Unread
+pub returns-in_default : goal.returns-in_default
 unfolding unread
-returns-in-Unread c = let b = c.byte_in-byte.ensures.0 ∙ ap byte_in c.column_at-2.ensures in
-    run_unread _ _ _ _ (sym c.natural_at.ensures ∙ c.in-Unread.is) ∙ fill_run _ _ _ c.column_count.ensures c.if-column_count-ne3.false (omega (arith, b))
+returns-in_default c = let b = c.byte_in-byte.ensures.0 ∙ ap byte_in c.column_at-2.ensures in
+    run_unread _ _ _ _ (sym c.natural_at.ensures ∙ c.in_default.is) ∙ fill_run _ _ _ c.column_count.ensures c.if-column_count-ne3.false (omega (arith, b))

@@ -6,11 +6,11 @@ use Rattle.escapes.specs.Escapes.{read_in}
 use Rattle.settings.specs.Settings.{set_text}
 use Rattle.settings.proofs.set_in.Goals as goal
 
-pub returns-in-Are : goal.returns-in-Are
+pub returns-in-Some : goal.returns-in-Some
 unfolding read_in
-returns-in-Are c = c.set_text.ensures ∙ ap (set_text _ _ _) c.part.ensures
-    ∙ bytes_some _ _ _ _ _ (read_part c.in-Are.n c.setting_bytes.new.out (rw c.in-Are.is at c.setting_bytes.ensures))
+returns-in-Some c = c.set_text.ensures ∙ ap (set_text _ _ _) c.part.ensures
+    ∙ bytes_some _ _ _ _ _ (read_part c.in-Some.n c.setting_bytes.new.out (rw c.in-Some.is at c.setting_bytes.ensures))
 
-pub returns-in-Unread : goal.returns-in-Unread
+pub returns-in-None : goal.returns-in-None
 unfolding read_in
-returns-in-Unread c = bytes_none _ _ _ _ (sym (rw c.in-Unread.is at c.setting_bytes.ensures))
+returns-in-None c = bytes_none _ _ _ _ (sym (rw c.in-None.is at c.setting_bytes.ensures))

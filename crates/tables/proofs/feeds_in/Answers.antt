@@ -5,9 +5,6 @@ use Rattle.tables.proofs.feeds_in.Goals as goal
 pub loop-i-init : goal.loop-i-init
 loop-i-init c = (omega arith, omega arith, omega arith)
 
-pub feed-n-requires : goal.feed-n-requires
-feed-n-requires c = tt
-
 pub overflow_add-n : goal.overflow_add-n
 overflow_add-n c = omega (arith, c.feed-n.ensures.1, c.requires)
 

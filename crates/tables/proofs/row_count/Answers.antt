@@ -30,9 +30,6 @@ overflow_add-n-2 c =
     let rest : (c.loop-i.n + c.feeds_in-2.result ≡ feeds c.args.table.now) = count_rest c.args.table.now c.loop-i.n c.loop-i.i c.loop-i.invariant c.feeds_in-2.ensures in
     omega (arith, rest, all_few c.args.table.now _ rest)
 
-pub is_whole-requires : goal.is_whole-requires
-is_whole-requires c = tt
-
 pub returns-then-is_whole : goal.returns-then-is_whole
 returns-then-is_whole c =
     let rest : (c.loop-i.n + c.feeds_in-2.result ≡ feeds c.args.table.now) = count_rest c.args.table.now c.loop-i.n c.loop-i.i c.loop-i.invariant c.feeds_in-2.ensures in

@@ -1,5 +1,5 @@
 -- The invariant: the tables left give the place that all give.
-use Prim.Native.Nat.{◌-◌, ◌+◌, ◌≤◌}
+use Prim.Native.Nat.{◌+◌, ◌≤◌}
 use mathlib.Core.Path.{◌≡◌}
 use mathlib.Core.List.{map}
 use lib.Dec.{ltb}
@@ -12,6 +12,3 @@ use Rattle.tables.proofs.too_many_rows.Given as goal
 abbrev pub invariant-loop-t : goal.invariant-loop-t
 invariant-loop-t l = (l.t ≤ table_count) × (first_table (λ text. ltb most_rows (length (lines_of text))) (l.t + 1) (drop l.t (map (λ x. x.now) l.tables)) ≡ too_many_rows
     (map (λ x. x.now) l.tables))
-
-abbrev pub decreases-loop-t : goal.decreases-loop-t
-decreases-loop-t l = table_count - l.t

@@ -10,9 +10,6 @@ use Rattle.tallies.proofs.sums.Goals as goal
 pub loop-k-init : goal.loop-k-init
 loop-k-init c = write_start _ _ _
 
-pub sum-requires : goal.sum-requires
-sum-requires c = tt
-
 pub loop-k-preserved : goal.loop-k-preserved
 loop-k-preserved c = write_more _ _ _ _ _ c.loop-k.invariant c.sum.result c.loop-k-test.true c.sum.ensures
 

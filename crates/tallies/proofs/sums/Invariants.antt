@@ -1,5 +1,5 @@
 -- The invariant: the sums of the first k kinds are written.
-use Prim.Native.Nat.{ℕ, ◌-◌}
+use Prim.Native.Nat.{ℕ}
 use mathlib.Core.List.{List}
 use lib.ListN.{get_or}
 use Rattle.laws.proofs.Values.{Writing}
@@ -12,6 +12,3 @@ sum_at a b k = plus (get_or a k 0) (get_or b k 0)
 
 abbrev pub invariant-loop-k : goal.invariant-loop-k
 invariant-loop-k l = Writing (sum_at l.a l.b) question_count l.initial.asked l.asked l.k
-
-abbrev pub decreases-loop-k : goal.decreases-loop-k
-decreases-loop-k l = question_count - l.k

@@ -11,9 +11,6 @@ use Rattle.texts.proofs.fill_froms.Goals as goal
 pub loop-i-init : goal.loop-i-init
 loop-i-init c = (omega arith, fill_start _ _ _)
 
-pub txp_at-row-requires : goal.txp_at-row-requires
-txp_at-row-requires c = tt
-
 pub loop-i-preserved : goal.loop-i-preserved
 loop-i-preserved c =
     let word : (to_z w64 (of_z w64 c.txp_at-row.result.from) ≡ c.txp_at-row.result.from) = let f : SFits w64 c.txp_at-row.result.from = search rules in

@@ -14,12 +14,6 @@ use Rattle.texts.proofs.TextLaws.{to_is, text_below, text_reached}
 use borrow.Author.Rules.{rules}
 use Rattle.texts.proofs.text_of.Goals as goal
 
-pub txp_at-row-requires : goal.txp_at-row-requires
-txp_at-row-requires c = tt
-
-pub less-requires : goal.less-requires
-less-requires c = tt
-
 pub returns-then-less : goal.returns-then-less
 unfolding said_text refused_by refusal_number refusal_place
 returns-then-less c =
@@ -27,14 +21,8 @@ returns-then-less c =
     sym (c.less.ensures ∙ ap₂ lt_z (to_z-of_z f ∙ to_is _ c.txp_at-row.ensures.value) (to_z-of_z c.ranges.raw)) in
     text_below _ c.txp_at-row.ensures.value _ (below ∙ c.if-less.true)
 
-pub start_of-requires : goal.start_of-requires
-start_of-requires c = tt
-
-pub overflow_add-from : goal.overflow_add-from
-overflow_add-from c = omega (arith, c.start_of.ensures.1, altxt_first _ c.txp_at-row.ensures.value, altxt_inside _ c.txp_at-row.ensures.value, c.txp_at-row.ensures.i_len_bound)
-
-pub number_of-requires : goal.number_of-requires
-number_of-requires c = tt
+pub overflow_add-start : goal.overflow_add-start
+overflow_add-start c = omega (arith, c.start_of.ensures.1, altxt_first _ c.txp_at-row.ensures.value, altxt_inside _ c.txp_at-row.ensures.value, c.txp_at-row.ensures.i_len_bound)
 
 pub overflow_sub-result : goal.overflow_sub-result
 overflow_sub-result c = altxt_first _ c.txp_at-row.ensures.value

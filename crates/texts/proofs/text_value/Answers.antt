@@ -16,12 +16,6 @@ use Rattle.database.proofs.GatherLaws.{Listed, listed, listed_room, listed_part,
 use Rattle.texts.proofs.TextLaws.{text_none, text_some, found_below}
 use Rattle.texts.proofs.text_value.Goals as goal
 
-pub texts_key-requires : goal.texts_key-requires
-texts_key-requires c = tt
-
-pub list_members-count-requires : goal.list_members-count-requires
-list_members-count-requires c = tt
-
 pub slice_bounds-places-end : goal.slice_bounds-places-end
 slice_bounds-places-end c =
     let ranges : (Listed (map (λ x. x.now) c.args.tables) c.args.words.now c.args.links.now c.args.columns.now (texts c.args.name) c.list_members-count.new.places c.list_members-count.result) = listed _ _ _ _ _ c.texts_key.ensures (c.list_members-count.ensures.value, (c.list_members-count.ensures.places_after, c.list_members-count.ensures.upper_bound)) in
@@ -53,16 +47,13 @@ slice_bounds-not_above-end c =
     omega (arith, l.few, long) in
     part_long _ _ room
 
-pub not_above-requires : goal.not_above-requires
-not_above-requires c = tt
-
 pub offset_bounds-places-i : goal.offset_bounds-places-i
 offset_bounds-places-i c =
     let ranges : (Listed (map (λ x. x.now) c.args.tables) c.args.words.now c.args.links.now c.args.columns.now (texts c.args.name) c.list_members-count.new.places c.list_members-count.result) = listed _ _ _ _ _ c.texts_key.ensures (c.list_members-count.ensures.value, (c.list_members-count.ensures.places_after, c.list_members-count.ensures.upper_bound)) in
     let room : c.list_members-count.result ≤ length c.fill_froms.new.froms = let l = ranges in
     let long : length c.fill_froms.new.froms ≡ 1024 = ap length c.fill_froms.ensures ∙ simp (length-sets, length-replicate) in
     omega (arith, l.few, long) in
-    let place : c.in-At.i < c.list_members-count.result = found_below _ _ _ room (sym c.not_above.ensures ∙ c.in-At.is) in
+    let place : c.in-Some.i < c.list_members-count.result = found_below _ _ _ room (sym c.not_above.ensures ∙ c.in-Some.is) in
     let l = ranges in omega (arith, place, l.few)
 
 pub bounds-places-i : goal.bounds-places-i
@@ -71,27 +62,24 @@ bounds-places-i c =
     let room : c.list_members-count.result ≤ length c.fill_froms.new.froms = let l = ranges in
     let long : length c.fill_froms.new.froms ≡ 1024 = ap length c.fill_froms.ensures ∙ simp (length-sets, length-replicate) in
     omega (arith, l.few, long) in
-    let place : c.in-At.i < c.list_members-count.result = found_below _ _ _ room (sym c.not_above.ensures ∙ c.in-At.is) in
+    let place : c.in-Some.i < c.list_members-count.result = found_below _ _ _ room (sym c.not_above.ensures ∙ c.in-Some.is) in
     let l = ranges in omega (arith, place, l.few)
 
-pub text_of-requires : goal.text_of-requires
-text_of-requires c = tt
-
-pub returns-in-At : goal.returns-in-At
-returns-in-At c =
+pub returns-in-Some : goal.returns-in-Some
+returns-in-Some c =
     let ranges : (Listed (map (λ x. x.now) c.args.tables) c.args.words.now c.args.links.now c.args.columns.now (texts c.args.name) c.list_members-count.new.places c.list_members-count.result) = listed _ _ _ _ _ c.texts_key.ensures (c.list_members-count.ensures.value, (c.list_members-count.ensures.places_after, c.list_members-count.ensures.upper_bound)) in
     let found : (let d = database (map (λ x. x.now) c.args.tables) c.args.words.now c.args.links.now c.args.columns.now in not_above (map from_of ((answers d).members (texts c.args.name))) c.args.raw ≡ c.not_above.result) = let front = filled_front ranges from_of (replicate 1024 (pos 0)) c.fill_froms.ensures (omega (arith, length-replicate 1024 (pos 0))) in
     sym (c.not_above.ensures ∙ ap₂ not_above front (to_z-of_z c.ranges.raw)) in
     let room : c.list_members-count.result ≤ length c.fill_froms.new.froms = let l = ranges in
     let long : length c.fill_froms.new.froms ≡ 1024 = ap length c.fill_froms.ensures ∙ simp (length-sets, length-replicate) in
     omega (arith, l.few, long) in
-    let place : c.in-At.i < c.list_members-count.result = found_below _ _ _ room (sym c.not_above.ensures ∙ c.in-At.is) in
-    c.text_of.ensures ∙ text_some _ _ _ (found ∙ c.in-At.is) (member_at ranges _ place) (to_z-of_z c.ranges.raw)
+    let place : c.in-Some.i < c.list_members-count.result = found_below _ _ _ room (sym c.not_above.ensures ∙ c.in-Some.is) in
+    c.text_of.ensures ∙ text_some _ _ _ (found ∙ c.in-Some.is) (member_at ranges _ place) (to_z-of_z c.ranges.raw)
 
-pub returns-in-Nothing : goal.returns-in-Nothing
+pub returns-in-None : goal.returns-in-None
 unfolding said_text refused_by refusal_number refusal_place
-returns-in-Nothing c =
+returns-in-None c =
     let ranges : (Listed (map (λ x. x.now) c.args.tables) c.args.words.now c.args.links.now c.args.columns.now (texts c.args.name) c.list_members-count.new.places c.list_members-count.result) = listed _ _ _ _ _ c.texts_key.ensures (c.list_members-count.ensures.value, (c.list_members-count.ensures.places_after, c.list_members-count.ensures.upper_bound)) in
     let found : (let d = database (map (λ x. x.now) c.args.tables) c.args.words.now c.args.links.now c.args.columns.now in not_above (map from_of ((answers d).members (texts c.args.name))) c.args.raw ≡ c.not_above.result) = let front = filled_front ranges from_of (replicate 1024 (pos 0)) c.fill_froms.ensures (omega (arith, length-replicate 1024 (pos 0))) in
     sym (c.not_above.ensures ∙ ap₂ not_above front (to_z-of_z c.ranges.raw)) in
-    text_none _ _ _ (found ∙ c.in-Nothing.is)
+    text_none _ _ _ (found ∙ c.in-None.is)

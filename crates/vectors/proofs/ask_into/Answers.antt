@@ -8,8 +8,8 @@ returns-then-count-lt-MOST_TEXT g c = read _ _ c.ask_text.ensures
 pub returns-else-count-lt-MOST_TEXT : goal.returns-else-count-lt-MOST_TEXT
 returns-else-count-lt-MOST_TEXT g c = not_read c.unread_file.ensures
 
-pub returns-in-Missing : goal.returns-in-Missing
-returns-in-Missing g c = not_read c.unread_file-in-Missing.ensures
+pub returns-in-Ok-None : goal.returns-in-Ok-None
+returns-in-Ok-None g c = not_read c.unread_file-in-Ok-None.ensures
 
-pub returns-in-Failed : goal.returns-in-Failed
-returns-in-Failed g c = not_read c.unread_file-in-Failed.ensures
+pub returns-in-Err : goal.returns-in-Err
+returns-in-Err g c = not_read c.unread_file-in-Err.ensures

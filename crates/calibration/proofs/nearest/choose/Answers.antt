@@ -5,7 +5,7 @@ use lib.IntN.{pos}
 use lib.ListN.{get_or}
 use Rattle.laws.proofs.Words.{through_word, kept}
 use Rattle.calibration.specs.Nearest.{passes, nearer, better}
-use Rattle.calibration.specs.declared.nearest.Found.TheVariants.{At}
+use Rattle.std.specs.Prelude.{Some}
 use Rattle.calibration.proofs.NearestLaws.{better_off, better_first, better_than}
 use Rattle.calibration.proofs.nearest.choose.Goals as goal
 
@@ -15,17 +15,17 @@ returns-then-not-on_side c =
     (kept c.item-x.type_inv c.item-x.ensures)) in
     better_off _ _ _ _ _ (side-is ∙ c.if-not-on_side.true)
 
-pub returns-in-Nothing : goal.returns-in-Nothing
-returns-in-Nothing c =
+pub returns-in-None : goal.returns-in-None
+returns-in-None c =
     let side-is : (passes c.args.side c.args.v (get_or c.args.xs.now c.args.n (pos 0)) ≡ c.on_side.result) = sym (c.on_side.ensures ∙ ap₂ (passes c.args.side) (through_word c.args.v c.ranges.v.sfits)
     (kept c.item-x.type_inv c.item-x.ensures)) in
-    better_first _ _ _ _ _ c.in-Nothing.is (side-is ∙ c.if-not-on_side.false)
+    better_first _ _ _ _ _ c.in-None.is (side-is ∙ c.if-not-on_side.false)
 
 pub returns-then-is_nearer : goal.returns-then-is_nearer
 returns-then-is_nearer c =
     let side-is : (passes c.args.side c.args.v (get_or c.args.xs.now c.args.n (pos 0)) ≡ c.on_side.result) = sym (c.on_side.ensures ∙ ap₂ (passes c.args.side) (through_word c.args.v c.ranges.v.sfits)
     (kept c.item-x.type_inv c.item-x.ensures)) in
-    let chosen : (t : Bool) → c.is_nearer.result ≡ t → (cond t (At c.args.n) (At c.in-At.i) ≡ better c.args.side c.args.xs.now c.args.v c.args.best c.args.n) = λ t e. better_than c.args.side c.args.xs.now c.args.v c.args.n c.args.best _ t c.in-At.is (side-is ∙ c.if-not-on_side.false)
+    let chosen : (t : Bool) → c.is_nearer.result ≡ t → (cond t (Some c.args.n) (Some c.in-Some.i) ≡ better c.args.side c.args.xs.now c.args.v c.args.best c.args.n) = λ t e. better_than c.args.side c.args.xs.now c.args.v c.args.n c.args.best _ t c.in-Some.is (side-is ∙ c.if-not-on_side.false)
     (sym (c.is_nearer.ensures ∙ ap₂ (nearer c.args.side) (kept c.item-x.type_inv c.item-x.ensures)
     (kept c.item.type_inv c.item.ensures)) ∙ e) in
     chosen true c.if-is_nearer.true
@@ -34,7 +34,7 @@ pub returns-else-is_nearer : goal.returns-else-is_nearer
 returns-else-is_nearer c =
     let side-is : (passes c.args.side c.args.v (get_or c.args.xs.now c.args.n (pos 0)) ≡ c.on_side.result) = sym (c.on_side.ensures ∙ ap₂ (passes c.args.side) (through_word c.args.v c.ranges.v.sfits)
     (kept c.item-x.type_inv c.item-x.ensures)) in
-    let chosen : (t : Bool) → c.is_nearer.result ≡ t → (cond t (At c.args.n) (At c.in-At.i) ≡ better c.args.side c.args.xs.now c.args.v c.args.best c.args.n) = λ t e. better_than c.args.side c.args.xs.now c.args.v c.args.n c.args.best _ t c.in-At.is (side-is ∙ c.if-not-on_side.false)
+    let chosen : (t : Bool) → c.is_nearer.result ≡ t → (cond t (Some c.args.n) (Some c.in-Some.i) ≡ better c.args.side c.args.xs.now c.args.v c.args.best c.args.n) = λ t e. better_than c.args.side c.args.xs.now c.args.v c.args.n c.args.best _ t c.in-Some.is (side-is ∙ c.if-not-on_side.false)
     (sym (c.is_nearer.ensures ∙ ap₂ (nearer c.args.side) (kept c.item-x.type_inv c.item-x.ensures)
     (kept c.item.type_inv c.item.ensures)) ∙ e) in
     chosen false c.if-is_nearer.false

@@ -10,9 +10,6 @@ loop-i-init c = (write_start _ _ _, known_none _ most_places)
 pub comes_back-back-requires : goal.comes_back-back-requires
 comes_back-back-requires c = c.loop-i.invariant.1
 
-pub put_flag-requires : goal.put_flag-requires
-put_flag-requires c = tt
-
 pub loop-i-preserved : goal.loop-i-preserved
 loop-i-preserved c = (write_flag _ _ _ _ _ c.loop-i.invariant.0 _ _ _ c.loop-i-test.true c.put_flag.ensures c.comes_back-back.ensures.value refl, c.comes_back-back.ensures.known_ends)
 

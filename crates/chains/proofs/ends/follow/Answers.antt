@@ -7,14 +7,8 @@ use Rattle.chains.proofs.ends.follow.Goals as goal
 pub loop-left-init : goal.loop-left-init
 loop-left-init c = (refl, passed_here _ _ _, λ e. e)
 
-pub byte_at-requires : goal.byte_at-requires
-byte_at-requires c = tt
-
 pub returns-then-byte_at-eq1 : goal.returns-then-byte_at-eq1
 returns-then-byte_at-eq1 c = course_ends _ _ _ (c.loop-left.invariant.2 (c.requires.row c.loop-left.at (sym c.byte_at.ensures ∙ c.if-byte_at-eq1.true)))
-
-pub next_row-row-requires : goal.next_row-row-requires
-next_row-row-requires c = tt
 
 pub returns-then-row-eq-NO_NEXT : goal.returns-then-row-eq-NO_NEXT
 returns-then-row-eq-NO_NEXT c = let l = c.loop-left in
@@ -29,9 +23,6 @@ returns-then-row-passed c = let l = c.loop-left in
     course_rounds _ _ _
     (comes_again _ _ l.at _ c.next_row-row.ensures c.if-row-eq-NO_NEXT.false c.if-row-i.false _ l.left l.invariant.1 c.if-row-passed.true
     c.loop-left-test.true ∙ l.invariant.0)
-
-pub longer-steps-requires : goal.longer-steps-requires
-longer-steps-requires c = tt
 
 pub loop-left-preserved-then-wait-eq0 : goal.loop-left-preserved-then-wait-eq0
 loop-left-preserved-then-wait-eq0 c = let l = c.loop-left in (

@@ -10,9 +10,6 @@ returns-then-at-ge-PLACES c = c.loop-left.invariant.0
 pub returns-then-ended-at-eq1 : goal.returns-then-ended-at-eq1
 returns-then-ended-at-eq1 c = c.loop-left.invariant.0
 
-pub next_row-row-requires : goal.next_row-row-requires
-next_row-row-requires c = tt
-
 pub returns-then-row-eq-NO_NEXT : goal.returns-then-row-eq-NO_NEXT
 returns-then-row-eq-NO_NEXT c = let l = c.loop-left in known_more _ _ _ l.invariant.0 l.invariant.1
 

@@ -8,9 +8,6 @@ use Rattle.chains.proofs.firm.firm_depth.Goals as goal
 pub loop-left-init : goal.loop-left-init
 loop-left-init c = behind_none _ _ _ _
 
-pub depth_at-depth-requires : goal.depth_at-depth-requires
-depth_at-depth-requires c = tt
-
 pub overflow_sub-result : goal.overflow_sub-result
 overflow_sub-result c = c.loop-left.invariant.most
 
@@ -23,15 +20,9 @@ returns-then-depth-left c = let l = c.loop-left in
     is_deep _ _ _ _ _ _ l.invariant _ some c.if-depth-left.true
     (rw c.depth_at-depth.ensures (c.requires.row l.at (λ q. omega (arith, q, c.depth_at-depth.ensures, some))))
 
-pub byte_at-requires : goal.byte_at-requires
-byte_at-requires c = tt
-
 pub returns-then-byte_at-ne1 : goal.returns-then-byte_at-ne1
 returns-then-byte_at-ne1 c = let l = c.loop-left in
     not_good _ _ _ _ (firm_not _ _ l.left l.at c.loop-left-test.true _ c.byte_at.ensures c.if-byte_at-ne1.true ∙ l.invariant.same)
-
-pub next_row-row-requires : goal.next_row-row-requires
-next_row-row-requires c = tt
 
 pub overflow_sub-result-then-row-eq-NO_NEXT : goal.overflow_sub-result-then-row-eq-NO_NEXT
 overflow_sub-result-then-row-eq-NO_NEXT c = c.loop-left.invariant.most

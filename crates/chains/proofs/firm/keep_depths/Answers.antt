@@ -14,9 +14,6 @@ returns-then-depths-at-ne0 c = c.loop-left.invariant.0
 pub returns-then-left-gt65535 : goal.returns-then-left-gt65535
 returns-then-left-gt65535 c = c.loop-left.invariant.0
 
-pub next_row-row-requires : goal.next_row-row-requires
-next_row-row-requires c = tt
-
 pub returns-then-row-eq-NO_NEXT : goal.returns-then-row-eq-NO_NEXT
 returns-then-row-eq-NO_NEXT c = let l = c.loop-left in
     depths_more _ _ _ _ _ l.invariant.0 (l.invariant.1 (λ q. omega (arith, q, c.loop-left-test.true)))

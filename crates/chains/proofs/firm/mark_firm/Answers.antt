@@ -10,9 +10,6 @@ loop-i-init c = (write_start _ _ _, depths_none _ _ most_places)
 pub is_firm-all-requires : goal.is_firm-all-requires
 is_firm-all-requires c = c.loop-i.invariant.1
 
-pub put_flag-requires : goal.put_flag-requires
-put_flag-requires c = tt
-
 pub loop-i-preserved : goal.loop-i-preserved
 loop-i-preserved c = (write_flag _ _ _ _ _ c.loop-i.invariant.0 _ _ _ c.loop-i-test.true c.put_flag.ensures c.is_firm-all.ensures.value refl, c.is_firm-all.ensures.known_depths)
 

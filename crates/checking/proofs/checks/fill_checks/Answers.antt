@@ -10,15 +10,6 @@ use Rattle.checking.proofs.checks.fill_checks.Goals as goal
 pub loop-i-init : goal.loop-i-init
 loop-i-init c = fill_start _ _ _ _ _ _ _ c.requires.0 c.requires.1
 
-pub ocp_at-row-requires : goal.ocp_at-row-requires
-ocp_at-row-requires c = tt
-
-pub applies-requires : goal.applies-requires
-applies-requires c = tt
-
-pub level_of-requires : goal.level_of-requires
-level_of-requires c = tt
-
 pub loop-i-preserved-then-applies : goal.loop-i-preserved-then-applies
 loop-i-preserved-then-applies c =
     let low_word : (to_z w64 (of_z w64 c.ocp_at-row.result.lvalu) ≡ c.ocp_at-row.result.lvalu) = let f : SFits w64 c.ocp_at-row.result.lvalu = search rules in

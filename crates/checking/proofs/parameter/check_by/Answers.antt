@@ -5,23 +5,14 @@ use lib.ListN.{length-replicate}
 use Rattle.checking.proofs.ParameterLaws.{manner_checked}
 use Rattle.checking.proofs.parameter.check_by.Goals as goal
 
-pub pcf_at-pcf-requires : goal.pcf_at-pcf-requires
-pcf_at-pcf-requires c = tt
-
 pub manner_of-manner-requires : goal.manner_of-manner-requires
 manner_of-manner-requires c = (length-replicate 1024 (pos 0), length-replicate 1024 (pos 0))
-
-pub location_at-plf-requires : goal.location_at-plf-requires
-location_at-plf-requires c = tt
 
 pub slice_bounds-check_occurrences-end : goal.slice_bounds-check_occurrences-end
 slice_bounds-check_occurrences-end c = sym c.manner_of-manner.ensures.long.0
 
 pub slice_bounds-check_occurrences-end-2 : goal.slice_bounds-check_occurrences-end-2
 slice_bounds-check_occurrences-end-2 c = sym c.manner_of-manner.ensures.long.1
-
-pub check_occurrences-requires : goal.check_occurrences-requires
-check_occurrences-requires c = tt
 
 pub returns : goal.returns
 returns c = c.check_occurrences.ensures _ c.location_at-plf.ensures ∙ manner_checked _ _ _ _ _ _ _ _ c.pcf_at-pcf.ensures c.manner_of-manner.ensures

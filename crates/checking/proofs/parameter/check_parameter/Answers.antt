@@ -23,8 +23,5 @@ slice_bounds-levels-end c = omega (arith, c.gather_checks-checks.ensures.upper_b
 pub slice_bounds-check_by-end-3 : goal.slice_bounds-check_by-end-3
 slice_bounds-check_by-end-3 c = part_long _ _ (omega (arith, c.gather_checks-checks.ensures.upper_bound.0, c.gather_checks-checks.ensures.upper_bound.1.level))
 
-pub check_by-requires : goal.check_by-requires
-check_by-requires c = tt
-
 pub returns : goal.returns
 returns c = c.check_by.ensures ∙ applying_checked _ _ _ _ _ _ _ c.gather_checks-checks.ensures.levels_after

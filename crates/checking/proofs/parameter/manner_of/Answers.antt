@@ -2,9 +2,6 @@
 use mathlib.Core.Path.{refl}
 use Rattle.checking.proofs.parameter.manner_of.Goals as goal
 
-pub validity-valid-requires : goal.validity-valid-requires
-validity-valid-requires c = tt
-
 pub returns : goal.returns
 returns c = record {
   nbchck = refl;

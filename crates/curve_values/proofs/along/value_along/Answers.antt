@@ -1,29 +1,31 @@
 -- By the ends of the curve, where there is one.
-use mathlib.Core.Path.{ap, ◌∙◌}
+use mathlib.Core.Path.{ap, sym, ◌∙◌}
 use mir.Facts.{to_z-of_z}
-use Rattle.outcomes.specs.Refusals.{refusal_number, refusal_place, refused_by}
+use mir.Val.{SFits}
+use mir.Syntax.{w64}
+use borrow.Author.Rules.{rules}
+use Rattle.calibration.specs.Curve as calibration
+use Rattle.outcomes.specs.Outcome.{answer}
+use Rattle.outcomes.specs.Refusals.{said, refusal_number, refusal_place, refused_by}
 use Rattle.curve_values.specs.Along.{outcome_of}
-use Rattle.curve_values.specs.Along.{said_result}
 use Rattle.curve_values.proofs.AlongLaws.{along_points, along_none}
 use Rattle.curve_values.proofs.along.value_along.Goals as goal
 
-pub front-requires : goal.front-requires
-front-requires c = tt
+pub returns-in_default : goal.returns-in_default
+unfolding said refused_by refusal_number refusal_place
+returns-in_default c = along_none _ _ _ _ c.in_default.is
 
-pub front-requires-in-Are : goal.front-requires-in-Are
-front-requires-in-Are c = tt
-
-pub curve_at-requires : goal.curve_at-requires
-curve_at-requires c = tt
-
-pub result_of-requires : goal.result_of-requires
-result_of-requires c = tt
-
-pub returns-in-Are : goal.returns-in-Are
-returns-in-Are c = c.result_of.ensures
+pub returns-in-Ok : goal.returns-in-Ok
+unfolding said outcome_of calibration.said_curve
+returns-in-Ok c = let f : SFits w64 c.in-Ok.y = search rules in
+    ap answer (to_z-of_z f)
+    ∙ ap (λ x. outcome_of (calibration.said_curve x)) (sym c.in-Ok.is)
     ∙ ap outcome_of c.curve_at.ensures
-    ∙ along_points _ _ _ _ c.in-Are.is c.front.ensures c.front-in-Are.ensures (to_z-of_z c.ranges.raw)
+    ∙ along_points _ _ _ _ c.in-Some.is c.front.ensures c.front-2.ensures (to_z-of_z c.ranges.raw)
 
-pub returns-in-NoCurve : goal.returns-in-NoCurve
-unfolding said_result refused_by refusal_number refusal_place
-returns-in-NoCurve c = along_none _ _ _ _ c.in-NoCurve.is
+pub returns-in-Err : goal.returns-in-Err
+unfolding said
+returns-in-Err c = c.refusal_of.ensures
+    ∙ ap (λ x. outcome_of (calibration.said_curve x)) (sym c.in-Err.is)
+    ∙ ap outcome_of c.curve_at.ensures
+    ∙ along_points _ _ _ _ c.in-Some.is c.front.ensures c.front-2.ensures (to_z-of_z c.ranges.raw)

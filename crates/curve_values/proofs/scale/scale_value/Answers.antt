@@ -13,17 +13,11 @@ use Rattle.database.proofs.GatherLaws.{members_few}
 use Rattle.curve_values.proofs.ScaleLaws.{gathered_scale}
 use Rattle.curve_values.proofs.scale.scale_value.Goals as goal
 
-pub gather_scale-scale-requires : goal.gather_scale-scale-requires
-gather_scale-scale-requires c = tt
-
 pub slice_bounds-value_on-end : goal.slice_bounds-value_on-end
 slice_bounds-value_on-end c = sym (ap length c.gather_scale-scale.ensures.xs_after ∙ simp (length-sets, length-replicate))
 
 pub slice_bounds-value_on-end-2 : goal.slice_bounds-value_on-end-2
 slice_bounds-value_on-end-2 c = sym (ap length c.gather_scale-scale.ensures.ys_after ∙ simp (length-sets, length-replicate))
-
-pub value_on-requires : goal.value_on-requires
-value_on-requires c = tt
 
 pub returns : goal.returns
 returns c =

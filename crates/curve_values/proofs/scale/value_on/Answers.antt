@@ -2,15 +2,12 @@
 use mathlib.Core.Path.{ap, ◌∙◌}
 use mir.Facts.{to_z-of_z}
 use Rattle.outcomes.specs.Outcome.{answer}
-use Rattle.curve_values.specs.Along.{said_result}
+use Rattle.outcomes.specs.Refusals.{said}
 use Rattle.curve_values.proofs.ScaleLaws.{on_read, on_points}
 use Rattle.curve_values.proofs.scale.value_on.Goals as goal
 
-pub value_along-requires : goal.value_along-requires
-value_along-requires c = tt
-
 pub returns-in-AsRead : goal.returns-in-AsRead
-unfolding said_result
+unfolding said
 returns-in-AsRead c = ap answer (to_z-of_z c.ranges.raw) ∙ on_read _ _ _ c.in-AsRead.is
 
 pub returns-in-Along : goal.returns-in-Along

@@ -9,8 +9,5 @@ returns-then-shaped-ne0 c = shaped_first _ _ c.if-shaped-ne0.true
 pub returns-then-column-eq0 : goal.returns-then-column-eq0
 returns-then-column-eq0 c = none _ _ c.if-shaped-ne0.false c.if-column-eq0.true
 
-pub verdict_of-requires : goal.verdict_of-requires
-verdict_of-requires c = tt
-
 pub returns : goal.returns
 returns c = c.verdict_of.ensures ∙ eight _ _ c.if-shaped-ne0.false c.if-column-eq0.false

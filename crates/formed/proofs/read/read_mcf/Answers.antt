@@ -12,5 +12,5 @@ use Rattle.formed.proofs.read.read_mcf.Goals as goal
 pub returns : goal.returns
 unfolding contradiction
 returns c = let w = walked_over c.scan-walk.ensures.value c.part-line.ensures c.scan-walk.ensures.ends_after in
-    let ident = c.mcf_ident-ident.ensures ∙ ap (λ (r : McfRow). r.ident) (mcf_divided _ (ends_are w) ∙ ap mcf_row (line_is w)) in
-    let verdict = formed_is w Mcf c.check_mcf-shaped.ensures (refl) c.or_contradiction.ensures in record { verdict_value = (verdict, ident); next_value = next_is w }
+    let row = c.mcf_ident-row.ensures ∙ ap (λ (r : McfRow). r.ident) (mcf_divided _ (ends_are w) ∙ ap mcf_row (line_is w)) in
+    let verdict = formed_is w Mcf c.check_mcf-shaped.ensures (refl) c.or_contradiction.ensures in record { verdict_value = (verdict, row); next_value = next_is w }

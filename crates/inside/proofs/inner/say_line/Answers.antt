@@ -9,15 +9,15 @@ use Rattle.curves.specs.Line.{said_on_line}
 use borrow.Author.Rules.{rules}
 use Rattle.inside.proofs.inner.say_line.Goals as goal
 
-pub returns-in-Is : goal.returns-in-Is
+pub returns-in-Ok : goal.returns-in-Ok
 unfolding line_answer said_on_line
-returns-in-Is c = let f : SFits w64 c.in-Is.y = search rules in
-    rw c.in-Is.is (c.say_integer.ensures ∙ ap integer_answer (to_z-of_z f))
+returns-in-Ok c = let f : SFits w64 c.in-Ok.y = search rules in
+    rw c.in-Ok.is (c.say_integer.ensures ∙ ap integer_answer (to_z-of_z f))
 
 pub returns-in-Beyond : goal.returns-in-Beyond
 unfolding line_answer said_on_line
-returns-in-Beyond c = simp (c.in-Beyond.is, c.say_words.ensures)
+returns-in-Beyond c = rw (c.in-Err.is, c.in-Beyond.is) c.say_words.ensures
 
 pub returns-in-NoLine : goal.returns-in-NoLine
 unfolding line_answer said_on_line
-returns-in-NoLine c = simp (c.in-NoLine.is, c.say_words-in-NoLine.ensures)
+returns-in-NoLine c = rw (c.in-Err.is, c.in-NoLine.is) c.say_words-in-NoLine.ensures

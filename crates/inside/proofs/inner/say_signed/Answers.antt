@@ -9,15 +9,11 @@ use Rattle.fields.specs.Sign.{said_signed}
 use borrow.Author.Rules.{rules}
 use Rattle.inside.proofs.inner.say_signed.Goals as goal
 
-pub returns-in-Is : goal.returns-in-Is
+pub returns-in-Ok : goal.returns-in-Ok
 unfolding field_answer said_signed
-returns-in-Is c = let f : SFits w64 c.in-Is.v = search rules in
-    rw c.in-Is.is (c.say_integer.ensures ∙ ap integer_answer (to_z-of_z f))
+returns-in-Ok c = let f : SFits w64 c.in-Ok.v = search rules in
+    rw c.in-Ok.is (c.say_integer.ensures ∙ ap integer_answer (to_z-of_z f))
 
-pub returns-in-Outside : goal.returns-in-Outside
-unfolding field_answer said_signed
-returns-in-Outside c = simp (c.in-Outside.is, c.say_words.ensures)
-
-pub returns-in-NoWidth : goal.returns-in-NoWidth
-unfolding field_answer said_signed
-returns-in-NoWidth c = simp (c.in-NoWidth.is, c.say_words-in-NoWidth.ensures)
+pub returns-in-Err : goal.returns-in-Err
+unfolding said_signed
+returns-in-Err c = rw c.in-Err.is c.say_error.ensures

@@ -8,14 +8,10 @@ use Rattle.answers.specs.Answers.{saying}
 use Rattle.comparing.proofs.AnswerLaws.{natural_answer}
 use Rattle.inside.proofs.inner.say_unsigned.Goals as goal
 
-pub returns-in-Is : goal.returns-in-Is
+pub returns-in-Ok : goal.returns-in-Ok
 unfolding field_answer said_unsigned
-returns-in-Is c = rw c.in-Is.is (c.says.ensures ∙ ap (saying (ascii "#") false) c.one.ensures ∙ sym (natural_answer _))
+returns-in-Ok c = rw c.in-Ok.is (c.says.ensures ∙ ap (saying (ascii "#") false) c.one.ensures ∙ sym (natural_answer _))
 
-pub returns-in-Outside : goal.returns-in-Outside
-unfolding field_answer said_unsigned
-returns-in-Outside c = simp (c.in-Outside.is, c.say_words.ensures)
-
-pub returns-in-NoWidth : goal.returns-in-NoWidth
-unfolding field_answer said_unsigned
-returns-in-NoWidth c = simp (c.in-NoWidth.is, c.say_words-in-NoWidth.ensures)
+pub returns-in-Err : goal.returns-in-Err
+unfolding said_unsigned
+returns-in-Err c = rw c.in-Err.is c.say_error.ensures

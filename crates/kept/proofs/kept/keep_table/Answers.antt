@@ -15,12 +15,6 @@ overflow_add-i c =
     let below : c.loop-a.j < length (lines_of c.args.table.now) = walk_below _ _ _ _ _ _ _ _ c.loop-a.invariant c.loop-a-test.true in
     omega (arith, below, c.requires.table_bound.0)
 
-pub kind_of-requires : goal.kind_of-requires
-kind_of-requires c = tt
-
-pub line_keys-line-requires : goal.line_keys-line-requires
-line_keys-line-requires c = tt
-
 pub overflow_cast-start : goal.overflow_cast-start
 overflow_cast-start c = omega (arith, c.loop-a-test.true, c.requires.t_lt_table_count.1)
 

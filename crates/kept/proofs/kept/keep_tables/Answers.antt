@@ -13,15 +13,9 @@ loop-t-init c =
     let all : length (map (λ x. x.now) c.args.tables) ≡ table_count = count c.args.tables (search rules) in
     pass_start _ all _ c.requires.ready refl
 
-pub table_at-requires : goal.table_at-requires
-table_at-requires c = tt
-
 pub keep_table-kept-requires : goal.keep_table-kept-requires
 keep_table-kept-requires c =
     let all : length (map (λ x. x.now) c.args.tables) ≡ table_count = count c.args.tables (search rules) in record { ready = c.loop-t.invariant.ready; t_lt_table_count = (c.loop-t-test.true, next_short _ all _ _ _ _ c.loop-t.invariant c.requires.tables_value.1 c.loop-t-test.true _ c.table_at.ensures c.requires.tables_value.0); table_bound = (next_places _ all _ _ _ _ c.loop-t.invariant c.requires.tables_value.1 c.loop-t-test.true _ c.table_at.ensures, next_room _ all _ _ _ _ c.loop-t.invariant c.requires.tables_value.1 c.loop-t-test.true _ c.table_at.ensures) }
-
-pub overflow_add-t : goal.overflow_add-t
-overflow_add-t c = omega (arith, c.loop-t-test.true)
 
 pub loop-t-smaller : goal.loop-t-smaller
 loop-t-smaller c = omega (arith, c.loop-t-test.true)

@@ -2,10 +2,10 @@
 use Rattle.key_symbols.specs.Keyed.{apid_word}
 use Rattle.key_symbols.proofs.words.apid_word.Goals as goal
 
-pub returns-in-Only : goal.returns-in-Only
+pub returns-in-Some : goal.returns-in-Some
 unfolding apid_word
-returns-in-Only c = rw c.in-Only.is
+returns-in-Some c = rw c.in-Some.is
 
-pub returns-in-Any : goal.returns-in-Any
+pub returns-in-None : goal.returns-in-None
 unfolding apid_word
-returns-in-Any c = rw c.in-Any.is
+returns-in-None c = rw c.in-None.is

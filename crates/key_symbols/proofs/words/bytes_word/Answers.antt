@@ -13,9 +13,6 @@ loop-i-init c = (omega arith, omega arith, refl)
 pub overflow_mul-n : goal.overflow_mul-n
 overflow_mul-n c = record { fits = omega (arith, bytes_room {d = 0} c.loop-i.invariant.1 (omega arith) (omega arith)) }
 
-pub wide-requires : goal.wide-requires
-wide-requires c = tt
-
 pub overflow_add-n : goal.overflow_add-n
 overflow_add-n c =
     let byte : c.wide.result < 256 = omega (arith, c.wide.ensures, c.shared_slice_known-1.given c.loop-i.i) in

@@ -4,15 +4,6 @@ use Rattle.manners.specs.Manners.{weight, marks_of}
 use Rattle.keys.proofs.CaseLaws.{counter_said}
 use Rattle.keys.proofs.tables.caf_keys.Goals as goal
 
-pub read_caf-read-requires : goal.read_caf-read-requires
-read_caf-read-requires c = tt
-
-pub curve_key-requires : goal.curve_key-requires
-curve_key-requires c = tt
-
-pub counter-keys-requires : goal.counter-keys-requires
-counter-keys-requires c = tt
-
 pub returns : goal.returns
 unfolding facts_of caf_facts marks_of weight
 returns c = record {

@@ -8,18 +8,6 @@ use Rattle.manners.specs.Manners.{manners, weight, same_manner, code_from, code_
 use Rattle.keys.proofs.CaseLaws.{member_said}
 use Rattle.keys.proofs.tables.cap_keys.Goals as goal
 
-pub read_cap-read-requires : goal.read_cap-read-requires
-read_cap-read-requires c = tt
-
-pub point_key-point-requires : goal.point_key-point-requires
-point_key-point-requires c = tt
-
-pub curve_key-requires : goal.curve_key-requires
-curve_key-requires c = tt
-
-pub member-keys-requires : goal.member-keys-requires
-member-keys-requires c = tt
-
 pub returns : goal.returns
 unfolding facts_of cap_facts manners weight same_manner code_from code_of
 returns c = let f : SFits w64 c.read_cap-read.result.row.xvals = search rules in

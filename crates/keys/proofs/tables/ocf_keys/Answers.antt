@@ -5,27 +5,6 @@ use Rattle.keys.specs.Held.{slot_of, named_of, count_of, keys_of}
 use Rattle.keys.proofs.CaseLaws.{name_under_c}
 use Rattle.keys.proofs.tables.ocf_keys.Goals as goal
 
-pub read_ocf-read-requires : goal.read_ocf-read-requires
-read_ocf-read-requires c = tt
-
-pub parameter_key-key-requires : goal.parameter_key-key-requires
-parameter_key-key-requires c = tt
-
-pub is_engineering-requires : goal.is_engineering-requires
-is_engineering-requires c = tt
-
-pub named-calibrated-requires : goal.named-calibrated-requires
-named-calibrated-requires c = tt
-
-pub limits_key-requires : goal.limits_key-requires
-limits_key-requires c = tt
-
-pub counter-counting-requires : goal.counter-counting-requires
-counter-counting-requires c = tt
-
-pub naming-keys-requires : goal.naming-keys-requires
-naming-keys-requires c = tt
-
 pub returns : goal.returns
 unfolding facts_of ocf_facts keys_of slot_of named_of count_of marks_of weight code_of code_from same_manner manners
 returns c = record {

@@ -5,27 +5,6 @@ use Rattle.keys.specs.Held.{slot_of, named_of, count_of, keys_of}
 use Rattle.keys.proofs.CaseLaws.{name_given}
 use Rattle.keys.proofs.tables.ocp_keys.Goals as goal
 
-pub read_ocp-read-requires : goal.read_ocp-read-requires
-read_ocp-read-requires c = tt
-
-pub check_key-requires : goal.check_key-requires
-check_key-requires c = tt
-
-pub limits_key-requires : goal.limits_key-requires
-limits_key-requires c = tt
-
-pub member-counted-requires : goal.member-counted-requires
-member-counted-requires c = tt
-
-pub parameter_key-requires : goal.parameter_key-requires
-parameter_key-requires c = tt
-
-pub named-parameter-requires : goal.named-parameter-requires
-named-parameter-requires c = tt
-
-pub naming-keys-requires : goal.naming-keys-requires
-naming-keys-requires c = tt
-
 pub returns : goal.returns
 unfolding facts_of ocp_facts keys_of slot_of named_of count_of marks_of weight code_of code_from same_manner manners
 returns c = record {

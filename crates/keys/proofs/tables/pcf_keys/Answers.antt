@@ -3,33 +3,6 @@ use Rattle.verdicts.specs.Facts.{facts_of}
 use Rattle.keys.proofs.CaseLaws.{pcf_said}
 use Rattle.keys.proofs.tables.pcf_keys.Goals as goal
 
-pub read_pcf-read-requires : goal.read_pcf-read-requires
-read_pcf-read-requires c = tt
-
-pub parameter_key-requires : goal.parameter_key-requires
-parameter_key-requires c = tt
-
-pub named-valid-requires : goal.named-valid-requires
-named-valid-requires c = tt
-
-pub curtx_key-requires : goal.curtx_key-requires
-curtx_key-requires c = tt
-
-pub named-curtx-requires : goal.named-curtx-requires
-named-curtx-requires c = tt
-
-pub parameter_key-requires-2 : goal.parameter_key-requires-2
-parameter_key-requires-2 c = tt
-
-pub pcf_marks-requires : goal.pcf_marks-requires
-pcf_marks-requires c = tt
-
-pub holder-held-requires : goal.holder-held-requires
-holder-held-requires c = tt
-
-pub naming-keys-requires : goal.naming-keys-requires
-naming-keys-requires c = tt
-
 pub returns : goal.returns
 unfolding facts_of
 returns c = record {

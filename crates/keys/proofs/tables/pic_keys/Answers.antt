@@ -4,15 +4,6 @@ use Rattle.manners.specs.Manners.{manners, weight, same_manner, code_from, code_
 use Rattle.keys.specs.Held.{slot_of, named_of, count_of, keys_of}
 use Rattle.keys.proofs.tables.pic_keys.Goals as goal
 
-pub read_pic-read-requires : goal.read_pic-read-requires
-read_pic-read-requires c = tt
-
-pub identification_key-key-requires : goal.identification_key-key-requires
-identification_key-key-requires c = tt
-
-pub holder-keys-requires : goal.holder-keys-requires
-holder-keys-requires c = tt
-
 pub returns : goal.returns
 unfolding facts_of pic_facts keys_of slot_of named_of count_of marks_of weight code_of code_from same_manner manners
 returns c = record {

@@ -6,31 +6,10 @@ use Rattle.keys.specs.Held.{slot_of, named_of, count_of, keys_of}
 use Rattle.keys.proofs.CaseLaws.{pid_first, pid_second}
 use Rattle.keys.proofs.tables.pid_keys.Goals as goal
 
-pub read_pid-read-requires : goal.read_pid-read-requires
-read_pid-read-requires c = tt
-
-pub is_yes-yes-requires : goal.is_yes-yes-requires
-is_yes-yes-requires c = tt
-
-pub pid_key-packet-requires : goal.pid_key-packet-requires
-pid_key-packet-requires c = tt
-
-pub structure_key-structure-requires : goal.structure_key-structure-requires
-structure_key-structure-requires c = tt
-
-pub slot-requires : goal.slot-requires
-slot-requires c = tt
-
-pub slot-requires-2 : goal.slot-requires-2
-slot-requires-2 c = tt
-
-pub holding-keys-requires : goal.holding-keys-requires
-holding-keys-requires c = tt
-
 pub returns : goal.returns
 unfolding facts_of pid_facts keys_of slot_of named_of count_of marks_of weight
-returns c = let first = c.slot.ensures ∙ pid_first c.read_pid-read.result.row c.read_pid-read.result.row.valid c.is_yes-yes.ensures c.pid_key-packet.ensures.0 in
-    let second = c.slot-2.ensures ∙ pid_second c.read_pid-read.result.row c.read_pid-read.result.row.valid c.is_yes-yes.ensures c.structure_key-structure.ensures.0 in
+returns c = let first = c.then_some.ensures ∙ pid_first c.read_pid-read.result.row c.read_pid-read.result.row.valid c.is_yes-yes.ensures c.pid_key-packet.ensures.0 in
+    let second = c.then_some-2.ensures ∙ pid_second c.read_pid-read.result.row c.read_pid-read.result.row.valid c.is_yes-yes.ensures c.structure_key-structure.ensures.0 in
     record {
       keys = rw (← c.read_pid-read.ensures.verdict_value.0, ← c.read_pid-read.ensures.verdict_value.1, c.holding-keys.ensures, first, second);
       next = c.read_pid-read.ensures.next_value;

@@ -4,24 +4,6 @@ use Rattle.manners.specs.Manners.{manners, weight, same_manner, code_from, code_
 use Rattle.keys.specs.Held.{slot_of, named_of, count_of, keys_of}
 use Rattle.keys.proofs.tables.plf_keys.Goals as goal
 
-pub read_plf-read-requires : goal.read_plf-read-requires
-read_plf-read-requires c = tt
-
-pub location_key-key-requires : goal.location_key-key-requires
-location_key-key-requires c = tt
-
-pub parameter_key-requires : goal.parameter_key-requires
-parameter_key-requires c = tt
-
-pub structure_key-requires : goal.structure_key-requires
-structure_key-requires c = tt
-
-pub holder-requires : goal.holder-requires
-holder-requires c = tt
-
-pub naming-keys-requires : goal.naming-keys-requires
-naming-keys-requires c = tt
-
 pub returns : goal.returns
 unfolding facts_of plf_facts keys_of slot_of named_of count_of marks_of weight code_of code_from same_manner manners
 returns c = record {

@@ -4,15 +4,6 @@ use Rattle.manners.specs.Manners.{weight, marks_of}
 use Rattle.keys.proofs.CaseLaws.{counter_said}
 use Rattle.keys.proofs.tables.txf_keys.Goals as goal
 
-pub read_txf-read-requires : goal.read_txf-read-requires
-read_txf-read-requires c = tt
-
-pub texts_key-requires : goal.texts_key-requires
-texts_key-requires c = tt
-
-pub counter-keys-requires : goal.counter-keys-requires
-counter-keys-requires c = tt
-
 pub returns : goal.returns
 unfolding facts_of txf_facts marks_of weight
 returns c = record {

@@ -8,18 +8,6 @@ use Rattle.manners.specs.Manners.{manners, weight, same_manner, code_from, code_
 use Rattle.keys.proofs.CaseLaws.{member_said}
 use Rattle.keys.proofs.tables.txp_keys.Goals as goal
 
-pub read_txp-read-requires : goal.read_txp-read-requires
-read_txp-read-requires c = tt
-
-pub range_key-range-requires : goal.range_key-range-requires
-range_key-range-requires c = tt
-
-pub texts_key-requires : goal.texts_key-requires
-texts_key-requires c = tt
-
-pub member-keys-requires : goal.member-keys-requires
-member-keys-requires c = tt
-
 pub returns : goal.returns
 unfolding facts_of txp_facts manners weight same_manner code_from code_of
 returns c = let f : SFits w64 c.read_txp-read.result.row.from = search rules in

@@ -8,18 +8,12 @@ use Rattle.lines.proofs.columns.scan.Goals as goal
 pub loop-i-init : goal.loop-i-init
 loop-i-init c = walk_start _ _ _ _
 
-pub is_printable-requires : goal.is_printable-requires
-is_printable-requires c = tt
-
 pub loop-i-preserved-then-is_printable : goal.loop-i-preserved-then-is_printable
 loop-i-preserved-then-is_printable c = let l = c.loop-i in
     walk_printable _ _ _ _ _ _ _ _ l.invariant (search rules) (sym c.is_printable.ensures ∙ c.if-is_printable.true)
 
 pub overflow_sub-i : goal.overflow_sub-i
 overflow_sub-i c = c.loop-i.invariant.after
-
-pub keep_at-requires : goal.keep_at-requires
-keep_at-requires c = tt
 
 pub overflow_add-count : goal.overflow_add-count
 overflow_add-count c = let w = c.loop-i.invariant in omega (arith, w.few, w.room)
@@ -28,20 +22,11 @@ pub loop-i-preserved-then-b-eq-TAB : goal.loop-i-preserved-then-b-eq-TAB
 loop-i-preserved-then-b-eq-TAB c = let l = c.loop-i in
     walk_tab _ _ _ _ _ _ _ _ l.invariant (search rules) (search rules) c.keep_at.ensures
 
-pub is_end-requires : goal.is_end-requires
-is_end-requires c = tt
-
 pub overflow_sub-i-then-is_end : goal.overflow_sub-i-then-is_end
 overflow_sub-i-then-is_end c = c.loop-i.invariant.after
 
-pub keep_at-requires-then-is_end : goal.keep_at-requires-then-is_end
-keep_at-requires-then-is_end c = tt
-
 pub overflow_add-count-then-is_end : goal.overflow_add-count-then-is_end
 overflow_add-count-then-is_end c = let w = c.loop-i.invariant in omega (arith, w.few, w.room)
-
-pub closed-requires : goal.closed-requires
-closed-requires c = tt
 
 pub returns-then-is_end : goal.returns-then-is_end
 returns-then-is_end c = let w = c.loop-i.invariant in
@@ -59,14 +44,8 @@ loop-i-preserved c = let p = sym c.is_printable.ensures ∙ c.if-is_printable.fa
 pub overflow_sub-i-2 : goal.overflow_sub-i-2
 overflow_sub-i-2 c = c.loop-i.invariant.after
 
-pub keep_at-requires-2 : goal.keep_at-requires-2
-keep_at-requires-2 c = tt
-
 pub overflow_add-count-2 : goal.overflow_add-count-2
 overflow_add-count-2 c = let w = c.loop-i.invariant in omega (arith, w.few, w.room)
-
-pub closed-requires-2 : goal.closed-requires-2
-closed-requires-2 c = tt
 
 pub returns : goal.returns
 returns c = let w = c.loop-i.invariant in record {

@@ -13,28 +13,19 @@ loop-count-init c =
     let start_fits : SFits w64 c.args.row.valpar = search rules in
     follow_start _ _ _ _ _ _ c.requires.0 c.requires.1 start_fits
 
-pub end_of-requires : goal.end_of-requires
-end_of-requires c = tt
-
 pub returns-then-not-at : goal.returns-then-not-at
 returns-then-not-at c = rw c.end_of.ensures (follow_free _ _ _ c.loop-count.invariant (not_true _ c.if-not-at.true))
 
-pub ask-asked-requires : goal.ask-asked-requires
-ask-asked-requires c = tt
-
-pub end_of-requires-then-not-asked : goal.end_of-requires-then-not-asked
-end_of-requires-then-not-asked c = tt
-
-pub returns-then-not-asked : goal.returns-then-not-asked
-returns-then-not-asked c = rw c.end_of-then-not-asked.ensures
-    (follow_unreadable _ _ _ c.loop-count.invariant (not_false _ c.if-not-at.false) c.loop-count-test.true _ c.ask-asked.ensures (not_true _ c.if-not-asked.true))
+pub returns-in_default : goal.returns-in_default
+returns-in_default c = rw c.end_of-in_default.ensures
+    (follow_unreadable _ _ _ c.loop-count.invariant (not_false _ c.if-not-at.false) c.loop-count-test.true _ c.ask.ensures c.in_default.is)
 
 pub loop-count-preserved : goal.loop-count-preserved
 loop-count-preserved c =
-    let value-word : (to_z w64 (of_z w64 c.ask-asked.result.value) ≡ c.ask-asked.result.value) = let f : SFits w64 c.ask-asked.result.value = search rules in
+    let value-word : (to_z w64 (of_z w64 c.in-Some.asked.value) ≡ c.in-Some.asked.value) = let f : SFits w64 c.in-Some.asked.value = search rules in
     to_z-of_z f in
-    let row_fits : SFits w64 c.ask-asked.result.row.valpar = search (rules, c.ask-asked.type_inv.1.1.1.1.0) in
-    follow_more _ _ _ c.loop-count.invariant (not_false _ c.if-not-at.false) c.loop-count-test.true _ c.ask-asked.ensures (not_false _ c.if-not-asked.false) row_fits _ _
+    let row_fits : SFits w64 c.in-Some.asked.row.valpar = search rules in
+    follow_more _ _ _ c.loop-count.invariant (not_false _ c.if-not-at.false) c.loop-count-test.true _ c.ask.ensures c.in-Some.is row_fits _ _
     value-word (to_z-of_z c.loop-count.invariant.fits)
 
 pub returns : goal.returns

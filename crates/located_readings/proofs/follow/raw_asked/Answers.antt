@@ -4,13 +4,13 @@ use Rattle.outcomes.specs.Outcome.{and_then}
 use Rattle.outcomes.specs.Refusals.{refused_by}
 use Rattle.raw_values.specs.RawValues.{said_raw}
 use Rattle.readings.specs.Readings.{agrees}
-use Rattle.located_readings.proofs.FollowLaws.{never_agrees}
+use Rattle.located_readings.specs.Asked.{asked_agrees}
 use Rattle.located_readings.proofs.follow.raw_asked.Goals as goal
 
-pub returns-in-Is : goal.returns-in-Is
+pub returns-in-Ok : goal.returns-in-Ok
 unfolding said_raw and_then
-returns-in-Is c valid valpar = c.value_asked.ensures valid valpar ∙ rw c.in-Is.is
+returns-in-Ok c valid valpar = c.value_asked.ensures valid valpar ∙ rw c.in-Ok.is
 
-pub returns-in-Refused : goal.returns-in-Refused
-unfolding said_raw and_then refused_by agrees
-returns-in-Refused c valid valpar = never_agrees valid _ valpar c.unreadable.ensures ∙ rw c.in-Refused.is
+pub returns-in-Err : goal.returns-in-Err
+unfolding said_raw and_then refused_by agrees asked_agrees
+returns-in-Err c valid valpar = rw c.in-Err.is

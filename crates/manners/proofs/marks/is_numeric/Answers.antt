@@ -3,9 +3,6 @@ use mathlib.Core.Path.{sym, ◌∙◌}
 use Rattle.verdicts.specs.Facts.{pcf_facts}
 use Rattle.manners.proofs.marks.is_numeric.Goals as goal
 
-pub is_whole-requires : goal.is_whole-requires
-is_whole-requires c = tt
-
 pub returns-in-Numeric : goal.returns-in-Numeric
 unfolding pcf_facts
 returns-in-Numeric c = rw (c.in-Numeric.is, sym c.is_whole.ensures ∙ c.if-is_whole.true)

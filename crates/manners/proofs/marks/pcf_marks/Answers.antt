@@ -6,24 +6,6 @@ use Rattle.manners.specs.Manners.{weight, marks_of}
 use Rattle.manners.proofs.MarkLaws.{mark_most}
 use Rattle.manners.proofs.marks.pcf_marks.Goals as goal
 
-pub is_locatable-requires : goal.is_locatable-requires
-is_locatable-requires c = tt
-
-pub mark-locatable-requires : goal.mark-locatable-requires
-mark-locatable-requires c = tt
-
-pub is_whole-requires : goal.is_whole-requires
-is_whole-requires c = tt
-
-pub mark-whole-requires : goal.mark-whole-requires
-mark-whole-requires c = tt
-
-pub is_numeric-requires : goal.is_numeric-requires
-is_numeric-requires c = tt
-
-pub mark-numeric-requires : goal.mark-numeric-requires
-mark-numeric-requires c = tt
-
 pub overflow_add-result : goal.overflow_add-result
 overflow_add-result c =
     let small : (c.mark-locatable.result ≤ 2) × (c.mark-whole.result ≤ 4) × (c.mark-numeric.result ≤ 8) = (

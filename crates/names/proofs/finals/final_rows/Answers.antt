@@ -4,27 +4,6 @@ use Rattle.names.proofs.finals.final_rows.Goals as goal
 pub loop-i-init : goal.loop-i-init
 loop-i-init c = write_start _ _ _
 
-pub half_at-requires : goal.half_at-requires
-half_at-requires c = tt
-
-pub byte_at-requires : goal.byte_at-requires
-byte_at-requires c = tt
-
-pub row_at-requires : goal.row_at-requires
-row_at-requires c = tt
-
-pub byte_at-requires-in-loop-i : goal.byte_at-requires-in-loop-i
-byte_at-requires-in-loop-i c = tt
-
-pub row_at-requires-in-loop-i : goal.row_at-requires-in-loop-i
-row_at-requires-in-loop-i c = tt
-
-pub final_of-cell-requires : goal.final_of-cell-requires
-final_of-cell-requires c = tt
-
-pub put_half-requires : goal.put_half-requires
-put_half-requires c = tt
-
 pub loop-i-preserved : goal.loop-i-preserved
 loop-i-preserved c = write_put _ _ _ _ _ c.loop-i.invariant _ _ c.loop-i-test.true c.put_half.ensures
     (rw (

@@ -5,14 +5,14 @@ use Rattle.readings.specs.Readings.{equals, agrees, said_reading}
 use Rattle.outcomes.specs.Refusals.{refused_by}
 use Rattle.readings.proofs.along.agrees.Goals as goal
 
-pub returns-then-valid : goal.returns-then-valid
+pub returns-then-read : goal.returns-then-read
 unfolding agrees said_reading
-returns-then-valid c = c.equals.ensures ∙ ap (equals _) (to_z-of_z c.ranges.valpar) ∙ rw (c.in-Is.is, c.if-valid.true)
+returns-then-read c = c.equals.ensures ∙ ap (equals _) (to_z-of_z c.ranges.valpar) ∙ rw (c.in-Ok.is, c.if-read.true)
 
-pub returns-else-valid : goal.returns-else-valid
+pub returns-else-read : goal.returns-else-read
 unfolding agrees said_reading
-returns-else-valid c = rw (c.in-Is.is, c.if-valid.false)
+returns-else-read c = rw (c.in-Ok.is, c.if-read.false)
 
-pub returns-in-Refused : goal.returns-in-Refused
+pub returns-in-Err : goal.returns-in-Err
 unfolding agrees said_reading refused_by
-returns-in-Refused c = rw c.in-Refused.is
+returns-in-Err c = rw c.in-Err.is

@@ -3,18 +3,10 @@ use Rattle.import.specs.Judged.{said_imported}
 use Rattle.replies.specs.Replies.{imported_answer}
 use Rattle.replies.proofs.import_replies.say_imported.Goals as goal
 
-pub returns-in-Done : goal.returns-in-Done
+pub returns-in-Ok : goal.returns-in-Ok
 unfolding imported_answer said_imported
-returns-in-Done c = simp (c.in-Done.is, c.compose.ensures, c.two.ensures)
+returns-in-Ok c = simp (c.in-Ok.is, c.compose.ensures, c.two.ensures)
 
-pub returns-in-TooLong : goal.returns-in-TooLong
+pub returns-in-Err : goal.returns-in-Err
 unfolding imported_answer said_imported
-returns-in-TooLong c = rw c.in-TooLong.is c.refused.ensures
-
-pub returns-in-TooManyRows : goal.returns-in-TooManyRows
-unfolding imported_answer said_imported
-returns-in-TooManyRows c = rw c.in-TooManyRows.is c.refused-in-TooManyRows.ensures
-
-pub returns-in-TooFewCells : goal.returns-in-TooFewCells
-unfolding imported_answer said_imported
-returns-in-TooFewCells c = rw c.in-TooFewCells.is c.refused-in-TooFewCells.ensures
+returns-in-Err c = rw (c.in-Err.is, ← c.number_of.ensures, ← c.place_of.ensures) c.refused.ensures

@@ -4,10 +4,10 @@ use Rattle.identification.specs.Identification.{said_identified}
 use Rattle.replies.specs.Replies.{reply_of, identity_answer}
 use Rattle.replies.proofs.packet_replies.say_identified.Goals as goal
 
-pub returns-in-Is : goal.returns-in-Is
+pub returns-in-Ok : goal.returns-in-Ok
 unfolding reply_of identity_answer said_identified
-returns-in-Is c = rw c.in-Is.is c.says.ensures
+returns-in-Ok c = rw c.in-Ok.is c.says.ensures
 
-pub returns-in-Refused : goal.returns-in-Refused
+pub returns-in-Err : goal.returns-in-Err
 unfolding reply_of said_identified refused_by
-returns-in-Refused c = rw c.in-Refused.is c.refused_question.ensures
+returns-in-Err c = rw c.in-Err.is c.refused_question.ensures

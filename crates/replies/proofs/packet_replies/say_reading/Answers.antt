@@ -4,10 +4,10 @@ use Rattle.readings.specs.Readings.{said_reading}
 use Rattle.replies.specs.Replies.{reply_of, reading_answer}
 use Rattle.replies.proofs.packet_replies.say_reading.Goals as goal
 
-pub returns-in-Is : goal.returns-in-Is
+pub returns-in-Ok : goal.returns-in-Ok
 unfolding reply_of reading_answer said_reading
-returns-in-Is c = rw c.in-Is.is c.say_raw.ensures
+returns-in-Ok c = rw c.in-Ok.is c.say_raw.ensures
 
-pub returns-in-Refused : goal.returns-in-Refused
+pub returns-in-Err : goal.returns-in-Err
 unfolding reply_of said_reading refused_by
-returns-in-Refused c = rw c.in-Refused.is c.refused_question.ensures
+returns-in-Err c = rw c.in-Err.is c.refused_question.ensures

@@ -4,10 +4,10 @@ use Rattle.accepting.specs.Answer.{said_step}
 use Rattle.replies.specs.Replies.{reply_of}
 use Rattle.replies.proofs.packet_replies.say_stepped.Goals as goal
 
-pub returns-in-Taken : goal.returns-in-Taken
+pub returns-in-Ok : goal.returns-in-Ok
 unfolding reply_of said_step
-returns-in-Taken c = rw c.in-Taken.is c.say_state.ensures
+returns-in-Ok c = rw c.in-Ok.is c.say_state.ensures
 
-pub returns-in-Refused : goal.returns-in-Refused
+pub returns-in-Err : goal.returns-in-Err
 unfolding reply_of said_step refused_by
-returns-in-Refused c = rw c.in-Refused.is c.refused_question.ensures
+returns-in-Err c = rw c.in-Err.is c.refused_question.ensures

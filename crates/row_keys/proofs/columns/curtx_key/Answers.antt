@@ -1,15 +1,6 @@
 -- Each category's arm is the definition's case for it.
 use Rattle.row_keys.proofs.columns.curtx_key.Goals as goal
 
-pub curve_key-requires : goal.curve_key-requires
-curve_key-requires c = tt
-
-pub texts_key-requires : goal.texts_key-requires
-texts_key-requires c = tt
-
-pub curve_key-requires-in-Text : goal.curve_key-requires-in-Text
-curve_key-requires-in-Text c = tt
-
 pub returns-in-Numeric : goal.returns-in-Numeric
 returns-in-Numeric c = rw c.in-Numeric.is c.curve_key.ensures.0
 

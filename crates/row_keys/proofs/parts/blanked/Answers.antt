@@ -6,11 +6,5 @@ use Rattle.row_keys.proofs.parts.blanked.Goals as goal
 pub returns-then-read-eq0 : goal.returns-then-read-eq0
 returns-then-read-eq0 c = record { keys_value = rw (eq-eqb _ 0 c.if-read-eq0.true); next_value = refl }
 
-pub slot-none-requires : goal.slot-none-requires
-slot-none-requires c = tt
-
-pub holding-keys-requires : goal.holding-keys-requires
-holding-keys-requires c = tt
-
 pub returns : goal.returns
-returns c = record { keys_value = rw (ne_eqb _ 0 c.if-read-eq0.false, c.holding-keys.ensures, c.slot-none.ensures); next_value = refl }
+returns c = record { keys_value = rw (ne_eqb _ 0 c.if-read-eq0.false, c.holding-keys.ensures); next_value = refl }

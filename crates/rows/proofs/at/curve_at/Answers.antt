@@ -3,11 +3,5 @@ use mathlib.Core.Path.{ap, ◌∙◌}
 use Rattle.name_bytes.specs.Names.{curve_name_of}
 use Rattle.rows.proofs.at.curve_at.Goals as goal
 
-pub column-requires : goal.column-requires
-column-requires c = tt
-
-pub curve_name_of-requires : goal.curve_name_of-requires
-curve_name_of-requires c = tt
-
 pub returns : goal.returns
 returns c = c.curve_name_of.ensures ∙ ap curve_name_of c.column.ensures

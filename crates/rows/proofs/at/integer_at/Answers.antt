@@ -4,11 +4,5 @@ use mathlib.Core.Path.{◌∙◌}
 use Rattle.laws.proofs.Words.{kept}
 use Rattle.rows.proofs.at.integer_at.Goals as goal
 
-pub column-requires : goal.column-requires
-column-requires c = tt
-
-pub integer_or-requires : goal.integer_or-requires
-integer_or-requires c = tt
-
 pub returns : goal.returns
 returns c = kept c.integer_or.type_inv (c.integer_or.ensures ∙ rw (to_z-of_z c.ranges.default, c.column.ensures))

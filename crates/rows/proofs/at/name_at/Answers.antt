@@ -3,11 +3,5 @@ use mathlib.Core.Path.{ap, ◌∙◌}
 use Rattle.name_bytes.specs.Names.{name_of}
 use Rattle.rows.proofs.at.name_at.Goals as goal
 
-pub column-requires : goal.column-requires
-column-requires c = tt
-
-pub name_of-requires : goal.name_of-requires
-name_of-requires c = tt
-
 pub returns : goal.returns
 returns c = c.name_of.ensures ∙ ap name_of c.column.ensures

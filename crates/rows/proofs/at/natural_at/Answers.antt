@@ -3,11 +3,5 @@ use mathlib.Core.Path.{ap, ◌∙◌}
 use Rattle.rows.specs.Values.{natural_or}
 use Rattle.rows.proofs.at.natural_at.Goals as goal
 
-pub column-requires : goal.column-requires
-column-requires c = tt
-
-pub natural_or-requires : goal.natural_or-requires
-natural_or-requires c = tt
-
 pub returns : goal.returns
 returns c = c.natural_or.ensures ∙ ap (natural_or _) c.column.ensures

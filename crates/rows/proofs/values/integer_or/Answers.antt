@@ -1,25 +1,20 @@
--- Each answer of the number's reading is a case of the definition.
-use mathlib.Core.Path.{sym, ◌∙◌}
+-- The value that was read, or else the default.
+use mathlib.Core.Path.{ap, ◌∙◌}
+use lib.IntN.{ℤ}
 use mir.Facts.{to_z-of_z}
 use mir.Val.{SFits}
 use mir.Syntax.{w64}
-use Rattle.numbers.proofs.Answers.{value_told, not_number, beyond_large}
+use Rattle.std.specs.Prelude.{Result}
+use Rattle.std.specs.Result.{result_unwrap_or}
+use Rattle.numbers.specs.declared.NumberError.{NumberError}
 use Rattle.rows.specs.Values.{integer_or}
-use Rattle.rows.proofs.ValueLaws.{integer_none, integer_is, integer_large}
+use Rattle.rows.proofs.ValueLaws.{integer_read}
 use borrow.Author.Rules.{rules}
 use Rattle.rows.proofs.values.integer_or.Goals as goal
 
-pub returns-in-Value : goal.returns-in-Value
+pub returns : goal.returns
 unfolding integer_or
-returns-in-Value c = let f : SFits w64 c.in-Value.v = search rules in
-    to_z-of_z f ∙ integer_is _ (value_told _ (sym c.read_number.ensures ∙ c.in-Value.is))
-
-pub returns-in-NotNumber : goal.returns-in-NotNumber
-unfolding integer_or
-returns-in-NotNumber c = to_z-of_z c.ranges.default ∙ integer_none _
-    (not_number _ (sym c.read_number.ensures ∙ c.in-NotNumber.is))
-
-pub returns-in-Beyond : goal.returns-in-Beyond
-unfolding integer_or
-returns-in-Beyond c = to_z-of_z c.ranges.default ∙ integer_large _
-    (beyond_large _ (sym c.read_number.ensures ∙ c.in-Beyond.is))
+returns c = let f : SFits w64 c.unwrap_or.result = search rules in
+    to_z-of_z f ∙ c.unwrap_or.ensures ∙ ap (result_unwrap_or c.read_number.result) (to_z-of_z c.ranges.default)
+    ∙ ap (λ (r : Result ℤ NumberError). result_unwrap_or r c.args.default) c.read_number.ensures
+    ∙ integer_read c.args.default _

@@ -5,46 +5,36 @@ use mir.Facts.{to_z-of_z}
 use mir.Val.{SFits, to_z, of_z}
 use mir.Syntax.{w64}
 use Rattle.numbers.specs.Number.{number_of}
-use Rattle.numbers.proofs.Answers.{value_told, not_number, beyond_large}
+use Rattle.numbers.proofs.Answers.{value_told}
 use Rattle.rows.specs.Values.{natural_or}
-use Rattle.rows.proofs.ValueLaws.{natural_none, natural_low, natural_is, natural_high, natural_large, natural_fits}
+use Rattle.rows.proofs.ValueLaws.{natural_low, natural_is, natural_high, natural_unread}
 use borrow.Author.Rules.{rules}
 use Rattle.rows.proofs.values.natural_or.Goals as goal
 
 pub returns-then-v-lt0 : goal.returns-then-v-lt0
 unfolding natural_or
 returns-then-v-lt0 c =
-    let is : number_of c.args.text.now ≡ some c.in-Value.v = (value_told _ (sym c.read_number.ensures ∙ c.in-Value.is)).number in
-    let word : to_z w64 (of_z w64 c.in-Value.v) ≡ c.in-Value.v = let f : SFits w64 c.in-Value.v = search rules in
+    let is : number_of c.args.text.now ≡ some c.in-Ok.v = (value_told _ (sym c.read_number.ensures ∙ c.in-Ok.is)).number in
+    let word : to_z w64 (of_z w64 c.in-Ok.v) ≡ c.in-Ok.v = let f : SFits w64 c.in-Ok.v = search rules in
     to_z-of_z f in
     natural_low _ is (rw word at c.if-v-lt0.true)
-
-pub overflow_cast-result : goal.overflow_cast-result
-overflow_cast-result c =
-    let word : to_z w64 (of_z w64 c.in-Value.v) ≡ c.in-Value.v = let f : SFits w64 c.in-Value.v = search rules in
-    to_z-of_z f in
-    rw word (natural_fits c.in-Value.v (rw word at c.if-v-lt0.false) (rw word at c.if-v-lt4294967296.true))
 
 pub returns-then-v-lt4294967296 : goal.returns-then-v-lt4294967296
 unfolding natural_or
 returns-then-v-lt4294967296 c =
-    let is : number_of c.args.text.now ≡ some c.in-Value.v = (value_told _ (sym c.read_number.ensures ∙ c.in-Value.is)).number in
-    let word : to_z w64 (of_z w64 c.in-Value.v) ≡ c.in-Value.v = let f : SFits w64 c.in-Value.v = search rules in
+    let is : number_of c.args.text.now ≡ some c.in-Ok.v = (value_told _ (sym c.read_number.ensures ∙ c.in-Ok.is)).number in
+    let word : to_z w64 (of_z w64 c.in-Ok.v) ≡ c.in-Ok.v = let f : SFits w64 c.in-Ok.v = search rules in
     to_z-of_z f in
     rw word (natural_is _ is (rw word at c.if-v-lt0.false) (rw word at c.if-v-lt4294967296.true))
 
-pub returns-else-v-lt4294967296 : goal.returns-else-v-lt4294967296
+pub returns : goal.returns
 unfolding natural_or
-returns-else-v-lt4294967296 c =
-    let is : number_of c.args.text.now ≡ some c.in-Value.v = (value_told _ (sym c.read_number.ensures ∙ c.in-Value.is)).number in
-    let word : to_z w64 (of_z w64 c.in-Value.v) ≡ c.in-Value.v = let f : SFits w64 c.in-Value.v = search rules in
+returns c =
+    let is : number_of c.args.text.now ≡ some c.in-Ok.v = (value_told _ (sym c.read_number.ensures ∙ c.in-Ok.is)).number in
+    let word : to_z w64 (of_z w64 c.in-Ok.v) ≡ c.in-Ok.v = let f : SFits w64 c.in-Ok.v = search rules in
     to_z-of_z f in
     natural_high _ is (rw word at c.if-v-lt4294967296.false)
 
-pub returns-in-NotNumber : goal.returns-in-NotNumber
+pub returns-in_default : goal.returns-in_default
 unfolding natural_or
-returns-in-NotNumber c = natural_none _ (not_number _ (sym c.read_number.ensures ∙ c.in-NotNumber.is))
-
-pub returns-in-Beyond : goal.returns-in-Beyond
-unfolding natural_or
-returns-in-Beyond c = natural_large _ (beyond_large _ (sym c.read_number.ensures ∙ c.in-Beyond.is))
+returns-in_default c = natural_unread _ _ _ (sym c.read_number.ensures ∙ c.in_default.is)

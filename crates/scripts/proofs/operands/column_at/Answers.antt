@@ -8,9 +8,6 @@ use Rattle.scripts.proofs.operands.column_at.Goals as goal
 pub loop-i-init : goal.loop-i-init
 loop-i-init c = (omega arith, omega arith, rw sub-zero)
 
-pub column_end-end-requires : goal.column_end-end-requires
-column_end-end-requires c = tt
-
 pub returns-then-text-end : goal.returns-then-text-end
 returns-then-text-end c = let l = c.loop-i in
     let a = c.args in
@@ -25,12 +22,6 @@ loop-i-preserved c = let l = c.loop-i in
     let z : a.k - l.i ≡ suc (a.k - (l.i + 1)) = omega arith in
     let n = sym (column_next a.text.now l.start e.result e.ensures (a.k - (l.i + 1)) (omega arith)) in
     (omega arith, omega arith, n ∙ rw z at l.invariant.2)
-
-pub column_end-requires : goal.column_end-requires
-column_end-requires c = tt
-
-pub part-requires : goal.part-requires
-part-requires c = tt
 
 pub returns : goal.returns
 returns c = let l = c.loop-i in

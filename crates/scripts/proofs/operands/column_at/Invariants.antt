@@ -7,6 +7,3 @@ use Rattle.scripts.proofs.operands.column_at.Given as goal
 
 abbrev pub invariant-loop-i : goal.invariant-loop-i
 invariant-loop-i l = (l.start ≤ length l.text) × (l.i ≤ l.k) × (column_at (columns_of (drop l.start l.text)) (l.k - l.i) ≡ column_at (columns_of l.text) l.k)
-
-abbrev pub decreases-loop-i : goal.decreases-loop-i
-decreases-loop-i l = l.k - l.i

@@ -8,23 +8,8 @@ use Rattle.lines.specs.Columns.{columns_of}
 use Rattle.scripts.proofs.WordLaws.{place_here, place_more, place_none}
 use Rattle.scripts.proofs.verb.place_in.Goals as goal
 
-pub column_count-count-requires : goal.column_count-count-requires
-column_count-count-requires c = tt
-
-pub name_of-name-requires : goal.name_of-name-requires
-name_of-name-requires c = tt
-
 pub loop-k-init : goal.loop-k-init
 loop-k-init c = (omega arith, omega arith)
-
-pub column_at-requires : goal.column_at-requires
-column_at-requires c = tt
-
-pub name_of-requires : goal.name_of-requires
-name_of-requires c = tt
-
-pub same_name-requires : goal.same_name-requires
-same_name-requires c = tt
 
 pub returns-then-same_name : goal.returns-then-same_name
 returns-then-same_name c =

@@ -15,12 +15,6 @@ pub returns-then-positions-i : goal.returns-then-positions-i
 returns-then-positions-i c = sym (positions_none c.args.line.now c.loop-i.at c.args.cells.now c.args.positions.now c.args.n c.loop-i.i (omega arith))
     ∙ c.loop-i.invariant.1
 
-pub match_cell-after_cell-requires : goal.match_cell-after_cell-requires
-match_cell-after_cell-requires c = tt
-
-pub match_position-at-requires : goal.match_position-at-requires
-match_position-at-requires c = tt
-
 pub loop-i-preserved : goal.loop-i-preserved
 loop-i-preserved c = (
   omega arith,

@@ -6,9 +6,6 @@ use Rattle.spoken.proofs.fit.match_text.Goals as goal
 pub loop-i-init : goal.loop-i-init
 loop-i-init c = (omega arith, refl)
 
-pub match_byte-at-requires : goal.match_byte-at-requires
-match_byte-at-requires c = tt
-
 pub loop-i-preserved : goal.loop-i-preserved
 loop-i-preserved c = (
   omega arith,

@@ -6,12 +6,6 @@ use Rattle.spoken.proofs.spelling.match_template.Goals as goal
 pub loop-i-init : goal.loop-i-init
 loop-i-init c = (omega arith, omega arith, refl)
 
-pub value_at-requires : goal.value_at-requires
-value_at-requires c = tt
-
-pub match_decimal-at-requires : goal.match_decimal-at-requires
-match_decimal-at-requires c = tt
-
 pub loop-i-preserved-then-template-i-eq35 : goal.loop-i-preserved-then-template-i-eq35
 loop-i-preserved-then-template-i-eq35 c = (
   omega arith,
@@ -20,9 +14,6 @@ loop-i-preserved-then-template-i-eq35 c = (
       (sym (number_more c.args.line.now c.loop-i.at c.args.template.now c.args.values c.loop-i.k c.loop-i.i (omega arith)
       c.if-template-i-eq35.true)) ∙ c.loop-i.invariant.2,
 )
-
-pub match_byte-at-requires : goal.match_byte-at-requires
-match_byte-at-requires c = tt
 
 pub loop-i-preserved : goal.loop-i-preserved
 loop-i-preserved c = (

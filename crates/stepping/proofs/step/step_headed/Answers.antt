@@ -6,12 +6,12 @@ use Rattle.stepping.specs.Step.{step_headed}
 use Rattle.accepting.proofs.TimeLaws.{answers_as}
 use Rattle.stepping.proofs.step.step_headed.Goals as goal
 
-pub returns-in-Is : goal.returns-in-Is
+pub returns-in-Ok : goal.returns-in-Ok
 unfolding said_identified step_headed
-returns-in-Is c = answers_as c.step_of.ensures
-    (then_answer _ (told said_identified c.identify_headed.ensures c.in-Is.is) refl)
+returns-in-Ok c = answers_as c.step_of.ensures
+    (then_answer _ (told said_identified c.identify_headed.ensures c.in-Ok.is) refl)
 
-pub returns-in-Refused : goal.returns-in-Refused
+pub returns-in-Err : goal.returns-in-Err
 unfolding said_identified step_headed
-returns-in-Refused c = answers_as c.refuse.ensures
-    (then_refused _ _ (told said_identified c.identify_headed.ensures c.in-Refused.is))
+returns-in-Err c = answers_as c.refuse.ensures
+    (then_refused _ _ (told said_identified c.identify_headed.ensures c.in-Err.is))

@@ -10,23 +10,22 @@ use Rattle.database.proofs.FindLaws.{holder_none, holder_some}
 use Rattle.parameters.proofs.LocatedLaws.{at_found, at_missing}
 use Rattle.accepting.proofs.TimeLaws.{answers_as}
 use Rattle.stepping.proofs.AnswerLaws.{no_limits_lem, no_place, with_place}
-use borrow.Author.Tests.{not-true, not-false}
 use Rattle.stepping.proofs.step.step_of.Goals as goal
 
 pub returns-then-place-eq0 : goal.returns-then-place-eq0
 unfolding refused_by refusal_number refusal_place
 returns-then-place-eq0 c = answers_as c.refuse.ensures (no_limits_lem _ _ _ _ _ _ (holder_none _ _ _ _ _ _ c.limits_key.ensures.0 c.limits_key.ensures.1 _ c.holder_of-place.ensures.0 c.if-place-eq0.true))
 
-pub returns-then-not-at : goal.returns-then-not-at
+pub returns-in_default : goal.returns-in_default
 unfolding refused_by refusal_number refusal_place
-returns-then-not-at c =
+returns-in_default c =
     let found-limits : ((answers (database (map (λ x. x.now) c.args.tables) c.args.words.now c.args.links.now c.args.columns.now)).holder (limits c.args.name) ≡ some (row_at (map (λ x. x.now) c.args.tables) c.args.columns.now (c.holder_of-place.result - 1))) = holder_some _ _ _ _ _ _ c.limits_key.ensures.0 c.limits_key.ensures.1 _ c.holder_of-place.ensures.0 c.if-place-eq0.false in
-    answers_as c.refuse-then-not-at.ensures
-    (no_place _ _ _ _ _ _ found-limits (sym (at_missing _ _ _ (not-true _ c.if-not-at.true)) ∙ c.locate-at.ensures _))
+    answers_as c.refuse-in_default.ensures
+    (no_place _ _ _ _ _ _ found-limits (sym (at_missing _ _ _ c.in_default.is) ∙ c.locate.ensures _))
 
 pub returns : goal.returns
 returns c =
     let found-limits : ((answers (database (map (λ x. x.now) c.args.tables) c.args.words.now c.args.links.now c.args.columns.now)).holder (limits c.args.name) ≡ some (row_at (map (λ x. x.now) c.args.tables) c.args.columns.now (c.holder_of-place.result - 1))) = holder_some _ _ _ _ _ _ c.limits_key.ensures.0 c.limits_key.ensures.1 _ c.holder_of-place.ensures.0 c.if-place-eq0.false in
     answers_as c.step_at.ensures
     (with_place _ _ _ _ _ _ found-limits c.ocf_at.ensures
-    (sym (at_found _ _ _ (not-false _ c.if-not-at.false)) ∙ c.locate-at.ensures _))
+    (sym (at_found _ _ _ c.in-Some.is) ∙ c.locate.ensures _))

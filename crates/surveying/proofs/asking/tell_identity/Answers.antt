@@ -4,10 +4,10 @@ use Rattle.identification.specs.Identification.{said_identified}
 use Rattle.surveying.specs.Told.{tell_identity}
 use Rattle.surveying.proofs.asking.tell_identity.Goals as goal
 
-pub returns-in-Is : goal.returns-in-Is
+pub returns-in-Ok : goal.returns-in-Ok
 unfolding tell_identity said_identified
-returns-in-Is c = rw c.in-Is.is
+returns-in-Ok c = rw c.in-Ok.is
 
-pub returns-in-Refused : goal.returns-in-Refused
+pub returns-in-Err : goal.returns-in-Err
 unfolding tell_identity said_identified refused_by
-returns-in-Refused c = rw c.in-Refused.is
+returns-in-Err c = rw c.in-Err.is
