@@ -19,7 +19,7 @@ def sources():
 def functions():
     """Each function as its file, its name, its parameters, and its text from the word fn to the end of its body."""
     for file, text in sources():
-        for found in re.finditer(r"^[ ]*(?:pub )?(?:unsafe )?(?:extern \"C\" )?fn (\w+)[^(\n]*\(", text, re.M):
+        for found in re.finditer(r"^[ ]*(?:pub(?:\(crate\))? )?(?:unsafe )?(?:extern \"C\" )?fn (\w+)[^(\n]*\(", text, re.M):
             i, depth = found.end(), 1
             while depth:
                 depth += {"(": 1, ")": -1}.get(text[i], 0)
@@ -32,7 +32,7 @@ def functions():
 
 def types(word):
     for file, text in sources():
-        for found in re.finditer(rf"^(?:pub )?{word} (\w+)[^\n]*\{{\n(.*?)^\}}", text, re.M | re.S):
+        for found in re.finditer(rf"^(?:pub(?:\(crate\))? )?{word} (\w+)[^\n]*\{{\n(.*?)^\}}", text, re.M | re.S):
             cases = [it.strip().rstrip(",") for it in found.group(2).split("\n")]
             yield file, found.group(1), [it for it in cases if it and not it.startswith(("//", "#", "ghost"))]
 

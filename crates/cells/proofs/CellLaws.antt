@@ -73,10 +73,13 @@ module _ (texts : List (List ℕ)) (n : ℕ) where
       let none : (have_cells texts && is_table n) ≡ false = rw e (and_false (have_cells texts)) in
       sym (off (record { start = rows_before texts (n - 1); end = rows_before texts n }) no_cells none)
 
-  pub refused_cells : (error : SizeError) → sizes_of texts ≡ size_refusal error → no_cells ≡ cells_of texts n
+  pub refused_cells : {number place : ℕ} → sizes_of texts ≡ refused_by number place → no_cells ≡ cells_of texts n
   unfolding cells_of have_cells
-  refused_cells (TooLong table) e = rw e
-  refused_cells (TooManyRows table) e = rw e
+  refused_cells e = rw e
+
+  pub size_cells : (error : SizeError) → sizes_of texts ≡ size_refusal error → no_cells ≡ cells_of texts n
+  size_cells (TooLong table) e = refused_cells e
+  size_cells (TooManyRows table) e = refused_cells e
 
   pub fitting_cells : (cells : TableCells) → sizes_of texts ≡ fit → 0 < n → n ≤ table_count
       → cells.start ≡ rows_before texts (n - 1) → cells.end ≡ rows_before texts (suc (n - 1)) → cells ≡ cells_of texts n

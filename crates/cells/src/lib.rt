@@ -65,7 +65,7 @@ pub fn table_cells(tables: [&[u8]; TABLES], table: TableNumber) -> TableCells
     }
 }
 
-// The place of a row's cell, from 0, among the cells of its table.
+// The place, among all cells from 0, of a row of the table whose cells these are.
 pub fn cell_in(cells: TableCells, row: RowNumber) -> Option<usize>
     ensures { result ≡ cell_in cells row.0 }
 {

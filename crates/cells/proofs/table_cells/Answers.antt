@@ -2,7 +2,7 @@
 use mathlib.Core.Path.{sym, ap, ◌∙◌}
 use native.Mathlib.Omega.{arith}
 use Rattle.tables.specs.Sizes.{said_sizes}
-use Rattle.cells.proofs.CellLaws.{no_table, refused_cells, fitting_cells}
+use Rattle.cells.proofs.CellLaws.{no_table, size_cells, fitting_cells}
 use Rattle.cells.proofs.table_cells.Goals as goal
 
 pub returns-then-n-eq0 : goal.returns-then-n-eq0
@@ -19,4 +19,4 @@ returns-in-Ok c = let e = sym c.check_sizes.ensures ∙ ap said_sizes c.in-Ok.is
     fitting_cells _ _ _ e (omega arith) (omega arith) c.fitting.ensures.start_value c.fitting.ensures.end_value
 
 pub returns-in-Err : goal.returns-in-Err
-returns-in-Err c = c.none-in-Err.ensures ∙ refused_cells _ _ _ (sym c.check_sizes.ensures ∙ ap said_sizes c.in-Err.is)
+returns-in-Err c = c.none-in-Err.ensures ∙ size_cells _ _ _ (sym c.check_sizes.ensures ∙ ap said_sizes c.in-Err.is)
