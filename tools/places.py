@@ -125,6 +125,16 @@ def plain_answers():
                 yield f"{os.path.relpath(file, TOP)} {found.group(1)}"
 
 
+def repeated_lets():
+    """A `let` with its type that more than one answer of a function writes: a lemma would say it once."""
+    for file in sorted(glob.glob(f"{TOP}/crates/*/proofs/**/Answers.antt", recursive=True)):
+        with open(file) as it:
+            lines = collections.Counter(line.strip() for line in it if re.match(r"\s+let [\w\-]+ : ", line))
+        for line, times in lines.items():
+            if times > 1:
+                yield from [f"{os.path.relpath(file, TOP)} {line.split(' : ')[0]}"] * times
+
+
 POINTS = {
     "1": [of_option_or_result, flags, numbers_for_none],
     "2": [twins],
@@ -133,7 +143,7 @@ POINTS = {
     "5": [together],
     "6": [buffers],
     "7": [switches],
-    "8": [plain_answers],
+    "8": [plain_answers, repeated_lets],
 }
 
 for point, counts in POINTS.items():
