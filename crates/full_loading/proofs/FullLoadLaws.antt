@@ -1,5 +1,5 @@
 -- Loading into arrays that have room.
-use mathlib.Core.Path.{◌≡◌, sym, subst, ◌∙◌}
+use mathlib.Core.Path.{◌≡◌, refl, sym, subst, ◌∙◌}
 use mathlib.Core.Bool.{true, false}
 use mathlib.Core.List.{List}
 use Prim.Native.Nat.{ℕ, ◌≤◌}
@@ -9,8 +9,12 @@ use Rattle.laws.proofs.Cases.{false≢true}
 use Rattle.std.specs.Prelude.{Result, Ok, Err}
 use Rattle.outcomes.specs.Refusals.{refusal_number, refusal_place}
 use Rattle.outcomes.specs.declared.Refusal.{Refusal}
+use Rattle.outcomes.specs.declared.Refusal.TheVariants as refusal
+use Rattle.outcomes.specs.declared.Refusal.TheVariants.{TableTooLong}
+use Rattle.units.specs.declared.TableNumber.{TableNumber}
 use Rattle.tables.specs.Sizes.{refused_by, size_refusal}
 use Rattle.tables.specs.declared.SizeError.{SizeError}
+use Rattle.tables.specs.declared.SizeError.TheVariants.{TooLong, TooManyRows}
 use Rattle.symbols.specs.Arrays.{all_words, all_links}
 use Rattle.database.specs.Arrays.{all_columns}
 use Rattle.loading.specs.Loaded.{Lent, all_lent, Loads}
@@ -27,6 +31,15 @@ module _ (texts : List (List ℕ)) (before after : Lent) {r : Result Unit KeepEr
       → r ≡ Err (Sizes error) → FullLoads texts before after (Err refusal)
   unfolding Loads FullLoads
   full_refused error refusal f e = let k = subst (Loads texts before after) e l in (k.0 ∙ f, k.1)
+
+  -- each size by itself, for a body that tells them apart
+  pub full_long : (table : TableNumber) → r ≡ Err (Sizes (TooLong table)) → FullLoads texts before after (Err (TableTooLong table))
+  unfolding refusal_number refusal_place
+  full_long table e = full_refused (TooLong table) (TableTooLong table) refl e
+
+  pub full_many : (table : TableNumber) → r ≡ Err (Sizes (TooManyRows table)) → FullLoads texts before after (Err (refusal.TooManyRows table))
+  unfolding refusal_number refusal_place
+  full_many table e = full_refused (TooManyRows table) (refusal.TooManyRows table) refl e
 
   pub never_short : all_words ≤ length before.words → all_links ≤ length before.links → all_columns ≤ length before.columns → r ≡ Err NoRoom → ⊥
   unfolding Loads

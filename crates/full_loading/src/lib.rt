@@ -12,6 +12,7 @@ use outcomes::Refusal;
 use tables::TABLES;
 
 // The arrays are lent at their full size, so that a caller which makes them shows nothing of their lengths.
+#[tactic(auto, using(crate::proofs::FullLoadLaws::full_long, crate::proofs::FullLoadLaws::full_many))]
 pub fn load_full(
     tables: [&[u8]; TABLES],
     words: &mut [u64; WORDS],

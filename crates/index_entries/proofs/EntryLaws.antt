@@ -3,60 +3,70 @@ use Prim.Native.Nat.{ℕ, ◌+◌}
 use native.Mathlib.Omega.{arith}
 use mathlib.Core.Path.{◌≡◌, refl, ap, sym, ◌∙◌}
 use mathlib.Core.Bool.{Bool, true, false, cond, ◌&&◌}
+use mathlib.Core.Option.{some}
 use lib.Dec.{leb, ltb}
 use Rattle.laws.specs.Prefix.{count_with, flag}
 use Rattle.laws.proofs.Count.{count_more}
 use Rattle.verdicts.specs.Answer.{most_rows}
 use Rattle.key_symbols.specs.declared.FiveNumbers.{FiveNumbers}
 use Rattle.std.specs.Prelude as std
-use Rattle.std.specs.Prelude.{Some, None}
+use Rattle.std.specs.Prelude.{Result, Some, None, Ok, Err}
 use Rattle.packet_rows.specs.Packets.{said_packet}
 use Rattle.packet_index.specs.Index.{Packets, zeros, is_packet, numbers_at}
 use Rattle.index_entries.specs.Loaded.{entry_of}
 
 module _ (packets : Packets) (row : ℕ) where
-  by_row : (a b : Bool) → ltb 0 row ≡ a → leb row most_rows ≡ b → (p : std.Option FiveNumbers) → said_packet p ≡ packets row
-      → cond (a && b) p None ≡ entry_of packets row
-  unfolding entry_of is_packet numbers_at said_packet
-  by_row true true e f (Some n) s = rw (e, f, ← s)
-  by_row true true e f None s = rw (e, f, ← s)
-  by_row true false e f p s = rw (e, f)
-  by_row false b e f p s = rw e
-
-  pub row_left : (p : std.Option FiveNumbers) → said_packet p ≡ packets row → {t : Bool} → t ≡ (ltb 0 row && leb row most_rows) → t ≡ false
-      → None ≡ entry_of packets row
-  row_left p said h e = ap (λ (t : Bool). cond t p None) (sym e ∙ h) ∙ by_row _ _ refl refl p said
+  -- by the two tests: is it a row of the table, and has it numbers?
+  by_tests : (a b : Bool) → ltb 0 row ≡ a → leb row most_rows ≡ b → {n : FiveNumbers} → packets row ≡ some n
+      → cond (a && b) (Ok n) (Err n) ≡ entry_of packets row
+  unfolding entry_of is_packet numbers_at
+  by_tests true true e f h = rw (e, f, h)
+  by_tests true false e f h = rw (e, f, h)
+  by_tests false b e f h = rw (e, h)
 
   module _ {p : std.Option FiveNumbers} (said : said_packet p ≡ packets row) where
-    pub row_taken : {t : Bool} → t ≡ (ltb 0 row && leb row most_rows) → t ≡ true → p ≡ entry_of packets row
-    row_taken h e = ap (λ (t : Bool). cond t p None) (sym e ∙ h) ∙ by_row _ _ refl refl p said
+    numbered : {n : FiveNumbers} → p ≡ Some n → packets row ≡ some n
+    unfolding said_packet
+    numbered e = sym said ∙ ap said_packet e
 
-    pub its_numbers : {n : FiveNumbers} → p ≡ Some n → n ≡ numbers_at packets row
-    unfolding said_packet numbers_at
-    its_numbers e = let f = sym said ∙ ap said_packet e in rw f
+    by_row : {n : FiveNumbers} → p ≡ Some n → {t : Bool} → t ≡ (ltb 0 row && leb row most_rows) → cond t (Ok n) (Err n) ≡ entry_of packets row
+    by_row {n} e h = ap (λ (t : Bool). cond t (Ok n) (Err n)) h ∙ by_tests _ _ refl refl (numbered e)
 
-    pub no_numbers : p ≡ None → zeros ≡ numbers_at packets row
-    unfolding said_packet numbers_at
-    no_numbers e = let f = sym said ∙ ap said_packet e in rw f
+    pub row_taken : {n : FiveNumbers} → p ≡ Some n → {t : Bool} → t ≡ (ltb 0 row && leb row most_rows) → t ≡ true
+        → Ok n ≡ entry_of packets row
+    row_taken {n} e h i = ap (λ (t : Bool). cond t (Ok n) (Err n)) (sym i) ∙ by_row e h
 
-  module _ {o : std.Option FiveNumbers} (entry : o ≡ entry_of packets row) where
-    pub is_entry : {n : FiveNumbers} → o ≡ Some n → (is_packet packets row ≡ true) × (n ≡ numbers_at packets row)
-    unfolding entry_of
-    is_entry {n} e = go (is_packet packets row) refl (sym entry ∙ e)
+    pub row_left : {n : FiveNumbers} → p ≡ Some n → {t : Bool} → t ≡ (ltb 0 row && leb row most_rows) → t ≡ false
+        → Err n ≡ entry_of packets row
+    row_left {n} e h i = ap (λ (t : Bool). cond t (Ok n) (Err n)) (sym i) ∙ by_row e h
+
+    pub no_row : p ≡ None → Err zeros ≡ entry_of packets row
+    unfolding said_packet entry_of is_packet numbers_at
+    no_row e = let f = sym said ∙ ap said_packet e in rw f (go (ltb 0 row) (leb row most_rows))
       where
-        go : (t : Bool) → is_packet packets row ≡ t → cond t (Some (numbers_at packets row)) None ≡ Some n
-            → (is_packet packets row ≡ true) × (n ≡ numbers_at packets row)
-        go true p q = (p, cc)
-        go false p q = let z : ◌≡◌ {A = ℕ} 0 1 = cc in absurd (omega arith)
+        go : (a b : Bool) → ◌≡◌ {A = Result FiveNumbers FiveNumbers} (Err zeros) (cond (a && (b && false)) (Ok zeros) (Err zeros))
+        go true true = refl
+        go true false = refl
+        go false b = refl
 
-    pub no_entry_lem : o ≡ None → is_packet packets row ≡ false
+  module _ {o : Result FiveNumbers FiveNumbers} (entry : o ≡ entry_of packets row) where
+    by_packet : (t : Bool) → is_packet packets row ≡ t → cond t (Ok (numbers_at packets row)) (Err (numbers_at packets row)) ≡ o
     unfolding entry_of
-    no_entry_lem e = go (is_packet packets row) refl (sym entry ∙ e)
+    by_packet t e = rw (← e) (sym entry)
+
+    pub is_entry : {n : FiveNumbers} → o ≡ Ok n → (is_packet packets row ≡ true) × (n ≡ numbers_at packets row)
+    is_entry {n} e = go (is_packet packets row) refl
       where
-        go : (t : Bool) → is_packet packets row ≡ t → ◌≡◌ {A = std.Option FiveNumbers} (cond t (Some (numbers_at packets row)) None) None
-            → is_packet packets row ≡ false
-        go true p q = let z : ◌≡◌ {A = ℕ} 0 1 = cc in absurd (omega arith)
-        go false p q = p
+        go : (t : Bool) → is_packet packets row ≡ t → (is_packet packets row ≡ true) × (n ≡ numbers_at packets row)
+        go true p = let q = by_packet true p ∙ e in (p, cc)
+        go false p = let q = by_packet false p ∙ e in let z : ◌≡◌ {A = ℕ} 0 1 = cc in absurd (omega arith)
+
+    pub no_entry_lem : {n : FiveNumbers} → o ≡ Err n → (is_packet packets row ≡ false) × (n ≡ numbers_at packets row)
+    no_entry_lem {n} e = go (is_packet packets row) refl
+      where
+        go : (t : Bool) → is_packet packets row ≡ t → (is_packet packets row ≡ false) × (n ≡ numbers_at packets row)
+        go true p = let q = by_packet true p ∙ e in let z : ◌≡◌ {A = ℕ} 0 1 = cc in absurd (omega arith)
+        go false p = let q = by_packet false p ∙ e in (p, cc)
 
 -- row 0 is no packet
 pub count_start : (packets : Packets) → 0 ≡ count_with (is_packet packets) 1

@@ -28,7 +28,34 @@ fn is_row(row: usize) -> bool
     false
 }
 
-// The five numbers of pid row `row`; zeros where it has none.
+// The five numbers of pid row `row`, zeros where it has none: Ok of a row that is one of the packets, Err of another.
+pub fn entry_at(
+    tables: [&[u8]; TABLES],
+    words: &[u64],
+    links: &[u16],
+    columns: &[u16],
+    row: usize,
+) -> Result<FiveNumbers, FiveNumbers>
+    ensures { result ≡ entry_of (packets_in (map (λ x. x.now) tables.entry) words.now links.now columns.now) row }
+{
+    match packet_at(tables, words, links, columns, row) {
+        Some(numbers) => {
+            if is_row(row) {
+                return Ok(numbers);
+            }
+            Err(numbers)
+        }
+        None => Err(FiveNumbers {
+            ptype: 0,
+            stype: 0,
+            apid: 0,
+            pi1: 0,
+            pi2: 0,
+        }),
+    }
+}
+
+// The same, whether the row is one of the packets or not.
 pub fn numbers_at(
     tables: [&[u8]; TABLES],
     words: &[u64],
@@ -38,34 +65,10 @@ pub fn numbers_at(
 ) -> FiveNumbers
     ensures { result ≡ numbers_at (packets_in (map (λ x. x.now) tables.entry) words.now links.now columns.now) row }
 {
-    let found = packet_at(tables, words, links, columns, row);
-    match found {
-        Some(numbers) => numbers,
-        None => FiveNumbers {
-            ptype: 0,
-            stype: 0,
-            apid: 0,
-            pi1: 0,
-            pi2: 0,
-        },
+    match entry_at(tables, words, links, columns, row) {
+        Ok(numbers) => numbers,
+        Err(numbers) => numbers,
     }
-}
-
-// The same for a row that is one of the packets.
-pub fn entry_at(
-    tables: [&[u8]; TABLES],
-    words: &[u64],
-    links: &[u16],
-    columns: &[u16],
-    row: usize,
-) -> Option<FiveNumbers>
-    ensures { result ≡ entry_of (packets_in (map (λ x. x.now) tables.entry) words.now links.now columns.now) row }
-{
-    let found = packet_at(tables, words, links, columns, row);
-    if is_row(row) {
-        return found;
-    }
-    None
 }
 
 // Whether pid row `row` is one of the packets.
@@ -79,8 +82,8 @@ fn is_packet(
     ensures { result ≡ is_packet (packets_in (map (λ x. x.now) tables.entry) words.now links.now columns.now) row }
 {
     match entry_at(tables, words, links, columns, row) {
-        Some(_) => true,
-        None => false,
+        Ok(_) => true,
+        Err(_) => false,
     }
 }
 

@@ -47,7 +47,7 @@ fn rises(
         pi2: 0,
     };
     for i in 0..index.len() {
-        let Some(numbers) = entry_at(tables, words, links, columns, row_of(index[i])) else {
+        let Ok(numbers) = entry_at(tables, words, links, columns, row_of(index[i])) else {
             return false;
         };
         if !follows(i, last, numbers) {

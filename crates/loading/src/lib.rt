@@ -8,7 +8,7 @@ use arrays::PLACES;
 use indexing::index_rows;
 use judged::judge_kept;
 use kept::{BYTES, KeepError, keep};
-use tables::TABLES;
+use tables::{SizeError, TABLES};
 
 // The rows that are kept are judged, and the good ones indexed.
 fn index_kept(columns: &mut [u16], bytes: &[u8], n: usize)
@@ -20,7 +20,8 @@ fn index_kept(columns: &mut [u16], bytes: &[u8], n: usize)
 }
 
 // Reads and judges the tables into the arrays of the database. A refusal leaves these alone;
-// it is the one of keeping the rows, since nothing else can fail.
+// it is the one of keeping the rows, since nothing else can fail. No `?`: each size is told by itself,
+// so that a wrong one is refused for its value.
 pub fn load(
     tables: [&[u8]; TABLES],
     words: &mut [u64],
@@ -31,7 +32,17 @@ pub fn load(
         (lent words.new links.new columns.new) result }
 {
     let mut bytes = [0u8; BYTES];
-    let kept = keep(tables, words, links, columns, &mut bytes)?;
-    index_kept(columns, &bytes, kept.rows);
-    Ok(())
+    match keep(tables, words, links, columns, &mut bytes) {
+        Ok(kept) => {
+            index_kept(columns, &bytes, kept.rows);
+            Ok(())
+        }
+        Err(KeepError::Sizes(SizeError::TooLong(table))) => Err(KeepError::Sizes(SizeError::TooLong(
+            table,
+        ))),
+        Err(KeepError::Sizes(SizeError::TooManyRows(table))) => Err(KeepError::Sizes(
+            SizeError::TooManyRows(table),
+        )),
+        Err(KeepError::NoRoom) => Err(KeepError::NoRoom),
+    }
 }

@@ -15,6 +15,7 @@ use outcomes::Refusal;
 use tables::{TABLES, check_sizes};
 
 // Of numbers that are no state.
+#[tactic(auto, using(crate::proofs::OfferedLaws::long_no_state, crate::proofs::OfferedLaws::many_no_state))]
 fn refuse_state(tables: [&[u8]; TABLES]) -> Refusal
     ensures { refused_by result ≡ no_state (map (λ x. x.now) tables.entry) }
 {
