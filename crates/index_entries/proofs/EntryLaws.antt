@@ -3,9 +3,9 @@ use Prim.Native.Nat.{ℕ, ◌+◌}
 use native.Mathlib.Omega.{arith}
 use mathlib.Core.Path.{◌≡◌, refl, ap, sym, ◌∙◌}
 use mathlib.Core.Bool.{Bool, true, false, cond, ◌&&◌}
-use mathlib.Core.Option.{some}
 use lib.Dec.{leb, ltb}
 use Rattle.laws.specs.Prefix.{count_with, flag}
+use Rattle.laws.proofs.Cases.{and_false}
 use Rattle.laws.proofs.Count.{count_more}
 use Rattle.verdicts.specs.Answer.{most_rows}
 use Rattle.key_symbols.specs.declared.FiveNumbers.{FiveNumbers}
@@ -16,38 +16,44 @@ use Rattle.packet_index.specs.Index.{Packets, zeros, is_packet, numbers_at}
 use Rattle.index_entries.specs.Loaded.{entry_of}
 
 module _ (packets : Packets) (row : ℕ) where
-  -- by the two tests: is it a row of the table, and has it numbers?
-  by_tests : (a b : Bool) → ltb 0 row ≡ a → leb row most_rows ≡ b → {n : FiveNumbers} → packets row ≡ some n
-      → cond (a && b) (Ok n) (Err n) ≡ entry_of packets row
-  unfolding entry_of is_packet numbers_at
-  by_tests true true e f h = rw (e, f, h)
-  by_tests true false e f h = rw (e, f, h)
-  by_tests false b e f h = rw (e, h)
+  told : {n : FiveNumbers} → n ≡ numbers_at packets row → {t : Bool} → is_packet packets row ≡ t → cond t (Ok n) (Err n) ≡ entry_of packets row
+  unfolding entry_of
+  told e f = rw (e, f)
 
   module _ {p : std.Option FiveNumbers} (said : said_packet p ≡ packets row) where
-    numbered : {n : FiveNumbers} → p ≡ Some n → packets row ≡ some n
-    unfolding said_packet
-    numbered e = sym said ∙ ap said_packet e
+    pub its_numbers : {n : FiveNumbers} → p ≡ Some n → n ≡ numbers_at packets row
+    unfolding said_packet numbers_at
+    its_numbers e = let f = sym said ∙ ap said_packet e in rw f
 
-    by_row : {n : FiveNumbers} → p ≡ Some n → {t : Bool} → t ≡ (ltb 0 row && leb row most_rows) → cond t (Ok n) (Err n) ≡ entry_of packets row
-    by_row {n} e h = ap (λ (t : Bool). cond t (Ok n) (Err n)) h ∙ by_tests _ _ refl refl (numbered e)
+    pub no_numbers : p ≡ None → zeros ≡ numbers_at packets row
+    unfolding said_packet numbers_at
+    no_numbers e = let f = sym said ∙ ap said_packet e in rw f
 
-    pub row_taken : {n : FiveNumbers} → p ≡ Some n → {t : Bool} → t ≡ (ltb 0 row && leb row most_rows) → t ≡ true
-        → Ok n ≡ entry_of packets row
-    row_taken {n} e h i = ap (λ (t : Bool). cond t (Ok n) (Err n)) (sym i) ∙ by_row e h
-
-    pub row_left : {n : FiveNumbers} → p ≡ Some n → {t : Bool} → t ≡ (ltb 0 row && leb row most_rows) → t ≡ false
-        → Err n ≡ entry_of packets row
-    row_left {n} e h i = ap (λ (t : Bool). cond t (Ok n) (Err n)) (sym i) ∙ by_row e h
-
-    pub no_row : p ≡ None → Err zeros ≡ entry_of packets row
-    unfolding said_packet entry_of is_packet numbers_at
-    no_row e = let f = sym said ∙ ap said_packet e in rw f (go (ltb 0 row) (leb row most_rows))
+    -- a row with numbers is a packet when it is a row of the table
+    by_row : {n : FiveNumbers} → p ≡ Some n → {t : Bool} → t ≡ (ltb 0 row && leb row most_rows) → is_packet packets row ≡ t
+    unfolding said_packet is_packet
+    by_row e h = let f = sym said ∙ ap said_packet e in rw (f, h) (go (ltb 0 row) (leb row most_rows))
       where
-        go : (a b : Bool) → ◌≡◌ {A = Result FiveNumbers FiveNumbers} (Err zeros) (cond (a && (b && false)) (Ok zeros) (Err zeros))
+        go : (a b : Bool) → (a && (b && true)) ≡ (a && b)
         go true true = refl
         go true false = refl
         go false b = refl
+
+    pub row_taken : {n : FiveNumbers} → p ≡ Some n → {t : Bool} → t ≡ (ltb 0 row && leb row most_rows) → t ≡ true
+        → Ok n ≡ entry_of packets row
+    row_taken e h i = told (its_numbers e) (by_row e h ∙ i)
+
+    pub row_left : {n : FiveNumbers} → p ≡ Some n → {t : Bool} → t ≡ (ltb 0 row && leb row most_rows) → t ≡ false
+        → Err n ≡ entry_of packets row
+    row_left e h i = told (its_numbers e) (by_row e h ∙ i)
+
+    no_packet : p ≡ None → is_packet packets row ≡ false
+    unfolding said_packet is_packet
+    no_packet e = let f = sym said ∙ ap said_packet e in
+        rw f (ap (λ (t : Bool). ltb 0 row && t) (and_false (leb row most_rows)) ∙ and_false (ltb 0 row))
+
+    pub no_row : p ≡ None → Err zeros ≡ entry_of packets row
+    no_row e = told (no_numbers e) (no_packet e)
 
   module _ {o : Result FiveNumbers FiveNumbers} (entry : o ≡ entry_of packets row) where
     by_packet : (t : Bool) → is_packet packets row ≡ t → cond t (Ok (numbers_at packets row)) (Err (numbers_at packets row)) ≡ o
